@@ -12,7 +12,7 @@ begun=$SECONDS
 step() {
   local from=$SECONDS log
   log=$(mktemp)
-  "${@:2}" >"$log" 2>&1 </dev/null || { cat "$log" >&2; echo "FAILED: $1" >&2; exit 1; }
+  ("${@:2}") >"$log" 2>&1 </dev/null || { cat "$log" >&2; echo "FAILED: $1" >&2; exit 1; }
   echo "$((SECONDS - from)) s: $1"
   rm -f "$log"
 }
