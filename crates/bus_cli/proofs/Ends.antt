@@ -33,6 +33,7 @@ use Rattle.bus_cli.specs.codings.Reading.{Reads, Shows, status_with, text_with}
 use Rattle.bus_cli.specs.Answer.{PrintsRun, AnswersForm, AnswersMake, AnswersOfItself, Answers}
 use Rattle.bus_cli.specs.OneAnswer.{NoInputHasTwoAnswers}
 use Rattle.bus_cli.specs.Streams.{IsWritten, OfTheAnswer}
+use Rattle.io_edges.specs.Told.{AreBytes}
 use Rattle.bus_cli.proofs.Forms.{one_form}
 
 -- ---- captures
@@ -140,6 +141,28 @@ no_input_status words bytes status text (inl make) is =
 no_input_status words bytes status text (inr itself) is =
     (of_form words (OfItself itself.0) itself.1 bytes status text is).0
 
+-- ---- words with which nothing is read
+
+-- they are a form
+pub unread_form : (words : List (String Global)) → AsksNoInput words → IsForm words
+unread_form words (inl make) = (Make make.0 make.1, make.2)
+unread_form words (inr itself) = (OfItself itself.0, itself.1)
+
+-- the answer to some bytes is that to none
+unread_answer : (words : List (String Global)) (bytes : List ℕ) (status : ℕ) (text : List ℕ) →
+    AsksNoInput words → Answers words bytes status text → Answers words [] status text
+unread_answer words bytes status text (inl make) is =
+    inl (Make make.0 make.1, make.2, of_form words (Make make.0 make.1) make.2 bytes status text is)
+unread_answer words bytes status text (inr itself) is =
+    inl (OfItself itself.0, itself.1, of_form words (OfItself itself.0) itself.1 bytes status text is)
+
+-- so it is the one answer to none
+pub unread_alone : NoInputHasTwoAnswers →
+    (words : List (String Global)) (bytes : List ℕ) (s r : ℕ) (text x : List ℕ) → AsksNoInput words →
+    Answers words bytes s text → Answers words [] r x → (s ≡ r) × (text ≡ x)
+unread_alone one words bytes s r text x asks is other =
+    one words [] s r text x (unread_answer words bytes s text asks is) other
+
 pub made_text : (words : List (String Global)) (nodes seed : ℕ) (bytes : List ℕ) (status : ℕ) (text : List ℕ) →
     Asks words (Make nodes seed) → Answers words bytes status text → AnswersMake nodes seed 0 text
 made_text words nodes seed bytes status text asks is =
@@ -174,19 +197,19 @@ written words (Some bytes) old new read text status all answers whole =
 -- this holds of the answer, and there is one
 pub of_answer :
     (Answers : List ℕ → ℕ → List ℕ → Type 0) → ((bytes : List ℕ) → All (λ b. b < 256) bytes → (s : ℕ) × (x : List ℕ) × Answers bytes s x) →
-    (left : Option (List ℕ)) (P : ℕ → List ℕ → Type 0) →
+    (left : Option (List ℕ)) (P : ℕ → List ℕ → Type 0) → AreBytes left →
     IfSome left (λ bytes. (s : ℕ) (x : List ℕ) → Answers bytes s x → P s x) → IfSome left (λ bytes. OfTheAnswer Answers bytes P)
-of_answer Answers some None P h = tt
-of_answer Answers some (Some bytes) P h = record { holds = h; some = some bytes }
+of_answer Answers some None P fit h = tt
+of_answer Answers some (Some bytes) P fit h = record { holds = h; some = some bytes fit }
 
 -- the same where the bytes are few
 pub of_few :
     (Answers : List ℕ → ℕ → List ℕ → Type 0) → ((bytes : List ℕ) → All (λ b. b < 256) bytes → (s : ℕ) × (x : List ℕ) × Answers bytes s x) →
-    (left : Option (List ℕ)) (P : ℕ → List ℕ → Type 0) →
+    (left : Option (List ℕ)) (P : ℕ → List ℕ → Type 0) → AreBytes left →
     IfSome left (λ bytes. length bytes ≤ 1048576 → (s : ℕ) (x : List ℕ) → Answers bytes s x → P s x) →
     IfSome left (λ bytes. length bytes ≤ 1048576 → OfTheAnswer Answers bytes P)
-of_few Answers some None P h = tt
-of_few Answers some (Some bytes) P h = λ few. record { holds = h few; some = some bytes }
+of_few Answers some None P fit h = tt
+of_few Answers some (Some bytes) P fit h = λ few. record { holds = h few; some = some bytes fit }
 
 -- what holds where the text is taken holds where the answer is
 pub taken_surely : NoInputHasTwoAnswers →

@@ -1,5 +1,5 @@
 -- What a top call promises of the stream that it reads and of the one that it writes.
-use Rattle.std.specs.Prelude.{◌≡◌, ◌≢◌, ◌⊎◌, ℕ, ◌≤◌, ◌<◌, ◌↔◌, All, List, length, Option, IfSome}
+use Rattle.std.specs.Prelude.{◌≡◌, ◌≢◌, ◌⊎◌, ℕ, ◌≤◌, ◌↔◌, List, [], length, Option, IfSome}
 use Rattle.std.specs.Io.KnownBytes.{Appends, IsAtEnd}
 use Rattle.io_edges.specs.Faults.{Rose}
 use Rattle.io_edges.specs.Told.{AppendsStart, IfTold, TookOver}
@@ -9,7 +9,7 @@ pub record OfTheAnswer
     (Answers : List ℕ → ℕ → List ℕ → Type 0) (bytes : List ℕ) (P : ℕ → List ℕ → Type 0) : Type 0
   where
     pub holds : (status : ℕ) (text : List ℕ) → Answers bytes status text → P status text
-    pub some : All (λ b. b < 256) bytes → (status : ℕ) × (text : List ℕ) × Answers bytes status text
+    pub some : (status : ℕ) × (text : List ℕ) × Answers bytes status text
 
 -- What is written whole at status 0 and 1 is such an answer to the bytes that a source had left, where
 -- it tells them.
@@ -19,6 +19,15 @@ abbrev pub IsWritten :
 IsWritten Is status left old new =
     (status ≡ 0) ⊎ (status ≡ 1) → IfSome left (λ bytes.
     (text : List ℕ) × Is bytes status text × Appends old new text)
+
+-- A call with this status answers by this status and this text: it writes the text, or its first bytes
+-- before a fault, or there was no memory. A sink that surely takes the text has no fault.
+abbrev pub Writes : {K : Type 0} →
+    (K → Option (List ℕ)) → (K → ℕ) → (K → ℕ → Type 0) → ℕ → K → K → ℕ → List ℕ → Type 0
+Writes written write_faults surely_takes status sink wrote s text =
+    (((status ≡ s) × Appends (written sink) (written wrote) text)
+    ⊎ ((status ≡ 4) × AppendsStart (written sink) (written wrote) text) ⊎ (status ≡ 5))
+    × (surely_takes sink (length text) → write_faults wrote ≡ write_faults sink)
 
 -- A call with this status, which was asked to answer the bytes of a source, or some that it doesn't
 -- read. `left` is what a source has left and `written` what a sink holds, where they tell it; each
@@ -57,3 +66,7 @@ pub record KeepsStreams {S K : Type 0}
     pub sure :
         IfSome (left source) (λ bytes. OfTheAnswer Answers bytes (λ s text.
         surely_takes sink (length text) → write_faults wrote ≡ write_faults sink))
+    -- where nothing is read, so it is whether or not the source tells its bytes
+    pub alone :
+        Unread → OfTheAnswer Answers []
+        (Writes written write_faults surely_takes status sink wrote)

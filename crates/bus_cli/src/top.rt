@@ -1,5 +1,5 @@
 //! The top call.
-ghost use Rattle.std.specs.Prelude.{◌≡◌, ◌≢◌, ℕ, ◌≤◌, ◌⊎◌, ◌↔◌, List, length, Ok, IfSome};
+ghost use Rattle.std.specs.Prelude.{◌≡◌, ◌≢◌, ℕ, ◌≤◌, ◌⊎◌, ◌↔◌, List, [], length, Ok, IfSome};
 ghost use Rattle.std.specs.Io.KnownBytes.{Appends, IsAtEnd};
 ghost use Rattle.io_edges.specs.Faults.{Rose};
 ghost use Rattle.io_edges.specs.Told.{AppendsStart, IfTold, TookOver};
@@ -11,7 +11,7 @@ ghost use Rattle.topology_stack.specs.Tree.{Tree};
 ghost use Rattle.bus_cli.specs.Capture.{Spells};
 ghost use Rattle.bus_cli.specs.Answer.{AnswersRead, AnswersMaps, AnswersRom, AnswersRun, AnswersAdvice};
 ghost use Rattle.bus_cli.specs.Answer.{AnswersMake, AnswersOfItself, Answers};
-ghost use Rattle.bus_cli.specs.Streams.{IsWritten, KeepsStreams};
+ghost use Rattle.bus_cli.specs.Streams.{IsWritten, KeepsStreams, Writes};
 ghost use Rattle.bus_cli.specs.Cabled.{AnswersCabling, AreEmitted};
 
 use crate::answer::read_answer;
@@ -66,6 +66,9 @@ fn answer_words<S: Source, K: Sink>(
     ensures sure { IfSome (S.left source.old) (λ bytes. (status : ℕ) (text : List ℕ) →
         Answers words.now bytes status text → K.surely_takes sink.old (length text) →
         K.faults sink.new ≡ K.faults sink.old) }
+    ensures alone { AsksNoInput words.now → (status : ℕ) (text : List ℕ) →
+        Answers words.now [] status text →
+        Writes K.written K.faults K.surely_takes result sink.old sink.new status text }
 {
     one_answer();
     let Some(form) = Form::of_words(words) else {

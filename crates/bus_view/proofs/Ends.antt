@@ -120,6 +120,28 @@ no_input_status words bytes status text (inl script) is =
 no_input_status words bytes status text (inr itself) is =
     (of_form words (OfItself itself.0) itself.1 bytes status text is).0
 
+-- ---- words with which nothing is read
+
+-- they are a form
+pub unread_form : (words : List (String Global)) → AsksNoInput words → IsForm words
+unread_form words (inl script) = (Script script.0 script.1, script.2)
+unread_form words (inr itself) = (OfItself itself.0, itself.1)
+
+-- the answer to some bytes is that to none
+unread_view : (words : List (String Global)) (bytes : List ℕ) (status : ℕ) (text : List ℕ) →
+    AsksNoInput words → Answers words bytes status text → Answers words [] status text
+unread_view words bytes status text (inl script) is =
+    viewed (Script script.0 script.1) script.2 (of_form words (Script script.0 script.1) script.2 bytes status text is)
+unread_view words bytes status text (inr itself) is =
+    viewed (OfItself itself.0) itself.1 (of_form words (OfItself itself.0) itself.1 bytes status text is)
+
+-- so it is the one answer to none
+pub unread_alone : NoInputHasTwoViews →
+    (words : List (String Global)) (bytes : List ℕ) (s r : ℕ) (text x : List ℕ) → AsksNoInput words →
+    Answers words bytes s text → Answers words [] r x → (s ≡ r) × (text ≡ x)
+unread_alone one words bytes s r text x asks is other =
+    one words [] s r text x (unread_view words bytes s text asks is) other
+
 pub itself_text : (words : List (String Global)) (about : About) (bytes : List ℕ) (status : ℕ)
     (text : List ℕ) → Asks words (OfItself about) → Answers words bytes status text → IsViewOfItself about 0 text
 itself_text words about bytes status text asks is =

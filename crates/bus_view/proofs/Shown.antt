@@ -3,7 +3,7 @@ use Rattle.std.proofs.Common.{◌≡◌, ◌∙◌, ◌⊎◌, ◌↔◌, inl, i
 use Rattle.std.specs.Prelude.{All, IfSome, IfOk, IsErr, IsErrOf}
 use Rattle.std.specs.Io.KnownBytes.{Appends, Consumes, IsAtEnd}
 use Rattle.io_edges.specs.Faults.{Rose}
-use Rattle.io_edges.specs.Told.{AppendsStart, IfTold, TookOver}
+use Rattle.io_edges.specs.Told.{AreBytes, AppendsStart, IfTold, TookOver}
 use Rattle.reset_log.specs.declared.stop.LogStop.{LogStop}
 use Rattle.reset_log.specs.declared.stop.LogStop.TheVariants.{ReadFault, WriteFault, TooLong, Memory}
 use Rattle.reset_log.specs.Answered.{IsExact, IsComplete, IsFront, IsSure}
@@ -108,6 +108,7 @@ pub record IsShown {S K : Type 0}
         IfSome (left source) (λ bytes. length bytes ≤ 9223372036854775807 → IsComplete (IsText bytes) r (written sink) (written wrote))
     pub sure : IfSome (left source) (λ bytes. IsSure (IsText bytes) (surely_takes sink) (write_faults sink) (write_faults wrote))
     pub some : (bytes : List ℕ) → All (λ b. b < 256) bytes → (text : List ℕ) × (bad : Bool) × IsText bytes text bad
+    pub fit : AreBytes (left source)
 
 -- the status and the text of bytes
 abbrev With : (List ℕ → List ℕ → Bool → Type 0) → List ℕ → ℕ → List ℕ → Type 0
@@ -154,11 +155,11 @@ module _ (IsText : List ℕ → List ℕ → Bool → Type 0) (old new : Option 
 
   all_of :
       ((bytes : List ℕ) → All (λ b. b < 256) bytes → (s : ℕ) × (text : List ℕ) × With IsText bytes s text) →
-      (left : Option (List ℕ)) (P : ℕ → List ℕ → Type 0) →
+      (left : Option (List ℕ)) (P : ℕ → List ℕ → Type 0) → AreBytes left →
       IfSome left (λ bytes. length bytes ≤ 9223372036854775807 → (s : ℕ) (text : List ℕ) → With IsText bytes s text → P s text) →
       IfSome left (λ bytes. length bytes ≤ 9223372036854775807 → OfTheAnswer (With IsText) bytes P)
-  all_of some None P h = tt
-  all_of some (Some bytes) P h = λ short. record { holds = h short; some = some bytes }
+  all_of some None P fit h = tt
+  all_of some (Some bytes) P fit h = λ short. record { holds = h short; some = some bytes fit }
 
 pub shows :
     {S K : Type 0} (left : S → Option (List ℕ)) (read_faults : S → ℕ) (written : K → Option (List ℕ))
@@ -183,16 +184,16 @@ shows left read_faults written write_faults surely_takes Ends IsText IsBegun r s
           each (left source) (λ bytes. IsFront (IsText bytes) old new) (λ bytes. (s : ℕ) (text : List ℕ) → With IsText bytes s text → AppendsStart old new text)
           (λ bytes front s text x. front text x.0 x.1) (h.part (is_error r e));
       exact =
-          of_answer (With IsText) some (left source) (λ s text. (log_status r ≡ s) ⊎ (3 ≤ log_status r))
+          of_answer (With IsText) some (left source) (λ s text. (log_status r ≡ s) ⊎ (3 ≤ log_status r)) h.fit
           (each (left source) (λ bytes. IsExact (IsText bytes) r) (λ bytes. (s : ℕ) (text : List ℕ) → With IsText bytes s text → (log_status r ≡ s) ⊎ (3 ≤ log_status r))
           (exact_one IsText old new r) h.exact);
       complete = λ reads writes.
-          all_of IsText old new some (left source) (λ s text. ((log_status r ≡ s) × Appends old new text) ⊎ (log_status r ≡ 5))
+          all_of IsText old new some (left source) (λ s text. ((log_status r ≡ s) × Appends old new text) ⊎ (log_status r ≡ 5)) h.fit
           (each (left source) (λ bytes. length bytes ≤ 9223372036854775807 → IsComplete (IsText bytes) r old new)
           (λ bytes. length bytes ≤ 9223372036854775807 → (s : ℕ) (text : List ℕ) → With IsText bytes s text → ((log_status r ≡ s) × Appends old new text) ⊎ (log_status r ≡ 5))
           (λ bytes whole short. complete_one IsText old new r bytes (whole short)) (h.complete reads writes));
       sure =
-          of_answer (With IsText) some (left source) (λ s text. surely_takes sink (length text) → write_faults wrote ≡ write_faults sink)
+          of_answer (With IsText) some (left source) (λ s text. surely_takes sink (length text) → write_faults wrote ≡ write_faults sink) h.fit
           (each (left source) (λ bytes. IsSure (IsText bytes) (surely_takes sink) (write_faults sink) (write_faults wrote))
           (λ bytes. (s : ℕ) (text : List ℕ) → With IsText bytes s text → surely_takes sink (length text) → write_faults wrote ≡ write_faults sink)
           (λ bytes surely s text x. surely text x.0 x.1) h.sure);

@@ -1,5 +1,5 @@
 //! The top call.
-ghost use Rattle.std.specs.Prelude.{◌≡◌, ◌≢◌, ℕ, ◌≤◌, ◌⊎◌, ◌↔◌, List, length, IfSome};
+ghost use Rattle.std.specs.Prelude.{◌≡◌, ◌≢◌, ℕ, ◌≤◌, ◌⊎◌, ◌↔◌, List, [], length, IfSome};
 ghost use Rattle.std.specs.Io.KnownBytes.{Appends, IsAtEnd};
 ghost use Rattle.io_edges.specs.Faults.{Rose};
 ghost use Rattle.io_edges.specs.Told.{AppendsStart, IfTold, TookOver};
@@ -7,7 +7,7 @@ ghost use Rattle.script_made.specs.Made.{made_script};
 ghost use Rattle.about.specs.declared.asked.About.{About};
 ghost use Rattle.self_id.specs.declared.standard.Standard.{Standard};
 ghost use Rattle.nosy_dump.specs.Dump.{IsBegun};
-ghost use Rattle.bus_cli.specs.Streams.{IsWritten, KeepsStreams};
+ghost use Rattle.bus_cli.specs.Streams.{IsWritten, KeepsStreams, Writes};
 ghost use Rattle.bus_view.specs.declared.form.CaptureView.{CaptureView};
 ghost use Rattle.bus_view.specs.declared.form.ViewForm.{ViewForm};
 ghost use Rattle.bus_view.specs.Form.{Asks, AsksLog, AsksNoInput, IsForm};
@@ -68,6 +68,9 @@ fn view_words<S: Source, K: Sink>(
     ensures sure { IfSome (S.left source.old) (λ bytes. (status : ℕ) (text : List ℕ) →
         Answers words.now bytes status text → K.surely_takes sink.old (length text) →
         K.faults sink.new ≡ K.faults sink.old) }
+    ensures alone { AsksNoInput words.now → (status : ℕ) (text : List ℕ) →
+        Answers words.now [] status text →
+        Writes K.written K.faults K.surely_takes result sink.old sink.new status text }
 {
     one_view();
     let Some(form) = ViewForm::of_words(words) else {

@@ -82,4 +82,6 @@ impl<S: Source> Source for FrontSource<S> {
         }
         Ok(count)
     }
+
+    ghost fit = { λ source. S.fit source.inner };
 }

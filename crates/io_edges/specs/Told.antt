@@ -1,6 +1,10 @@
 -- Bytes that a source has left or a sink holds, where they are told.
-use Rattle.std.specs.Prelude.{◌≡◌, ℕ, ◌+◌, ◌<◌, List, length, take, Option, IfSome, is_some}
+use Rattle.std.specs.Prelude.{◌≡◌, ℕ, ◌+◌, ◌<◌, All, List, length, take, Option, IfSome, is_some}
 use Rattle.std.specs.Io.KnownBytes.{Consumes, Appends}
+
+-- what is told are bytes
+abbrev pub AreBytes : Option (List ℕ) → Type 0
+AreBytes left = IfSome left (All (λ b. b < 256))
 
 -- bytes stay told or untold
 abbrev pub StayTold : Option (List ℕ) → Option (List ℕ) → Type 0

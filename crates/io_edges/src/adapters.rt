@@ -49,6 +49,8 @@ impl<R: Read> Source for ReadSource<R> {
             }
         }
     }
+
+    ghost fit = { λ _. tt };
 }
 
 /// A writer as a sink. Each error of the writer is counted as a fault, and so is each write of some

@@ -3,7 +3,7 @@ ghost use Rattle.std.specs.Prelude.{◌≡◌, ℕ, ◌+◌, ◌-◌, ◌<◌, �
 ghost use Rattle.std.specs.Io.{ReadsAtMost, WritesAtMost};
 ghost use Rattle.std.specs.Io.KnownBytes.{ReadConsumes, WriteAppends};
 ghost use Rattle.io_edges.specs.Faults.{Rose, CountsFault, next_count};
-ghost use Rattle.io_edges.specs.InMemory.{HasRoom};
+ghost use Rattle.io_edges.specs.InMemory.{HasRoom, as_bytes, as_bytes_fit};
 ghost use Rattle.io_edges.specs.Told.{StayTold};
 
 use crate::stop::OutOfMemory;
@@ -87,17 +87,20 @@ impl MemSource {
 }
 
 impl Source for MemSource {
-    ghost left = { λ source. Some source.left };
+    ghost left = { λ source. Some (as_bytes source.left) };
 
     ghost faults = { λ source. source.faults };
 
     fn read(&mut self, buf: &mut [u8]) -> Result<usize, Failed>
         ensures bound { ReadsAtMost result buf.new }
-        ensures bytes { ReadConsumes (Some self.old.left) (Some self.new.left) result buf.new }
+        ensures bytes { ReadConsumes
+            (Some (as_bytes self.old.left)) (Some (as_bytes self.new.left)) result buf.new }
         ensures later { self.old.faults ≤ self.new.faults }
         ensures cause { OnErr result (Rose self.old.faults self.new.faults) }
 
-        // Which calls fail, how many bytes another gives, and that each call is counted.
+        // Which bytes it gives and which calls fail, how many bytes another gives, and that each call
+        // is counted.
+        ensures given { ReadConsumes (Some self.old.left) (Some self.new.left) result buf.new }
         ensures fails { IsErr result ↔ Contains self.old.fails self.old.calls }
         ensures count { IfOk result (λ count.
             count ≡ min (min (length buf.old) self.old.piece) (length self.old.left)) }
@@ -116,6 +119,8 @@ impl Source for MemSource {
         }
         Ok(give(&self.bytes, &mut self.at, buf, self.piece))
     }
+
+    ghost fit = { λ source. as_bytes_fit source.left };
 }
 
 /// Bytes in memory that are given without a fault.
@@ -145,20 +150,24 @@ impl SureSource {
 }
 
 impl Source for SureSource {
-    ghost left = { λ source. Some source };
+    ghost left = { λ source. Some (as_bytes source) };
 
     ghost faults = { λ _. 0 };
 
     fn read(&mut self, buf: &mut [u8]) -> Result<usize, Failed>
         ensures bound { ReadsAtMost result buf.new }
-        ensures bytes { ReadConsumes (Some self.old) (Some self.new) result buf.new }
+        ensures bytes { ReadConsumes
+            (Some (as_bytes self.old)) (Some (as_bytes self.new)) result buf.new }
 
-        // It never fails, and gives as many bytes as it can.
+        // It never fails, and gives the next bytes, as many as it can.
+        ensures given { ReadConsumes (Some self.old) (Some self.new) result buf.new }
         ensures sure { IsOk result }
         ensures count { IfOk result (λ count. count ≡ min (length buf.old) (length self.old)) }
     {
         Ok(give(&self.bytes, &mut self.at, buf, usize::MAX))
     }
+
+    ghost fit = { λ source. as_bytes_fit source };
 }
 
 /// Bytes that are kept in memory, as far as there is room. The calls of some numbers fail.

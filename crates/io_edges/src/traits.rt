@@ -3,7 +3,7 @@ ghost use Rattle.std.specs.Prelude.{◌≡◌, ℕ, ◌-◌, ◌<◌, ◌≤◌,
 ghost use Rattle.std.specs.Io.{ReadsAtMost, WritesAtMost};
 ghost use Rattle.std.specs.Io.KnownBytes.{ReadConsumes, WriteAppends};
 ghost use Rattle.io_edges.specs.Faults.{Rose};
-ghost use Rattle.io_edges.specs.Told.{StayTold};
+ghost use Rattle.io_edges.specs.Told.{AreBytes, StayTold};
 
 use thiserror::Error;
 
@@ -16,7 +16,7 @@ pub struct Failed;
 /// A source of bytes. Contracts see the bytes that it has left, if it tells them, and its count of
 /// faults. Whether it tells its bytes never changes, and the count never falls.
 pub trait Source {
-    // The bytes that reads give from here on, where the source tells them.
+    // The bytes that reads give from here on, where the source tells them: numbers below 256.
     ghost left: { Self → Option (List ℕ) };
 
     // How many faults there were. The count may stay at the last value of a `u64`.
@@ -31,6 +31,8 @@ pub trait Source {
         ensures told { StayTold (left self.old) (left self.new) }
         ensures later { faults self.old ≤ faults self.new }
         ensures cause { OnErr result (Rose (faults self.old) (faults self.new)) };
+
+    ghost fit: { (source : Self) → AreBytes (left source) };
 }
 
 /// A sink of bytes. Contracts see the bytes that were written, if it tells them, and its count of

@@ -1,11 +1,13 @@
-use Rattle.std.proofs.Common.{◌≡◌, ◌∙◌, inl, refl, sym, ap, Err, arith}
+use Rattle.std.proofs.Common.{◌≡◌, ◌∙◌, inl, inr, ℕ, List, length, refl, sym, ap, subst, Err, arith}
+use Rattle.std.specs.Io.KnownBytes.{Appends}
+use Rattle.io_edges.specs.Told.{AppendsStart}
 use Rattle.bus_cli.specs.declared.form.Form.TheVariants.{Capture}
 use Rattle.bus_cli.specs.declared.form.CaptureForm.TheVariants.{Read}
 use Rattle.bus_cli.specs.codings.Reading.{status_with, text_with}
 use Rattle.bus_cli.proofs.Forms.{few_nodes, is_read, is_unread}
 use Rattle.bus_cli.specs.Answer.{Answers}
 use Rattle.bus_cli.proofs.Answering.{part_written, whole_written, exact_status, no_form_exact, no_form_complete}
-use Rattle.bus_cli.proofs.Ends.{written, or_else, taken_surely, no_form_answers, not_two, no_input_status, made_text, itself_text}
+use Rattle.bus_cli.proofs.Ends.{written, or_else, taken_surely, no_form_answers, not_two, no_input_status, unread_form, unread_alone, made_text, itself_text}
 use Rattle.bus_cli.proofs.top.answer_words.Goals as goal
 
 pub returns-in-Err-Memory-clause-memory : goal.returns-in-Err-Memory-clause-memory
@@ -149,3 +151,50 @@ returns-in-Ok-write_whole-clause-itself g c = λ about itself zero.
     let answers : Answers c.args.words.now told.0 status text = inl (c.in-Some.form, asks, told.2) in
     let whole = rw c.text.ensures at c.in-Ok-write_whole.ensures.ok in
     (text, itself_text c.args.words.now about told.0 status text itself answers, whole)
+
+pub returns-in_default-clause-alone : goal.returns-in_default-clause-alone
+returns-in_default-clause-alone g c = λ input.
+    let is = unread_form c.args.words.now input in
+    let none = (c.in_default.ensures is.0).1 is.1 in
+    absurd cc
+
+pub returns-in-Err-ReadFault-clause-alone : goal.returns-in-Err-ReadFault-clause-alone
+returns-in-Err-ReadFault-clause-alone g c = λ input.
+    let asks = (c.in-Some.ensures c.in-Some.form).0 refl in
+    let want = c.in-Err-ReadFault.ensures.unfailing (is_unread c.args.words.now c.in-Some.form asks input) in
+    let fault = c.in-Err-ReadFault.field-0-is in
+    absurd cc
+
+pub returns-in-Err-TooLong-clause-alone : goal.returns-in-Err-TooLong-clause-alone
+returns-in-Err-TooLong-clause-alone g c = λ input.
+    let asks = (c.in-Some.ensures c.in-Some.form).0 refl in
+    let want = c.in-Err-TooLong.ensures.unfailing (is_unread c.args.words.now c.in-Some.form asks input) in
+    let fault = c.in-Err-TooLong.field-0-is in
+    absurd cc
+
+pub returns-in-Err-Memory-clause-alone : goal.returns-in-Err-Memory-clause-alone
+returns-in-Err-Memory-clause-alone g c = λ input s x is. (inr (inr refl), λ takes. refl)
+
+pub returns-in-Ok-write_whole-clause-alone : goal.returns-in-Ok-write_whole-clause-alone
+returns-in-Ok-write_whole-clause-alone g c = λ input s x is.
+    let told = c.in-Ok.ensures.answer in
+    let asks = (c.in-Some.ensures c.in-Some.form).0 refl in
+    let answers : Answers c.args.words.now told.0 _ _ = inl (c.in-Some.form, asks, told.2) in
+    let same = unread_alone c.one_answer.ensures.one c.args.words.now told.0 _ s _ x input answers is in
+    let whole = rw c.text.ensures at c.in-Ok-write_whole.ensures.ok in
+    let sure = rw c.text.ensures at c.in-Ok-write_whole.ensures.sure in (
+      inl (c.status.ensures ∙ same.0, subst (Appends (g.K.Sink.written c.args.sink.now) (g.K.Sink.written c.write_whole.new.sink)) same.1 whole),
+      λ takes. (sure _ (omega arith) (subst (λ (t : List ℕ). g.K.Sink.surely_takes c.args.sink.now (length t)) (sym same.1) takes)).2,
+    )
+
+pub returns-clause-alone : goal.returns-clause-alone
+returns-clause-alone g c = λ input s x is.
+    let told = c.in-Ok.ensures.answer in
+    let asks = (c.in-Some.ensures c.in-Some.form).0 refl in
+    let answers : Answers c.args.words.now told.0 _ _ = inl (c.in-Some.form, asks, told.2) in
+    let same = unread_alone c.one_answer.ensures.one c.args.words.now told.0 _ s _ x input answers is in
+    let start = rw c.text.ensures at c.in-Err.ensures.start in
+    let sure = rw c.text.ensures at c.in-Err.ensures.sure in (
+      inr (inl (refl, subst (AppendsStart (g.K.Sink.written c.args.sink.now) (g.K.Sink.written c.write_whole.new.sink)) same.1 start)),
+      λ takes. (sure _ (omega arith) (subst (λ (t : List ℕ). g.K.Sink.surely_takes c.args.sink.now (length t)) (sym same.1) takes)).2,
+    )

@@ -1,4 +1,5 @@
-use Rattle.std.proofs.Common.{◌≡◌, ◌⊎◌, ◌≤◌, length}
+use Rattle.std.proofs.Common.{◌≡◌, ◌⊎◌, ◌<◌, ◌≤◌, [], length}
+use Rattle.std.proofs.lemmas.List.Elements.{All-nil}
 use Rattle.std.specs.Io.KnownBytes.{Appends}
 use Rattle.bus_cli.specs.declared.form.Form.TheVariants.{Capture, Rom, Run, Advice}
 use Rattle.bus_cli.specs.declared.form.CaptureForm.TheVariants.{Read, Read95, Maps}
@@ -13,6 +14,7 @@ returns-clause-streams g c =
     let status = c.answer_words.result in
     let some = c.one_answer.ensures.some c.args.words.now in
     let left = g.S.Source.left c.args.source.now in
+    let fit = g.met.S.Source.fit c.args.source.now in
     let old = g.K.Sink.written c.args.sink.now in
     let new = g.K.Sink.written c.answer_words.new.sink in
     record {
@@ -25,14 +27,15 @@ returns-clause-streams g c =
       unread = is.unread;
       unwritten = is.unwritten;
       part = is.part;
-      exact = of_answer (Answers c.args.words.now) some left (λ s text. (status ≡ s) ⊎ (3 ≤ status)) is.exact;
+      exact = of_answer (Answers c.args.words.now) some left (λ s text. (status ≡ s) ⊎ (3 ≤ status)) fit is.exact;
       complete = λ reads writes.
           of_few (Answers c.args.words.now) some left
-          (λ s text. ((status ≡ s) × Appends old new text) ⊎ (status ≡ 5)) (is.complete reads writes);
+          (λ s text. ((status ≡ s) × Appends old new text) ⊎ (status ≡ 5)) fit (is.complete reads writes);
       sure =
           of_answer (Answers c.args.words.now) some left
           (λ s text. g.K.Sink.surely_takes c.args.sink.now (length text) → g.K.Sink.faults c.answer_words.new.sink ≡ g.K.Sink.faults c.args.sink.now)
-          is.sure;
+          fit is.sure;
+      alone = λ asks. record { holds = is.alone asks; some = some [] (All-nil (λ b. b < 256)) };
     }
 
 pub returns-clause-read : goal.returns-clause-read

@@ -40,4 +40,5 @@ returns g c =
       complete = is.complete;
       sure = is.sure;
       some = c.dumps_have_one_text.ensures.some c.args.standard;
+      fit = g.met.S.Source.fit source;
     })

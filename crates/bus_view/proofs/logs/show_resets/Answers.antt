@@ -44,4 +44,5 @@ returns g c =
       complete = is.complete;
       sure = is.sure;
       some = λ bytes fit. c.logs_have_one_text.ensures.some c.args.standard bytes;
+      fit = g.met.S.Source.fit source;
     })

@@ -1,4 +1,5 @@
-use Rattle.std.proofs.Common.{◌≡◌, ◌⊎◌, inl, inr, ◌≤◌, length, refl, subst}
+use Rattle.std.proofs.Common.{◌≡◌, ◌⊎◌, inl, inr, ◌<◌, ◌≤◌, [], length, refl, subst}
+use Rattle.std.proofs.lemmas.List.Elements.{All-nil}
 use Rattle.std.specs.Io.KnownBytes.{Appends}
 use Rattle.self_id.specs.declared.standard.Standard.{Standard}
 use Rattle.nosy_dump.specs.Dump.{IsBegun}
@@ -91,6 +92,7 @@ returns-clause-streams g c = λ no_log.
     let status = c.view_words.result in
     let some = c.one_view.ensures.some c.args.words.now in
     let left = g.S.Source.left c.args.source.now in
+    let fit = g.met.S.Source.fit c.args.source.now in
     let old = g.K.Sink.written c.args.sink.now in
     let new = g.K.Sink.written c.view_words.new.sink in
     record {
@@ -103,14 +105,15 @@ returns-clause-streams g c = λ no_log.
       unread = is.unread;
       unwritten = is.unwritten;
       part = is.part;
-      exact = of_answer (Answers c.args.words.now) some left (λ s text. (status ≡ s) ⊎ (3 ≤ status)) is.exact;
+      exact = of_answer (Answers c.args.words.now) some left (λ s text. (status ≡ s) ⊎ (3 ≤ status)) fit is.exact;
       complete = λ reads writes.
           of_few (Answers c.args.words.now) some left
-          (λ s text. ((status ≡ s) × Appends old new text) ⊎ (status ≡ 5)) (is.complete reads writes);
+          (λ s text. ((status ≡ s) × Appends old new text) ⊎ (status ≡ 5)) fit (is.complete reads writes);
       sure =
           of_answer (Answers c.args.words.now) some left
           (λ s text. g.K.Sink.surely_takes c.args.sink.now (length text) → g.K.Sink.faults c.view_words.new.sink ≡ g.K.Sink.faults c.args.sink.now)
-          is.sure;
+          fit is.sure;
+      alone = λ asks. record { holds = is.alone asks; some = some [] (All-nil (λ b. b < 256)) };
     }
 
 pub view_words-requires : goal.view_words-requires

@@ -1,10 +1,11 @@
-use Rattle.std.proofs.Common.{◌≡◌, ◌≤◌, Err, refl, ap, subst, arith}
+use Rattle.std.proofs.Common.{◌≡◌, ◌≤◌, Err, inl, inr, ℕ, List, length, refl, sym, ap, subst, arith}
 use Rattle.io_edges.specs.declared.stop.ReadStop.{ReadStop}
 use Rattle.std.specs.Io.KnownBytes.{Appends}
+use Rattle.io_edges.specs.Told.{AppendsStart}
 use Rattle.bus_view.specs.Answer.{Answers, viewed}
 use Rattle.bus_cli.proofs.Lemmas.{part_written, whole_written, exact_status}
 use Rattle.bus_view.proofs.Forms.{is_held, is_read, is_unread}
-use Rattle.bus_view.proofs.Ends.{written, few_status, not_six, later, never_long, or_else, taken_surely, no_input_status, script_text, itself_text}
+use Rattle.bus_view.proofs.Ends.{written, few_status, not_six, later, never_long, or_else, taken_surely, no_input_status, unread_form, unread_alone, script_text, itself_text}
 use Rattle.bus_view.proofs.top.view_words.Goals as goal
 
 pub read_view-requires : goal.read_view-requires
@@ -140,3 +141,48 @@ returns-clause-exact g c = later (Answers c.args.words.now) (g.S.Source.left c.a
 pub returns-in-Err-TooLong-clause-complete : goal.returns-in-Err-TooLong-clause-complete
 returns-in-Err-TooLong-clause-complete g c = λ reads writes.
     never_long (g.S.Source.left c.args.source.now) _ _ (ap (λ (e : ReadStop). Err e) c.in-Err-TooLong.field-0-is) (c.in-Err-TooLong.ensures.complete reads)
+
+pub returns-in_default-clause-alone : goal.returns-in_default-clause-alone
+returns-in_default-clause-alone g c = λ input.
+    let is = unread_form c.args.words.now input in
+    let none = (c.in_default.ensures is.0).1 is.1 in
+    absurd cc
+
+pub returns-in-Err-ReadFault-clause-alone : goal.returns-in-Err-ReadFault-clause-alone
+returns-in-Err-ReadFault-clause-alone g c = λ input.
+    let asks = (c.in-Some.ensures c.in-Some.form).0 refl in
+    let want = c.in-Err-ReadFault.ensures.unfailing (is_unread c.args.words.now c.in-Some.form asks input) in
+    let fault = c.in-Err-ReadFault.field-0-is in
+    absurd cc
+
+pub returns-in-Err-TooLong-clause-alone : goal.returns-in-Err-TooLong-clause-alone
+returns-in-Err-TooLong-clause-alone g c = λ input.
+    let asks = (c.in-Some.ensures c.in-Some.form).0 refl in
+    let want = c.in-Err-TooLong.ensures.unfailing (is_unread c.args.words.now c.in-Some.form asks input) in
+    let fault = c.in-Err-TooLong.field-0-is in
+    absurd cc
+
+pub returns-in-Err-Memory-clause-alone : goal.returns-in-Err-Memory-clause-alone
+returns-in-Err-Memory-clause-alone g c = λ input s x is. (inr (inr refl), λ takes. refl)
+
+pub returns-in-Ok-write_whole-clause-alone : goal.returns-in-Ok-write_whole-clause-alone
+returns-in-Ok-write_whole-clause-alone g c = λ input s x is.
+    let told = c.in-Ok.ensures.answer in
+    let asks = (c.in-Some.ensures c.in-Some.form).0 refl in
+    let same = unread_alone c.one_view.ensures.one c.args.words.now told.0 c.in-Ok.view.status s c.in-Ok.view.text.items x input (viewed c.in-Some.form asks told.2) is in
+    let whole = rw c.deref.ensures.value at c.in-Ok-write_whole.ensures.ok in
+    let sure = rw c.deref.ensures.value at c.in-Ok-write_whole.ensures.sure in (
+      inl (same.0, subst (Appends (g.K.Sink.written c.args.sink.now) (g.K.Sink.written c.write_whole.new.sink)) same.1 whole),
+      λ takes. (sure _ (omega arith) (subst (λ (t : List ℕ). g.K.Sink.surely_takes c.args.sink.now (length t)) (sym same.1) takes)).2,
+    )
+
+pub returns-clause-alone : goal.returns-clause-alone
+returns-clause-alone g c = λ input s x is.
+    let told = c.in-Ok.ensures.answer in
+    let asks = (c.in-Some.ensures c.in-Some.form).0 refl in
+    let same = unread_alone c.one_view.ensures.one c.args.words.now told.0 c.in-Ok.view.status s c.in-Ok.view.text.items x input (viewed c.in-Some.form asks told.2) is in
+    let start = rw c.deref.ensures.value at c.in-Err.ensures.start in
+    let sure = rw c.deref.ensures.value at c.in-Err.ensures.sure in (
+      inr (inl (refl, subst (AppendsStart (g.K.Sink.written c.args.sink.now) (g.K.Sink.written c.write_whole.new.sink)) same.1 start)),
+      λ takes. (sure _ (omega arith) (subst (λ (t : List ℕ). g.K.Sink.surely_takes c.args.sink.now (length t)) (sym same.1) takes)).2,
+    )
