@@ -96,5 +96,5 @@ PlansComeOut w from =
 
 abbrev pub CarriedPlansComeOut : Type 0
 CarriedPlansComeOut =
-    (w : CableWorld) (from : NodeNumber) → IsReached w → from < length w.cabling →
+    (w : CableWorld) (from : NodeNumber) → ∥ IsReached w ∥₁ → from < length w.cabling →
     PlansComeOut w from

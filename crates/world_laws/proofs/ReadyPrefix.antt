@@ -1,5 +1,5 @@
 -- Nodes become ready in turn along each child cable, and so in the order of the walk.
-use Rattle.std.proofs.Common.{◌≡◌, ℕ, Bool, true, false, Option, Some, None, slice_get, sym, ◌∙◌, ap}
+use Rattle.std.proofs.Common.{◌≡◌, ℕ, Bool, true, false, Option, Some, None, slice_get, sym, ◌∙◌, ap, length, ◌<◌, ◌^◌, arith}
 use Rattle.cabling.specs.declared.cable.End.{End}
 use Rattle.cabling.specs.NodeSet.{Holds}
 use Rattle.topology_stack.specs.Tree.{Tree}
@@ -7,16 +7,19 @@ use Rattle.cabling.proofs.Lemmas.{end_at}
 use Rattle.port_state.specs.Machine.{PortNode}
 use Rattle.cable_world.specs.World.{CableWorld, wire_of}
 use Rattle.cable_world.specs.Signals.{signals_of}
-use Rattle.cable_world.proofs.Lemmas.{some-same}
+use Rattle.cable_world.specs.Lawful.{IsLawful}
+use Rattle.cabling.specs.Existence.{ComponentsExist}
+use Rattle.cable_world.proofs.Lemmas.{some-same, comes-lawful}
 use Rattle.convergence.specs.Acyclic.{IsChildCable}
 use Rattle.outcomes.specs.Identify.{Lined}
 use Rattle.outcomes.specs.InTurn.{InTurn, ReadyFirst}
 use Rattle.outcomes.specs.Intervals.{LeadsToChild}
 use Rattle.outcomes.specs.NodeMarks.{is_ready, is_asked, is_named, IsMarked}
-use Rattle.outcomes.specs.Numbered.{IsSound, IsSettling}
+use Rattle.outcomes.specs.Numbered.{IsSound, IsSettling, IsNumbering}
 use Rattle.outcomes.specs.RootWalk.{parent_now}
 use Rattle.outcomes.specs.WalkMarks.{mark}
-use Rattle.world_laws.specs.ReadyPrefix.{ReadyNodesAreFirst}
+use Rattle.outcomes.proofs.Lemmas.{comes-numbering, component-small}
+use Rattle.world_laws.specs.ReadyPrefix.{ReadyNodesAreFirst, IdentifyingNodesHaveTurns}
 
 abbrev if_there : (PortNode → Bool) → Option PortNode → Bool
 if_there test None = false
@@ -104,5 +107,21 @@ module _
   first = s.walk.in_turn (at-node granted w) (at-node ready w) in-turn
 
 pub ready-first : ReadyNodesAreFirst
-ready-first w set core root t j k x y sound s in_j in_k at_x at_y le r =
+ready-first w set core root t sound s j k x y in_j in_k at_x at_y le r =
     passes ready w j x at_x ((first w sound set core root t s).first j k in_j in_k (shows ready w k y at_y r) le)
+
+pub have-turns : ComponentsExist → IdentifyingNodesHaveTurns
+have-turns exist w node set core comes there comp is_core all =
+    let l : IsLawful w = comes-lawful w comes in
+    let n : IsNumbering w = comes-numbering w comes in
+    let small = component-small exist w.cabling node set l.well_formed.cabling (omega (arith, there, l.well_formed.count)) comp in
+    let s = n.walks node set core there comp is_core small all in
+    let sound : IsSound w = record { lawful = l; acyclic = n.acyclic; identifies = n.identifies } in
+    record {
+      root = s.root;
+      inside = s.is.inside;
+      is_root = s.is.is_root;
+      tree = s.tree;
+      seen = s.is.walk.seen;
+      in_turn = ready-first w set core s.root s.tree sound s.is;
+    }

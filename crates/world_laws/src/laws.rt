@@ -10,13 +10,15 @@ ghost use Rattle.world_laws.specs.DoneMilestone.{EntriesEnd, NoEntryStays, DoneO
 ghost use Rattle.world_laws.specs.LoopMilestone.{LoopsComeOutOnceDone, LoopsComeOutByThen};
 ghost use Rattle.world_laws.specs.RestMilestone.{TreesRestOnceDecided, TreesRestByThen};
 ghost use Rattle.world_laws.specs.OnePair.{RivalsStayAlone, RivalsAreAloneByThen};
-ghost use Rattle.world_laws.specs.ReadyPrefix.{ReadyNodesAreFirst};
+ghost use Rattle.world_laws.specs.ReadyPrefix.{ReadyNodesAreFirst, IdentifyingNodesHaveTurns};
 ghost use Rattle.world_laws.specs.SlotCabling.{EachBusTreeIsCabled, CabledTreesAreBusTrees};
 ghost use Rattle.world_laws.specs.SlotCabling.{AcceptedListsAreEmitted};
 ghost use Rattle.world_laws.specs.SeenTrees.{SeenTreesAreBusTrees, SeenListsHaveOneTree};
 ghost use Rattle.world_laws.specs.WiringSlots.{PortsAreSlots, SlotsShowTheSame};
 ghost use Rattle.world_laws.specs.WiringSlots.{SeenListsAreEmitted, SettledListsAreEmitted};
 ghost use Rattle.world_laws.specs.TreeText.{TextsTellTrees, AlikeTreesHaveOneText, LinesTellNodes};
+
+use cabling::components_exist;
 
 /// The wires deliver. In every run from a world that comes of power-on, in which the cable isn't
 /// pulled, each signal that is under way over it is heard at the far end by the time that it has
@@ -98,10 +100,15 @@ pub fn loops_are_out()
     ensures reached { LoopsComeOutByThen }
 {}
 
-/// The nodes of a tree that have identified themselves are the first of its walk.
+/// The nodes of a tree that have identified themselves are the first of its walk. So it is in each
+/// world that comes of power-on, of each component all of whose nodes identify themselves, or have:
+/// it has a root, and the cables show its tree from there.
 pub fn ready_nodes_are_first()
-    ensures { ReadyNodesAreFirst }
-{}
+    ensures walk { ReadyNodesAreFirst }
+    ensures reached { IdentifyingNodesHaveTurns }
+{
+    components_exist();
+}
 
 /// From 315 d turns after trees are decided on, each component without loop is at rest, with all
 /// its nodes in A0 and no Grant, packet or Done under way, or two of its nodes contend, with 32

@@ -1,14 +1,13 @@
 use Rattle.cabling.specs.Existence.{HasComponent}
 use Rattle.cable_world.specs.Lawful.{IsLawful}
-use Rattle.cable_world.proofs.Lemmas.{reached-lawful}
+use Rattle.cable_world.proofs.Lemmas.{lawful-now}
 use Rattle.settle_plan.proofs.Suited.{not-refused, has-id}
 use Rattle.settle_plan.proofs.Carried.{nodes-stay, tree-from, gap-of}
 use Rattle.settle_plan.proofs.suiting.plans_come_out.Goals as goal
 
 pub returns : goal.returns
-returns c w from comes there plan v report suits after is =
-    let reached = ∣ comes ∣₁ in
-    let l : IsLawful w = reached-lawful w comes in
+returns c w from reached there plan v report suits after is =
+    let l : IsLawful w = lawful-now w reached in
     let whole : HasComponent w.cabling from = c.components_exist.ensures w.cabling from l.well_formed.cabling there in
     let laws = c.forced_roots_settle.ensures in
     let accepted = not-refused w l from plan suits in
