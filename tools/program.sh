@@ -15,7 +15,7 @@ no_answer() {
 # sources as they are now, else the same sources unproved.
 run_program() {
   name=$1
-  local program="$top/crates/$1/out/$1" most=1048577 status reason
+  local program="$top/crates/$1/out/$1" most=1048577 status reason word
   shift
   if [ -x "$program" ] && [ "$(cat "$program.sources" 2>/dev/null)" = "$(sources_sum "$top")" ]; then
     exec "$program" "$@"
@@ -34,7 +34,12 @@ run_program() {
       *) head -c "$most" >"$work/input" 2>/dev/null ;;
     esac || no_answer "standard input can't be read"
   fi
-  (cd "$top/crates/$name" && rt try -- "$@") <"$work/input" >"$work/output" 2>"$work/notes"
+  # The program runs elsewhere, so files are given by their whole path.
+  local words=()
+  for word; do
+    if [ ${#words[@]} -gt 0 ] && [ -e "$word" ]; then words+=("$(realpath "$word")"); else words+=("$word"); fi
+  done
+  (cd "$top/crates/$name" && rt try -- "${words[@]}") <"$work/input" >"$work/output" 2>"$work/notes"
   status=$?
   if ! grep -qE "^run=ended status=$status " "$work/notes"; then
     reason=$(sed -n 's/^checked: //p' "$work/notes" | tail -n 1)
@@ -47,14 +52,17 @@ run_program() {
   exit "$status"
 }
 
-# Whether a program that is asked with these words reads its input.
+# Whether a program that is asked with these words reads standard input: its form reads, and no file is named or `-` is.
 reads_input() {
-  case "$#:${1-}" in
-  1:run | 1:advice | 1:read | 1:read95 | 1:maps | 1:rom) true ;;
-  1:packets | 1:tree | 1:dot | 1:trace | 1:waves | 1:explain) true ;;
-  1:resets | 1:nosy) true ;;
-  2:packets | 2:tree | 2:dot | 2:resets | 2:nosy) [ "$2" = --1995 ] ;;
-  2:capture) true ;;
-  *) false ;;
+  local word
+  case "${1-}" in
+  run | advice | read | read95 | maps | rom | packets | tree | dot | trace | waves | explain | resets | nosy) shift ;;
+  json | json-run) shift ;;
+  capture) shift 2 || return 1 ;;
+  *) return 1 ;;
   esac
+  [ "${1-}" != --1995 ] || shift
+  [ $# -gt 0 ] || return 0
+  for word; do [ "$word" != - ] || return 0; done
+  return 1
 }

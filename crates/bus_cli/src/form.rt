@@ -103,6 +103,6 @@ impl Form {
 }
 
 /// How the program is called, in one line for a form.
-pub const USAGE: &str = "usage: busconf run < SCRIPT\n       busconf advice < SCRIPT\n       \
-    busconf read < CAPTURE\n       busconf read95 < CAPTURE\n       busconf maps < CAPTURE\n       \
-    busconf rom < ROM\n       busconf make N SEED";
+pub const USAGE: &str = "usage: busconf run [SCRIPT]\n       busconf advice [SCRIPT]\n       \
+    busconf read [CAPTURE ..]\n       busconf read95 [CAPTURE ..]\n       \
+    busconf maps [CAPTURE ..]\n       busconf rom [ROM ..]\n       busconf make N SEED";

@@ -1,0 +1,98 @@
+//! What the program says beside its answers. A standard error that can't be written changes no status.
+
+use bus_cli::{MAX_INPUT, NO_MEMORY, READ_FAULT, REFUSED, TOO_LONG, WRITE_FAULT};
+use bus_view::{CaptureView, ViewForm};
+use capture_hint::{begins_capture, hint_text, likeness_of, other_hint};
+use io_edges::{WriteSink, write_whole};
+
+/// All that is shown of a log without an event.
+const NO_RESETS: &[u8] = b"resets 0 refused 0 cards 0\n";
+
+/// Whether these bytes stand among others.
+fn has(bytes: &[u8], part: &[u8]) -> bool {
+    for at in 0..bytes.len() {
+        if bytes[at..].starts_with(part) {
+            return true;
+        }
+    }
+    false
+}
+
+/// What is said of a log that begins so and has no event.
+fn why_no_event(front: &[u8]) -> &'static str {
+    if front.is_empty() {
+        "busview: the log is empty"
+    } else if front.starts_with(b"\x1f\x8b") {
+        "busview: no line of this log is an event: it is compressed, so gzip -d has to unpack it"
+    } else if has(front, b"self_id_sequence:") {
+        "busview: no line of this log is an event bus_reset_handle or self_id_complete; self_id_sequence is passed over, since it has no whole list (docs/CAPTURES.md)"
+    } else {
+        "busview: no line of this log is an event bus_reset_handle or self_id_complete (docs/CAPTURES.md says how to switch them on)"
+    }
+}
+
+/// Whether the form's text is made for another program to read.
+fn is_piped(form: &ViewForm) -> bool {
+    matches!(
+        form,
+        ViewForm::Waves | ViewForm::ListOf(_) | ViewForm::Capture(CaptureView::Dot, _)
+    )
+}
+
+/// What is said on standard error of a log whose text begins so, where it has no event.
+fn put_no_event(rt: &HostRuntime, front: &[u8]) {
+    if begins_capture(front) {
+        let mut errors = WriteSink::new(rt.stderr());
+        let _ = write_whole(&mut errors, other_hint(front));
+    } else {
+        let _ = eprintln!(rt; "{}", why_no_event(front));
+    }
+}
+
+/// What input looks like that a form refused, where it looks like something else, and what reads it.
+fn hint_of(form: &ViewForm, front: &[u8]) -> &'static [u8] {
+    match form {
+        ViewForm::Capture(CaptureView::Tree | CaptureView::Dot, _) => hint_text(likeness_of(front)),
+        ViewForm::Trace | ViewForm::Waves | ViewForm::Explain | ViewForm::ListOf(_) => {
+            other_hint(front)
+        }
+        ViewForm::Nosy(_) if begins_capture(front) => other_hint(front),
+        _ => b"",
+    }
+}
+
+/// Says on standard error what input looks like that was refused, with the refusal where another program reads
+/// standard output; and why a log has no event. The input and the output began so.
+pub(crate) fn say_hints(
+    rt: &HostRuntime,
+    form: &ViewForm,
+    status: u8,
+    input: &[u8],
+    output: &[u8],
+) {
+    let mut errors = WriteSink::new(rt.stderr());
+    if status == REFUSED && is_piped(form) {
+        let _ = write_whole(&mut errors, output);
+    }
+    if status == REFUSED {
+        let _ = write_whole(&mut errors, hint_of(form, input));
+    }
+    if matches!(form, ViewForm::Resets(_)) && output == NO_RESETS {
+        put_no_event(rt, input);
+    }
+}
+
+/// Says on standard error why of an input nothing was written, or not all.
+pub(crate) fn explain(rt: &HostRuntime, form: &ViewForm, status: u8, name: &str) {
+    let most = match form {
+        ViewForm::Resets(_) | ViewForm::Nosy(_) => 9_223_372_036_854_775_807,
+        _ => MAX_INPUT as u64,
+    };
+    let _ = match status {
+        READ_FAULT => eprintln!(rt; "busview: reading {name} failed"),
+        WRITE_FAULT => eprintln!(rt; "busview: writing standard output failed"),
+        NO_MEMORY => eprintln!(rt; "busview: out of memory"),
+        TOO_LONG => eprintln!(rt; "busview: {name} has more than {most} bytes"),
+        _ => Ok(()),
+    };
+}

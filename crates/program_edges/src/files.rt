@@ -1,0 +1,43 @@
+//! The files that words name.
+ghost use Rattle.std.specs.Prelude.{◌↔◌, IsOk, IsTrue};
+ghost use Rattle.program_edges.specs.Files.{AreFiles, NamesFile};
+
+use crate::words::WordsFault;
+
+/// How many files a form takes.
+#[derive(Clone, Copy, Debug, PartialEq, Eq)]
+pub enum FileCount {
+    /// None: it reads nothing.
+    None,
+    /// One, or standard input.
+    One,
+    /// Any number, or standard input.
+    Many,
+}
+
+/// Whether a word may name a file: `-`, which is standard input, or one that doesn't begin with `-`.
+fn names_file(word: &str) -> bool
+    ensures { IsTrue result ↔ NamesFile word.now }
+{
+    word == "-" || word.as_bytes().first() != Some(&b'-')
+}
+
+/// Judges the words behind a form that takes so many files. It is `Ok` exactly where each of them may
+/// name a file and there are as many as the form takes.
+pub(crate) fn judge_files<'a>(
+    form: &'a str,
+    files: &'a [String],
+    count: FileCount,
+) -> Result<(), WordsFault<'a>>
+    ensures { IsOk result ↔ AreFiles count files.now }
+{
+    if let Some(file) = files.iter().find(|file| !names_file(file.as_str())) {
+        let word = file.as_str();
+        return Err(WordsFault::UnknownOption { form, word });
+    }
+    match count {
+        FileCount::None if !files.is_empty() => Err(WordsFault::TakesNoFile { form }),
+        FileCount::One if files.len() > 1 => Err(WordsFault::TakesOneFile { form }),
+        _ => Ok(()),
+    }
+}

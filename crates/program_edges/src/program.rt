@@ -1,0 +1,181 @@
+//! What a program does with its words: it answers a form over files, or over standard input.
+
+use crate::files::{FileCount, judge_files};
+use crate::words::{WordsFault, words_of};
+use std::fs;
+use std::io::{self, Read};
+use std::process::ExitCode;
+
+/// The status where an answer is whole.
+const VALID: u8 = 0;
+/// The status where words are no form.
+const NO_FORM: u8 = 2;
+/// The status where an input can't be read.
+const READ_FAULT: u8 = 3;
+/// The status where standard output can't be written.
+const WRITE_FAULT: u8 = 4;
+/// The status where there is no memory.
+const NO_MEMORY: u8 = 5;
+
+/// A form that words ask for, its own words, and the files behind them.
+#[derive(Debug, Drop)]
+pub struct Call<'a, F> {
+    /// The form.
+    pub form: F,
+    /// The words of the form.
+    pub words: &'a [String],
+    /// The words behind them.
+    pub files: &'a [String],
+}
+
+/// A program that answers words over inputs.
+pub trait Program {
+    /// What words ask for.
+    type Form: Drop;
+
+    /// The name of the program.
+    fn name() -> &'static str;
+
+    /// How it is called, in one line for a form.
+    fn usage() -> &'static str;
+
+    /// What it says of itself, with a line that begins with its name and the form for each form.
+    fn help() -> &'static str;
+
+    /// The most words of a form.
+    fn most_words() -> usize;
+
+    /// The form of these words.
+    fn form_of(words: &[String]) -> Option<Self::Form>;
+
+    /// How many files a form takes.
+    fn files_of(form: &Self::Form) -> FileCount;
+
+    /// Why words that begin with no form are none.
+    fn fault_of(words: &[String]) -> WordsFault<'_>;
+
+    /// Answers a call over one input, which messages call by this name, and answers the exit status.
+    fn answer<R: Read + Drop>(
+        rt: &HostRuntime,
+        call: &Call<'_, Self::Form>,
+        name: &str,
+        input: R,
+    ) -> u8;
+}
+
+/// The call that words ask for. The form's own words are as many of the first ones as are a form.
+fn call_of<P: Program>(words: &[String]) -> Result<Call<'_, P::Form>, WordsFault<'_>> {
+    for count in (1..=words.len().min(P::most_words())).rev() {
+        let (own, files) = words.split_at(count);
+        if let Some(form) = P::form_of(own) {
+            let name = words[0].as_str();
+            judge_files(name, files, P::files_of(&form))?;
+            return Ok(Call {
+                form,
+                words: own,
+                files,
+            });
+        }
+    }
+    Err(P::fault_of(words))
+}
+
+/// Answers a call over a file, or over standard input where it is `-`.
+fn answer_file<P: Program>(rt: &HostRuntime, call: &Call<'_, P::Form>, file: &str) -> u8 {
+    if file == "-" {
+        return P::answer(rt, call, "standard input", rt.stdin());
+    }
+    match fs::open(rt, file) {
+        Ok(input) => P::answer(rt, call, file, input),
+        Err(error) => {
+            let program = P::name();
+            // A standard error that can't be written changes no status.
+            let _ = eprintln!(rt; "{program}: {file}: {error}");
+            READ_FAULT
+        }
+    }
+}
+
+/// Answers a call over its files, or over standard input where there are none. Of several files each answer
+/// stands below a line with the file's name, and the status is the greatest of theirs. Nothing is read any
+/// more once standard output can't be written.
+fn answer_call<P: Program>(rt: &HostRuntime, call: &Call<'_, P::Form>) -> u8 {
+    if call.files.is_empty() {
+        return P::answer(rt, call, "standard input", rt.stdin());
+    }
+    let mut greatest = VALID;
+    for file in call.files {
+        let name = file.as_str();
+        if call.files.len() > 1 && println!(rt; "{name}:").is_err() {
+            return WRITE_FAULT;
+        }
+        let status = answer_file::<P>(rt, call, name);
+        if status == WRITE_FAULT {
+            return WRITE_FAULT;
+        }
+        greatest = greatest.max(status);
+    }
+    greatest
+}
+
+/// Whether a line of the program's help tells of this form.
+fn tells_of<P: Program>(line: &str, form: &str) -> bool {
+    let mut words = line.split(' ');
+    words.next() == Some(P::name()) && words.next() == Some(form)
+}
+
+/// Writes the lines of the program's help that tell of a form, and where more is said.
+fn write_form_help<P: Program>(rt: &HostRuntime, form: &str) -> io::Result<()> {
+    for line in P::help().lines() {
+        if tells_of::<P>(line, form) {
+            println!(rt; "{line}")?;
+        }
+    }
+    let program = P::name();
+    println!(rt; "man {program} says more")
+}
+
+/// The form whose help these words ask for, if they ask for one.
+fn helped_form<P: Program>(words: &[String]) -> Option<&str> {
+    match words {
+        [form, word] if word.as_str() == "--help" || word.as_str() == "-h" => {
+            let form = form.as_str();
+            P::help()
+                .lines()
+                .any(|line| tells_of::<P>(line, form))
+                .then_some(form)
+        }
+        _ => None,
+    }
+}
+
+/// Answers the words after the program's name, and answers the exit status.
+fn status_of<P: Program>(rt: &HostRuntime) -> u8 {
+    let words = match words_of(rt) {
+        Ok(words) => words,
+        Err(error) if error.kind() == io::ErrorKind::OutOfMemory => return NO_MEMORY,
+        Err(_) => return NO_FORM,
+    };
+    if let Some(form) = helped_form::<P>(&words) {
+        return match write_form_help::<P>(rt, form) {
+            Ok(()) => VALID,
+            Err(_) => WRITE_FAULT,
+        };
+    }
+    match call_of::<P>(&words) {
+        Ok(call) => answer_call::<P>(rt, &call),
+        Err(fault) => {
+            let (program, usage) = (P::name(), P::usage());
+            // A standard error that can't be written changes no status.
+            let _ = eprintln!(rt;
+                "{program}: {fault}\n{usage}\n{program} --help says what each form does"
+            );
+            NO_FORM
+        }
+    }
+}
+
+/// Runs a program with the words after its name.
+pub fn run<P: Program>(rt: &HostRuntime) -> ExitCode {
+    ExitCode::from(status_of::<P>(rt))
+}
