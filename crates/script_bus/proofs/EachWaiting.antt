@@ -5,7 +5,6 @@ use Rattle.std.proofs.lemmas.Option.{slice_get_within}
 use Rattle.topology_stack.specs.Tree.{Tree}
 use Rattle.topology_stack.specs.OneAnswer.{NoListHasTwoTrees}
 use Rattle.cabling.specs.NodeSet.{Holds}
-use Rattle.cabling.specs.Component.{IsComponent}
 use Rattle.cabling.specs.Existence.{HasComponent, ComponentsExist}
 use Rattle.cabling.proofs.Lemmas.{Loopless, loopless}
 use Rattle.port_state.specs.Machine.{PortNode}
@@ -22,8 +21,7 @@ use Rattle.cable_world.proofs.Lemmas.{some-of, plain-quiet, reached-comes, reach
 use Rattle.outcomes.specs.Settled.{turn_count}
 use Rattle.settle.specs.Report.{IsTreeFrom, quiet_turns_of}
 use Rattle.settle.proofs.Lemmas.{found, small-set, turns-enough}
-use Rattle.world_laws.specs.Touched.{Touches}
-use Rattle.world_laws.specs.Freshness.{RunsAtOnce, IsTouchedIn, PowerOnIsFresh, ActsMakeFreshOnceSettled, FreshRootsSettle}
+use Rattle.world_laws.specs.Freshness.{IsTouchedIn, PowerOnIsFresh, ActsMakeFreshOnceSettled, FreshRootsSettle}
 use Rattle.script_lines.specs.declared.kind.Kind.{Kind}
 use Rattle.script_lines.specs.declared.kind.Kind.TheVariants.{Twice, Late, TooManyNodes}
 use Rattle.script_lines.specs.declared.times.ScriptTimes.{ScriptTimes}
@@ -35,15 +33,15 @@ use Rattle.port_state.specs.declared.ranges.TimeRanges.{TimeRanges}
 use Rattle.script_told.specs.Bus.{Bus, Notes, is_declared}
 use Rattle.script_told.specs.Step.{Reports, config_of}
 use Rattle.script_told.specs.Script.{Draft, Stage, fresh, declaring, running, StageAnswer, bus_of, first_draft, takes_times, with_times, with_node, draft_of, Declares as IsDeclared, Delays, SaysTimes, Follows}
-use Rattle.script_told.specs.Run.{Entry, ScriptRun, IsRun}
+use Rattle.script_told.specs.Run.{Entry}
 use Rattle.script_told.specs.Reached.{world_of}
 use Rattle.script_told.specs.SomeAnswer.{IsReachedBus}
 use Rattle.script_told.specs.EachPlan.{IsCarriedOut}
 use Rattle.script_told.specs.EachReport.{DoesReport}
-use Rattle.script_told.specs.ScriptEvents.{Declares, TakesNoTurn, IsActOf, RunsOn}
+use Rattle.script_told.specs.ScriptEvents.{Declares, TakesNoTurn, RunsOn}
 use Rattle.script_told.specs.PrintedTree.{PrintsTree}
 use Rattle.script_told.proofs.Lemmas.{stage-in, prints-tree, plan-act, plan-carried, draft-power, no-nodes, sound-bus, IsSound, IsDone, each-done, runs-on}
-use Rattle.script_bus.specs.EachWaiting.{SettlesAtOnce, ResetsOneOf, IsResetSince, power_on, report, OneNodeWaits, IsRootOf, EachWaitingNodeBecomesRoot}
+use Rattle.script_bus.specs.EachWaiting.{ResetsOneOf, power_on, report, OneNodeWaits, IsRootOf, EachWaitingNodeBecomesRoot}
 use Rattle.script_bus.proofs.EachConfig.{reports-of, by-answer}
 use Rattle.script_bus.proofs.FollowOn.{LeadsOn, leads-on, leads-behind, at-split, behind-split, front-split}
 
