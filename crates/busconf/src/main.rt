@@ -6,8 +6,10 @@ mod words;
 
 use bus_cli::{Form, HELP, REFUSED, USAGE, bus_main};
 use io_edges::{ReadSource, WriteSink};
-use program_edges::{Call, FileCount, FrontSource, PipeWriter, Program, WordsFault, run};
-use say::{explain, say_hint};
+use program_edges::{
+    Call, FileCount, FrontSink, FrontSource, PipeWriter, Program, WordsFault, run,
+};
+use say::{explain, say_hint, say_refusal};
 use std::io::Read;
 use std::process::ExitCode;
 use words::make_fault;
@@ -58,9 +60,10 @@ impl Program for Busconf {
     fn answer<R: Read + Drop>(rt: &HostRuntime, call: &Call<'_, Form>, name: &str, input: R) -> u8 {
         let mut source = FrontSource::new(rt.alloc(), ReadSource::new(input));
         let mut output = PipeWriter::new(rt.stdout());
-        let mut sink = WriteSink::new(&mut output);
+        let mut sink = FrontSink::new(rt.alloc(), WriteSink::new(&mut output));
         let status = bus_main(rt.alloc(), call.words, &mut source, &mut sink);
         if status == REFUSED {
+            say_refusal(rt, call.form, sink.front());
             say_hint(rt, call.form, source.front());
         }
         if !output.is_broken() {

@@ -1,6 +1,6 @@
 //! What the program says beside its answers. A standard error that can't be written changes no status.
 
-use bus_cli::{Form, MAX_INPUT, NO_MEMORY, READ_FAULT, TOO_LONG, WRITE_FAULT};
+use bus_cli::{CaptureForm, Form, MAX_INPUT, NO_MEMORY, READ_FAULT, TOO_LONG, WRITE_FAULT};
 use capture_hint::{Likeness, hint_text, likeness_of, other_hint};
 use io_edges::{WriteSink, write_whole};
 
@@ -24,6 +24,14 @@ pub(crate) fn say_hint(rt: &HostRuntime, form: Form, front: &[u8]) {
     };
     let mut errors = WriteSink::new(rt.stderr());
     let _ = write_whole(&mut errors, hint);
+}
+
+/// Says on standard error what was refused, where another program reads standard output.
+pub(crate) fn say_refusal(rt: &HostRuntime, form: Form, line: &[u8]) {
+    if form == Form::Capture(CaptureForm::Maps) {
+        let mut errors = WriteSink::new(rt.stderr());
+        let _ = write_whole(&mut errors, line);
+    }
 }
 
 /// Says on standard error why of an input nothing was written, or not all.
