@@ -1,10 +1,11 @@
 /* busconf: FireWire cable buses, read, planned and run by functions that are proved to meet their contracts.
  *
- * C99 and C++17. Link with -lbusconf; docs/LIBRARY.md says what the proof covers at this border.
+ * C89 to C23 and C++98 to C++20. Link with -lbusconf; docs/LIBRARY.md says what the proof covers at this border, and has
+ * a table of the names that changed.
  *
  * For every call:
- * - A pointer is never null and is aligned for its type, also where the length behind it is 0. A length
- *   counts the elements at the pointer before it. No call reads or writes past a length.
+ * - A length counts the elements at the pointer before it, and no call reads or writes past a length. Where it is 0, the
+ *   pointer isn't looked at and may be null. Every other pointer isn't null and is aligned for its type.
  * - The places that one call is given don't overlap, and nothing else writes or reads them while it runs.
  *   They stay the caller's: no call keeps a pointer, and none hands memory out.
  * - No call keeps state, so each may run in any thread at any time. A call that says `takes memory`
@@ -21,52 +22,58 @@
 extern "C" {
 #endif
 
+/* ---- The version
+ *
+ * BUSCONF_VERSION is the version of this header and busconf_version that of the library that a program runs with: a
+ * million times the first part, a thousand times the second, and the third. Until 1.0 a rise of the second part may
+ * change names, records and numbers; the soname, libbusconf.so.0, rises with what an older program can't run with.
+ */
+#define BUSCONF_VERSION 3000 /* 0.3.0 */
+
+/* The version of the library. */
+uint32_t busconf_version(void);
+
 /* ---- What a call answers */
 
-/* The call did what it is for. */
-#define BUSCONF_VALID 0u
-/* What was read has a fault, which is told. */
-#define BUSCONF_REFUSED 1u
-/* There was no memory. */
-#define BUSCONF_NO_MEMORY 2u
-/* A place is too short for what is told. The length that it needs is told. */
-#define BUSCONF_TOO_SHORT 3u
-/* The standard is neither 1995 nor 2000. */
-#define BUSCONF_NO_STANDARD 4u
-/* No node is eligible as root: none has an active link and contends. */
-#define BUSCONF_NO_CANDIDATE 5u
-/* The list has to go on before it can be a bus tree's. */
-#define BUSCONF_INCOMPLETE 6u
-/* A number is past what it may be: a channel is 0 to 63, units are 0 to 4915, an ID is 0 to 62. */
-#define BUSCONF_OUT_OF_RANGE 7u
-/* The script has more than 1,048,576 bytes. */
-#define BUSCONF_TOO_LONG 8u
+enum busconf_status {
+  BUSCONF_OK = 0,           /* the call did what it is for */
+  BUSCONF_REFUSED = 1,      /* what was read has a fault, which is told */
+  BUSCONF_NO_MEMORY = 2,    /* there was no memory */
+  BUSCONF_TOO_SHORT = 3,    /* a place is too short for what is told; the length that it needs is told */
+  BUSCONF_NO_STANDARD = 4,  /* the standard is neither 1995 nor 2000 */
+  BUSCONF_NO_CANDIDATE = 5, /* no node is eligible as root: none has an active link and contends */
+  BUSCONF_INCOMPLETE = 6,   /* the list has to go on before it can be a bus tree's */
+  BUSCONF_OUT_OF_RANGE = 7, /* a number is past what it may be: a channel 63, units 4915, an ID 62 */
+  BUSCONF_TOO_LONG = 8      /* the script has more than 1,048,576 bytes */
+};
 
 /* ---- By which standard nodes show themselves */
 
-/* IEEE Std 1394-1995: 3, 11, 19 or 27 slots in up to four packets. */
-#define BUSCONF_IEEE1995 1995u
-/* IEEE Std 1394a-2000: 3, 11 or 16 slots in up to three packets. */
-#define BUSCONF_IEEE2000 2000u
+enum busconf_standard {
+  BUSCONF_IEEE1995 = 1995, /* IEEE Std 1394-1995: 3, 11, 19 or 27 slots in up to four packets */
+  BUSCONF_IEEE2000 = 2000  /* IEEE Std 1394a-2000: 3, 11 or 16 slots in up to three packets */
+};
 
 /* ---- Records */
 
-/* The number that stands where there is no node: ID 63 means all nodes. */
-#define BUSCONF_NO_NODE 63u
 /* A bus has at most so many nodes, */
 #define BUSCONF_MAX_NODES 63u
 /* and a node so many slots. */
 #define BUSCONF_MAX_SLOTS 27u
+/* Where there is no node, this stands for its ID: 63 means all nodes. */
+#define BUSCONF_ID_NONE 63u
 
 /* What a slot leads to: the two bits of its port status. */
-#define BUSCONF_ABSENT 0u
-#define BUSCONF_UNPLUGGED 1u
-#define BUSCONF_UP 2u
-#define BUSCONF_DOWN 3u
+enum busconf_slot_status {
+  BUSCONF_SLOT_ABSENT = 0,    /* the node has no such port */
+  BUSCONF_SLOT_UNPLUGGED = 1, /* no node is at the other end */
+  BUSCONF_SLOT_UP = 2,        /* to the parent */
+  BUSCONF_SLOT_DOWN = 3       /* to a child */
+};
 
 struct busconf_slot {
-  uint8_t status; /* BUSCONF_ABSENT to BUSCONF_DOWN */
-  uint8_t far;    /* the ID of the node at the other end, or BUSCONF_NO_NODE */
+  uint8_t status; /* an enum busconf_slot_status */
+  uint8_t peer;   /* the ID of the node at the other end, or BUSCONF_ID_NONE */
 };
 
 struct busconf_node {
@@ -84,45 +91,49 @@ struct busconf_node {
 struct busconf_bus {
   uint8_t nodes;   /* 1 to 63 */
   uint8_t root;    /* the ID of the root, which is the last */
-  uint8_t manager; /* the ID of the isochronous resource manager, or BUSCONF_NO_NODE */
+  uint8_t manager; /* the ID of the isochronous resource manager, or BUSCONF_ID_NONE */
 };
 
-/* The kinds of faults. `at` counts quadlets of the list from 0. */
-#define BUSCONF_NOT_SELF_ID 1u      /* the quadlet is no self-ID packet */
-#define BUSCONF_WRONG_ID 2u         /* the packet has the phy_ID `found` in place of `wanted` */
-#define BUSCONF_BAD_ORDER 3u        /* the packet isn't the next of its node's group */
-#define BUSCONF_CUT 4u              /* the list ends where a further packet has to stand */
-#define BUSCONF_TWO_PARENTS 5u      /* more than one slot of the node leads to a parent */
-#define BUSCONF_EMPTY 6u            /* the list has no quadlet */
-#define BUSCONF_TOO_FEW_CHILDREN 7u /* the node wants `wanted` children, and `found` trees wait */
-#define BUSCONF_TREES_LEFT 8u       /* the root wants `wanted` children, and `found` trees wait */
-#define BUSCONF_AFTER_ROOT 9u       /* the list goes on behind the root */
-#define BUSCONF_NO_ROOT 10u         /* the list ends before a root */
-#define BUSCONF_TOO_MANY 11u        /* the list goes on behind 63 nodes */
-/* Of a capture alone; `at` counts pairs from 0. */
-#define BUSCONF_BAD_LENGTH 12u  /* the bytes end within this pair */
-#define BUSCONF_BAD_INVERSE 13u /* the second quadlet of this pair isn't the inverse of the first, as in none before */
+/* The kinds of faults of a list or a capture. `at` counts quadlets of the list from 0. */
+enum busconf_fault_kind {
+  BUSCONF_FAULT_NOT_SELF_ID = 1,      /* the quadlet is no self-ID packet */
+  BUSCONF_FAULT_WRONG_ID = 2,         /* the packet has the phy_ID `found` in place of `wanted` */
+  BUSCONF_FAULT_BAD_ORDER = 3,        /* the packet isn't the next of its node's group */
+  BUSCONF_FAULT_CUT = 4,              /* the list ends where a further packet has to stand */
+  BUSCONF_FAULT_TWO_PARENTS = 5,      /* more than one slot of the node leads to a parent */
+  BUSCONF_FAULT_EMPTY = 6,            /* the list has no quadlet */
+  BUSCONF_FAULT_TOO_FEW_CHILDREN = 7, /* the node wants `wanted` children, and `found` trees wait */
+  BUSCONF_FAULT_TREES_LEFT = 8,       /* the root wants `wanted` children, and `found` trees wait */
+  BUSCONF_FAULT_AFTER_ROOT = 9,       /* the list goes on behind the root */
+  BUSCONF_FAULT_NO_ROOT = 10,         /* the list ends before a root */
+  BUSCONF_FAULT_TOO_MANY = 11,        /* the list goes on behind 63 nodes */
+  /* of a capture alone; `at` counts pairs from 0 */
+  BUSCONF_FAULT_BAD_LENGTH = 12,      /* the bytes end within this pair */
+  BUSCONF_FAULT_BAD_INVERSE = 13      /* the first pair whose second quadlet isn't the inverse of its first */
+};
 
 struct busconf_fault {
   size_t at;      /* the place */
-  uint8_t kind;   /* BUSCONF_NOT_SELF_ID to BUSCONF_BAD_INVERSE */
+  uint8_t kind;   /* an enum busconf_fault_kind */
   uint8_t found;  /* where the kind has it, else 0 */
   uint8_t wanted; /* where the kind has it, else 0 */
 };
 
 /* The kinds of PHY packets (IEEE 1394a-2000, PHY packets). */
-#define BUSCONF_CONFIG 1u    /* PHY configuration packet: phy_id (root_ID), force (R), set_gap (T), gap, rest */
-#define BUSCONF_LINK_ON 2u   /* link-on packet: phy_id, rest */
-#define BUSCONF_SELF_ZERO 3u /* self-ID packet zero: phy_id, link, gap, speed, delay, contender, power, p0, p1, p2,
-                                initiated, more */
-#define BUSCONF_SELF_MORE 4u /* further self-ID packet: phy_id, n, kept, fields, r, more */
-#define BUSCONF_EXTENDED 5u  /* extended PHY packet, whole in rest: its top two bits are 00, neither R nor T is set */
-#define BUSCONF_OTHER 6u     /* no packet that is defined, whole in rest: its top two bits are 11 */
+enum busconf_packet_kind {
+  BUSCONF_PACKET_CONFIG = 1,    /* PHY configuration packet: phy_id (root_ID), force (R), set_gap (T), gap, rest */
+  BUSCONF_PACKET_LINK_ON = 2,   /* link-on packet: phy_id, rest */
+  BUSCONF_PACKET_SELF_ZERO = 3, /* self-ID packet zero: phy_id, link, gap, speed, delay, contender, power, p0, p1, p2,
+                                   initiated, more */
+  BUSCONF_PACKET_SELF_MORE = 4, /* further self-ID packet: phy_id, n, kept, fields, r, more */
+  BUSCONF_PACKET_EXTENDED = 5,  /* extended PHY packet, whole in rest: its top two bits are 00, neither R nor T is set */
+  BUSCONF_PACKET_OTHER = 6      /* no packet that is defined, whole in rest: its top two bits are 11 */
+};
 
 struct busconf_packet {
   uint32_t rest;     /* 16 bits of a configuration packet, 24 of a link-on packet, else the whole quadlet */
   uint16_t fields;   /* eight port fields of two bits, the first at the top */
-  uint8_t kind;      /* BUSCONF_CONFIG to BUSCONF_OTHER */
+  uint8_t kind;      /* an enum busconf_packet_kind */
   uint8_t phy_id;    /* 0 to 63 */
   uint8_t force;     /* R, 0 or 1 */
   uint8_t set_gap;   /* T, 0 or 1 */
@@ -147,7 +158,7 @@ struct busconf_plan {
   uint8_t root;    /* the ID of the root, an eligible node of least reach, the highest of these */
   uint8_t hops;    /* the cables on the longest path of the bus */
   uint8_t gap;     /* the gap count for them */
-  uint8_t far;     /* the root's reach: its greatest distance to a node, in cables */
+  uint8_t reach;   /* the root's reach: its greatest distance to a node, in cables */
 };
 
 /* ---- Reading a list
@@ -159,62 +170,65 @@ struct busconf_plan {
  * - BUSCONF_NO_MEMORY or BUSCONF_NO_STANDARD.
  */
 
-/* Reads a list. BUSCONF_VALID: `bus` is the bus and nodes[0] to nodes[bus->nodes - 1] its nodes, by ID.
+/* Reads a list. BUSCONF_OK: `bus` is the bus and nodes[0] to nodes[bus->nodes - 1] its nodes, by ID.
  * BUSCONF_TOO_SHORT: `bus` is the bus, but it has more nodes than the `room` at `nodes`.
  * A bus has BUSCONF_MAX_NODES nodes at most. Takes memory. */
-uint32_t busconf_read(const uint32_t *quads, size_t count, uint32_t standard, struct busconf_node *nodes, size_t room,
-                      struct busconf_bus *bus, struct busconf_fault *fault);
+enum busconf_status busconf_read(const uint32_t *quads, size_t count, uint32_t standard, struct busconf_node *nodes,
+                                 size_t room, struct busconf_bus *bus, struct busconf_fault *fault);
 
-/* Reads the bytes of a capture (docs/CAPTURES.md): of each packet its quadlet and then the bitwise inverse of it, each with
- * its highest byte first. It is busconf_read of the first quadlets, and before that BUSCONF_REFUSED with the faults
- * BUSCONF_BAD_LENGTH and BUSCONF_BAD_INVERSE. Takes memory. */
-uint32_t busconf_read_capture(const uint8_t *bytes, size_t count, uint32_t standard, struct busconf_node *nodes, size_t room,
-                              struct busconf_bus *bus, struct busconf_fault *fault);
+/* Reads the bytes of a capture (docs/CAPTURES.md): of each packet its quadlet and then the bitwise inverse of it, each
+ * with its highest byte first. It is busconf_read of the first quadlets, and before that BUSCONF_REFUSED with the faults
+ * BUSCONF_FAULT_BAD_LENGTH and BUSCONF_FAULT_BAD_INVERSE. Takes memory. */
+enum busconf_status busconf_read_capture(const uint8_t *bytes, size_t count, uint32_t standard,
+                                         struct busconf_node *nodes, size_t room, struct busconf_bus *bus,
+                                         struct busconf_fault *fault);
 
 /* Tells the line of a fault as `busconf read` writes it, in ASCII with its line feed and with no byte 0 behind it.
- * BUSCONF_VALID: the first `*needed` bytes at `place` are the line. BUSCONF_TOO_SHORT: `*needed` is how many they are; no
+ * BUSCONF_OK: the first `*needed` bytes at `place` are the line. BUSCONF_TOO_SHORT: `*needed` is how many they are; no
  * line has more than 128. BUSCONF_REFUSED: there is no such kind. BUSCONF_NO_MEMORY. Takes memory. */
-uint32_t busconf_fault_text(const struct busconf_fault *fault, char *place, size_t room, size_t *needed);
+enum busconf_status busconf_fault_text(const struct busconf_fault *fault, char *place, size_t room, size_t *needed);
 
 /* Tells the sentence of a list's fault: what was found and what was wanted, in ASCII with its line feed and with no
  * byte 0 behind it. `quads` is the list that has the fault; of it the sentence has the quadlet at the fault's place and
- * the one before. `standard` is the one by which the list was read, BUSCONF_IEEE1995 or BUSCONF_IEEE2000. BUSCONF_VALID:
+ * the one before. `standard` is the one by which the list was read, BUSCONF_IEEE1995 or BUSCONF_IEEE2000. BUSCONF_OK:
  * the first `*needed` bytes at `place` are the sentence. BUSCONF_TOO_SHORT: `*needed` is how many they are; no sentence
- * has more than 160. BUSCONF_REFUSED: the kind isn't BUSCONF_NOT_SELF_ID to BUSCONF_TOO_MANY, whatever the standard.
- * BUSCONF_NO_STANDARD. BUSCONF_NO_MEMORY. Takes memory. */
-uint32_t busconf_sentence(const uint32_t *quads, size_t count, uint32_t standard, const struct busconf_fault *fault,
-                          char *place, size_t room, size_t *needed);
+ * has more than 160. BUSCONF_REFUSED: the kind isn't BUSCONF_FAULT_NOT_SELF_ID to BUSCONF_FAULT_TOO_MANY, whatever the
+ * standard. BUSCONF_NO_STANDARD. BUSCONF_NO_MEMORY. Takes memory. */
+enum busconf_status busconf_sentence(const uint32_t *quads, size_t count, uint32_t standard,
+                                     const struct busconf_fault *fault, char *place, size_t room, size_t *needed);
 
 /* Tells the sentence of a capture's fault, as `busview packets` writes it, and by BUSCONF_IEEE1995 as `busview packets
- * --1995`. `bytes` are those of the capture that has the fault. As busconf_sentence, and with BUSCONF_BAD_LENGTH and
- * BUSCONF_BAD_INVERSE besides. Takes memory. */
-uint32_t busconf_sentence_capture(const uint8_t *bytes, size_t count, uint32_t standard, const struct busconf_fault *fault,
-                                  char *place, size_t room, size_t *needed);
+ * --1995`. `bytes` are those of the capture that has the fault. As busconf_sentence, and with BUSCONF_FAULT_BAD_LENGTH
+ * and BUSCONF_FAULT_BAD_INVERSE besides. Takes memory. */
+enum busconf_status busconf_sentence_capture(const uint8_t *bytes, size_t count, uint32_t standard,
+                                             const struct busconf_fault *fault, char *place, size_t room,
+                                             size_t *needed);
 
 /* Tells the hops of a list's bus, 0 to 62: the cables on its longest path. Takes memory. */
-uint32_t busconf_hops(const uint32_t *quads, size_t count, uint32_t standard, uint8_t *hops, struct busconf_fault *fault);
+enum busconf_status busconf_hops(const uint32_t *quads, size_t count, uint32_t standard, uint8_t *hops,
+                                 struct busconf_fault *fault);
 
 /* The gap count for so many hops, 0 to 63: that of the standard's table, and 63 past its end. */
 uint8_t busconf_gap_for(uint8_t hops);
 
 /* Tells the root that suits a list's bus best. BUSCONF_NO_CANDIDATE: no node is eligible. Takes memory. */
-uint32_t busconf_plan(const uint32_t *quads, size_t count, uint32_t standard, struct busconf_plan *plan,
-                      struct busconf_fault *fault);
+enum busconf_status busconf_plan(const uint32_t *quads, size_t count, uint32_t standard, struct busconf_plan *plan,
+                                 struct busconf_fault *fault);
 
-/* Tells the image of the topology map of a list's bus (IEEE Std 1394-1995, TOPOLOGY_MAP). BUSCONF_VALID: the first
+/* Tells the image of the topology map of a list's bus (IEEE Std 1394-1995, TOPOLOGY_MAP). BUSCONF_OK: the first
  * `*needed` quadlets at `place` are the image. BUSCONF_TOO_SHORT: `*needed` is how many they are. Takes memory. */
-uint32_t busconf_topology_map(const uint32_t *quads, size_t count, uint32_t standard, uint32_t generation,
-                              uint32_t *place, size_t room, size_t *needed, struct busconf_fault *fault);
+enum busconf_status busconf_topology_map(const uint32_t *quads, size_t count, uint32_t standard, uint32_t generation,
+                                         uint32_t *place, size_t room, size_t *needed, struct busconf_fault *fault);
 
 /* Tells the rows of the speed map of a list's bus, 64 bytes a node: the byte at 64 * from + to is the least speed
  * code on the path between two nodes, both ends included, where 3 counts as 2, and 0 behind the last node.
- * BUSCONF_VALID and BUSCONF_TOO_SHORT as for busconf_topology_map, in bytes. Takes memory. */
-uint32_t busconf_speed_rows(const uint32_t *quads, size_t count, uint32_t standard, uint8_t *place, size_t room,
-                            size_t *needed, struct busconf_fault *fault);
+ * BUSCONF_OK and BUSCONF_TOO_SHORT as for busconf_topology_map, in bytes. Takes memory. */
+enum busconf_status busconf_speed_rows(const uint32_t *quads, size_t count, uint32_t standard, uint8_t *place,
+                                       size_t room, size_t *needed, struct busconf_fault *fault);
 
 /* Tells the image of that speed map (IEEE Std 1394-1995, SPEED_MAP), as busconf_topology_map. Takes memory. */
-uint32_t busconf_speed_map(const uint32_t *quads, size_t count, uint32_t standard, uint32_t generation, uint32_t *place,
-                           size_t room, size_t *needed, struct busconf_fault *fault);
+enum busconf_status busconf_speed_map(const uint32_t *quads, size_t count, uint32_t standard, uint32_t generation,
+                                      uint32_t *place, size_t room, size_t *needed, struct busconf_fault *fault);
 
 /* ---- Reading a list as it comes
  *
@@ -237,11 +251,12 @@ void busconf_reader_init(struct busconf_reader *reader);
 void busconf_reader_push(struct busconf_reader *reader, uint32_t quad);
 
 /* Tells what the list is that a reader was given.
- * BUSCONF_VALID: a bus tree emits it, and busconf_read reads it from reader->quads.
+ * BUSCONF_OK: a bus tree emits it, and busconf_read reads it from reader->quads.
  * BUSCONF_REFUSED: `fault` is its fault, and stays that however the list goes on.
- * BUSCONF_INCOMPLETE: `fault` is its fault if it ends here: BUSCONF_EMPTY, BUSCONF_NO_ROOT or BUSCONF_CUT.
+ * BUSCONF_INCOMPLETE: `fault` is its fault if it ends here: BUSCONF_FAULT_EMPTY, BUSCONF_FAULT_NO_ROOT or
+ * BUSCONF_FAULT_CUT.
  * It takes no memory. */
-uint32_t busconf_reader_state(const struct busconf_reader *reader, struct busconf_fault *fault);
+enum busconf_status busconf_reader_state(const struct busconf_reader *reader, struct busconf_fault *fault);
 
 /* ---- PHY packets */
 
@@ -252,13 +267,13 @@ void busconf_decode(uint32_t quad, struct busconf_packet *packet);
 /* Tells the quadlet of a packet. BUSCONF_REFUSED where the packet's kind is none or a field that its kind has
  * doesn't fit its bits. A flag that isn't 0 counts as 1; of a configuration packet's `rest` the low 16 bits
  * count; a field that the kind doesn't have isn't looked at. */
-uint32_t busconf_encode(const struct busconf_packet *packet, uint32_t *quad);
+enum busconf_status busconf_encode(const struct busconf_packet *packet, uint32_t *quad);
 
 /* ---- Scripts (docs/SCRIPTS.md)
  *
  * A script is a text of at most 1,048,576 bytes that names nodes, plugs cables and asks for reports. Each of these calls
  * runs it from its first line to the `settle` behind its last, with the machines of its nodes, and answers
- * - BUSCONF_VALID: the first `*needed` bytes at `place` are what is told, with no byte 0 behind them;
+ * - BUSCONF_OK: the first `*needed` bytes at `place` are what is told, with no byte 0 behind them;
  * - BUSCONF_TOO_SHORT: `*needed` is how many they are, and nothing is written;
  * - BUSCONF_REFUSED: `fault` is the fault of the script's first bad line, and nothing is written;
  * - BUSCONF_TOO_LONG, for a script of more bytes, or BUSCONF_NO_MEMORY.
@@ -266,85 +281,94 @@ uint32_t busconf_encode(const struct busconf_packet *packet, uint32_t *quad);
  */
 
 /* The kinds of faults of a script. */
-#define BUSCONF_SCRIPT_WORD 1u            /* a byte that isn't permitted, or words that are no command */
-#define BUSCONF_SCRIPT_NUMBER 2u          /* a word stands for a number, or for coins, and hasn't its form */
-#define BUSCONF_SCRIPT_NAME 3u            /* a word stands for a name and isn't one */
-#define BUSCONF_SCRIPT_TWICE 4u           /* a key stands twice, or coins beside a seed, or the name is declared */
-#define BUSCONF_SCRIPT_LATE 5u            /* the command comes too late in the script */
-#define BUSCONF_SCRIPT_TOO_MANY_NODES 6u  /* it is the 64th node */
-#define BUSCONF_SCRIPT_NO_NODE 7u         /* no node has this name */
-#define BUSCONF_SCRIPT_NO_PORT 8u         /* the node has no such port */
-#define BUSCONF_SCRIPT_IN_USE 9u          /* a cable is in the port */
-#define BUSCONF_SCRIPT_SAME_NODE 10u      /* both ends are at one node */
-#define BUSCONF_SCRIPT_NOT_PLUGGED 11u    /* no cable is in the port */
-#define BUSCONF_SCRIPT_RANGE 12u          /* a number isn't in its range */
-#define BUSCONF_SCRIPT_NOT_SETTLED 13u    /* the node's part of the bus isn't a settled tree, or wasn't reported as one */
-#define BUSCONF_SCRIPT_NO_MANAGER 14u     /* the tree has no isochronous resource manager */
-#define BUSCONF_SCRIPT_NOT_MANAGER 15u    /* the node isn't the bus manager of its tree */
-#define BUSCONF_SCRIPT_TOO_MANY_TURNS 16u /* the turns pass the script's limit */
-#define BUSCONF_SCRIPT_TOO_MANY_MAPS 17u  /* it is the 101st `maps` */
+enum busconf_script_fault_kind {
+  BUSCONF_SCRIPT_WORD = 1,            /* a byte that isn't permitted, or words that are no command */
+  BUSCONF_SCRIPT_NUMBER = 2,          /* a word stands for a number, or for coins, and hasn't its form */
+  BUSCONF_SCRIPT_NAME = 3,            /* a word stands for a name and isn't one */
+  BUSCONF_SCRIPT_TWICE = 4,           /* a key stands twice, or coins beside a seed, or the name is declared */
+  BUSCONF_SCRIPT_LATE = 5,            /* the command comes too late in the script */
+  BUSCONF_SCRIPT_TOO_MANY_NODES = 6,  /* it is the 64th node */
+  BUSCONF_SCRIPT_NO_NODE = 7,         /* no node has this name */
+  BUSCONF_SCRIPT_NO_PORT = 8,         /* the node has no such port */
+  BUSCONF_SCRIPT_IN_USE = 9,          /* a cable is in the port */
+  BUSCONF_SCRIPT_SAME_NODE = 10,      /* both ends are at one node */
+  BUSCONF_SCRIPT_NOT_PLUGGED = 11,    /* no cable is in the port */
+  BUSCONF_SCRIPT_RANGE = 12,          /* a number isn't in its range */
+  BUSCONF_SCRIPT_NOT_SETTLED = 13,    /* the node's part of the bus isn't a settled tree, or wasn't reported as one */
+  BUSCONF_SCRIPT_NO_MANAGER = 14,     /* the tree has no isochronous resource manager */
+  BUSCONF_SCRIPT_NOT_MANAGER = 15,    /* the node isn't the bus manager of its tree */
+  BUSCONF_SCRIPT_TOO_MANY_TURNS = 16, /* the turns pass the script's limit */
+  BUSCONF_SCRIPT_TOO_MANY_MAPS = 17   /* it is the 101st `maps` */
+};
 
 struct busconf_script_fault {
   uint32_t line; /* from 1; a fault behind the last line has the number of lines and 1 */
-  uint8_t kind;  /* BUSCONF_SCRIPT_WORD to BUSCONF_SCRIPT_TOO_MANY_MAPS */
+  uint8_t kind;  /* an enum busconf_script_fault_kind */
 };
 
 /* Tells what a script prints, as `busconf run` writes it. Takes memory. */
-uint32_t busconf_run(const char *script, size_t count, char *place, size_t room, size_t *needed,
-                     struct busconf_script_fault *fault);
+enum busconf_status busconf_run(const char *script, size_t count, char *place, size_t room, size_t *needed,
+                                struct busconf_script_fault *fault);
 
 /* Tells which cables of a script's bus to pull, so that no loop is left, and what the bus then comes to, as
  * `busconf advice` writes it. Takes memory. */
-uint32_t busconf_advice(const char *script, size_t count, char *place, size_t room, size_t *needed,
-                        struct busconf_script_fault *fault);
+enum busconf_status busconf_advice(const char *script, size_t count, char *place, size_t room, size_t *needed,
+                                   struct busconf_script_fault *fault);
 
 /* Tells what happens on a script's bus, turn by turn, as `busview trace` writes it; a refusal has no sentence below its
  * line. Takes memory. */
-uint32_t busconf_trace(const char *script, size_t count, char *place, size_t room, size_t *needed,
-                       struct busconf_script_fault *fault);
+enum busconf_status busconf_trace(const char *script, size_t count, char *place, size_t room, size_t *needed,
+                                  struct busconf_script_fault *fault);
 
 /* ---- Configuration ROMs (IEEE Std 1212) */
 
 /* The kinds of blocks, */
-#define BUSCONF_DIRECTORY 1u
-#define BUSCONF_LEAF 2u
+enum busconf_block_kind {
+  BUSCONF_BLOCK_DIRECTORY = 1,
+  BUSCONF_BLOCK_LEAF = 2
+};
+
 /* and what is known of the CRC that a block keeps. */
-#define BUSCONF_CRC_GOOD 1u
-#define BUSCONF_CRC_BAD 2u
-#define BUSCONF_CRC_PAST 3u /* it is over more quadlets than there are; no block has this */
+enum busconf_block_crc {
+  BUSCONF_CRC_GOOD = 1,
+  BUSCONF_CRC_BAD = 2,
+  BUSCONF_CRC_PAST = 3 /* it is over more quadlets than there are; no block has this */
+};
 
 struct busconf_block {
   uint16_t at;       /* the place of its header, in quadlets from 0 */
   uint16_t length;   /* how many quadlets stand behind its header */
   uint16_t kept;     /* of a bad CRC the one that is kept, else 0 */
   uint16_t computed; /* of a bad CRC the one that is computed, else 0 */
-  uint8_t kind;      /* BUSCONF_DIRECTORY or BUSCONF_LEAF */
-  uint8_t crc;       /* BUSCONF_CRC_GOOD to BUSCONF_CRC_PAST */
+  uint8_t kind;      /* an enum busconf_block_kind */
+  uint8_t crc;       /* an enum busconf_block_crc */
 };
 
 /* The kinds of faults of bytes that are no ROM, in the order in which they are looked for, and of a ROM's blocks. */
-#define BUSCONF_ROM_LENGTH 1u   /* the bytes end within a quadlet, behind `at` whole ones */
-#define BUSCONF_ROM_TOO_LONG 2u /* there are more than 256 quadlets; `at` is 256 */
-#define BUSCONF_ROM_EMPTY 3u    /* there is no quadlet */
-#define BUSCONF_NO_INFO 4u      /* the first byte is 0, so there is no bus information block */
-#define BUSCONF_MINIMAL 5u      /* the first byte is 1: a minimal ROM, of one quadlet */
-#define BUSCONF_ROM_CUT 6u      /* the bus information block or the root directory isn't whole; `at` is the length */
-#define BUSCONF_BUS_NAME 7u     /* quadlet 1 is `found` and not the bus's name, 0x31333934 */
-#define BUSCONF_OUTSIDE 8u      /* the block at `at`, or its header, isn't inside of the ROM */
-#define BUSCONF_SELF_TARGET 9u  /* the entry at `at` leads to itself */
+enum busconf_rom_fault_kind {
+  BUSCONF_ROM_LENGTH = 1,     /* the bytes end within a quadlet, behind `at` whole ones */
+  BUSCONF_ROM_TOO_LONG = 2,   /* there are more than 256 quadlets; `at` is 256 */
+  BUSCONF_ROM_EMPTY = 3,      /* there is no quadlet */
+  BUSCONF_ROM_NO_INFO = 4,    /* the first byte is 0, so there is no bus information block */
+  BUSCONF_ROM_MINIMAL = 5,    /* the first byte is 1: a minimal ROM, of one quadlet */
+  BUSCONF_ROM_CUT = 6,        /* the bus information block or the root directory isn't whole; `at` is the length */
+  BUSCONF_ROM_BUS_NAME = 7,   /* quadlet 1 is `found` and not the bus's name, 0x31333934 */
+  BUSCONF_ROM_OUTSIDE = 8,    /* the block at `at`, or its header, isn't inside of the ROM */
+  BUSCONF_ROM_SELF_TARGET = 9 /* the entry at `at` leads to itself */
+};
 
 struct busconf_rom_fault {
   size_t at;      /* the place, in quadlets from 0 */
-  uint32_t found; /* of BUSCONF_BUS_NAME, else 0 */
-  uint8_t kind;   /* BUSCONF_ROM_LENGTH to BUSCONF_SELF_TARGET */
+  uint32_t found; /* of BUSCONF_ROM_BUS_NAME, else 0 */
+  uint8_t kind;   /* an enum busconf_rom_fault_kind */
 };
 
 /* Tells the blocks that the root directory of a ROM leads to, itself included, by rising place; at one place a
  * directory comes first. `bytes` are the ROM's, each quadlet with its highest byte first.
- * BUSCONF_VALID: the first `*needed` records at `place` are the blocks. BUSCONF_TOO_SHORT: `*needed` is how many they
+ * BUSCONF_OK: the first `*needed` records at `place` are the blocks. BUSCONF_TOO_SHORT: `*needed` is how many they
  * are. BUSCONF_REFUSED: `fault` is why there are none. BUSCONF_NO_MEMORY. Takes memory. */
-uint32_t busconf_rom_check(const uint8_t *bytes, size_t count, struct busconf_block *place, size_t room, size_t *needed,
-                           struct busconf_rom_fault *fault);
+enum busconf_status busconf_rom_check(const uint8_t *bytes, size_t count, struct busconf_block *place, size_t room,
+                                      size_t *needed, struct busconf_rom_fault *fault);
 
 /* ---- The registers of an isochronous resource manager (IEEE Std 1394-1995, 8.3.2.3.6 to 8.3.2.3.8)
  *
@@ -374,14 +398,16 @@ struct busconf_seen {
 };
 
 /* Why an allocation or a release is refused, in this order. */
-#define BUSCONF_NO_CHANNEL 1u   /* the channel was seen held, at an allocation, or free, at a release */
-#define BUSCONF_NO_BANDWIDTH 2u /* `detail`, the bandwidth seen, is too little, or with the units passes 4915 */
-#define BUSCONF_CHANGED 3u      /* the register at the offset `detail` now holds `now` in place of what was seen */
+enum busconf_grant_kind {
+  BUSCONF_GRANT_NO_CHANNEL = 1,   /* the channel was seen held, at an allocation, or free, at a release */
+  BUSCONF_GRANT_NO_BANDWIDTH = 2, /* `detail`, the bandwidth seen, is too little, or with the units passes 4915 */
+  BUSCONF_GRANT_CHANGED = 3       /* the register at the offset `detail` now holds `now` in place of what was seen */
+};
 
 struct busconf_grant {
   uint32_t detail;
   uint32_t now;
-  uint8_t kind;
+  uint8_t kind; /* an enum busconf_grant_kind */
 };
 
 /* Gives the registers the values that a bus reset restores. */
@@ -396,30 +422,77 @@ void busconf_registers_write(const struct busconf_registers *regs, uint32_t offs
 
 /* Locks the register at an offset. Of the extended transaction codes `kind` compare_swap, 2, alone is permitted: the
  * register becomes `value` where it holds `arg`. Where the access is refused nothing changes. */
-void busconf_registers_lock(struct busconf_registers *regs, uint32_t offset, uint8_t kind, uint32_t arg, uint32_t value,
-                            struct busconf_reply *reply);
+void busconf_registers_lock(struct busconf_registers *regs, uint32_t offset, uint8_t kind, uint32_t arg,
+                            uint32_t value, struct busconf_reply *reply);
 
 /* Looks at the bandwidth and the channels, as allocations and releases are asked for by what was seen. */
 void busconf_registers_look(const struct busconf_registers *regs, struct busconf_seen *seen);
 
 /* Takes a channel and units of bandwidth. BUSCONF_REFUSED: `fault` says why, and nothing changes.
  * BUSCONF_OUT_OF_RANGE. */
-uint32_t busconf_registers_allocate(struct busconf_registers *regs, const struct busconf_seen *seen, uint8_t channel,
-                                    uint16_t units, struct busconf_grant *fault);
+enum busconf_status busconf_registers_allocate(struct busconf_registers *regs, const struct busconf_seen *seen,
+                                               uint8_t channel, uint16_t units, struct busconf_grant *fault);
 
 /* Gives them back, as busconf_registers_allocate. */
-uint32_t busconf_registers_release(struct busconf_registers *regs, const struct busconf_seen *seen, uint8_t channel,
-                                   uint16_t units, struct busconf_grant *fault);
+enum busconf_status busconf_registers_release(struct busconf_registers *regs, const struct busconf_seen *seen,
+                                              uint8_t channel, uint16_t units, struct busconf_grant *fault);
 
-/* The attempt of a node, 0 to 62, to become bus manager. BUSCONF_VALID: it is, and `*manager` is its ID.
+/* The attempt of a node, 0 to 62, to become bus manager. BUSCONF_OK: it is, and `*manager` is its ID.
  * BUSCONF_REFUSED: `*manager` is the one that is, and nothing changes. BUSCONF_OUT_OF_RANGE. */
-uint32_t busconf_registers_attempt(struct busconf_registers *regs, uint8_t id, uint8_t *manager);
+enum busconf_status busconf_registers_attempt(struct busconf_registers *regs, uint8_t id, uint8_t *manager);
 
 /* ---- CRC */
 
 /* The CRC of quadlets (IEEE Std 1212): the remainder of their bits, the highest first and followed by sixteen zero
  * bits, divided by x^16 + x^12 + x^5 + 1. */
 uint16_t busconf_crc16(const uint32_t *quads, size_t count);
+
+/* ---- Names that changed
+ *
+ * A program that uses an old name is warned with the new one by gcc and clang. For other compilers the old names aren't
+ * declared. Two fields changed too: `far` is `peer` in a slot, and `reach` in a plan.
+ */
+#if defined(__clang__) || (defined(__GNUC__) && __GNUC__ >= 6)
+#define BUSCONF_RENAMED(old, now) old __attribute__((deprecated("its name is " #now))) = now
+enum busconf_renamed {
+  BUSCONF_RENAMED(BUSCONF_VALID, BUSCONF_OK),
+  BUSCONF_RENAMED(BUSCONF_NO_NODE, BUSCONF_ID_NONE),
+  BUSCONF_RENAMED(BUSCONF_ABSENT, BUSCONF_SLOT_ABSENT),
+  BUSCONF_RENAMED(BUSCONF_UNPLUGGED, BUSCONF_SLOT_UNPLUGGED),
+  BUSCONF_RENAMED(BUSCONF_UP, BUSCONF_SLOT_UP),
+  BUSCONF_RENAMED(BUSCONF_DOWN, BUSCONF_SLOT_DOWN),
+  BUSCONF_RENAMED(BUSCONF_NOT_SELF_ID, BUSCONF_FAULT_NOT_SELF_ID),
+  BUSCONF_RENAMED(BUSCONF_WRONG_ID, BUSCONF_FAULT_WRONG_ID),
+  BUSCONF_RENAMED(BUSCONF_BAD_ORDER, BUSCONF_FAULT_BAD_ORDER),
+  BUSCONF_RENAMED(BUSCONF_CUT, BUSCONF_FAULT_CUT),
+  BUSCONF_RENAMED(BUSCONF_TWO_PARENTS, BUSCONF_FAULT_TWO_PARENTS),
+  BUSCONF_RENAMED(BUSCONF_EMPTY, BUSCONF_FAULT_EMPTY),
+  BUSCONF_RENAMED(BUSCONF_TOO_FEW_CHILDREN, BUSCONF_FAULT_TOO_FEW_CHILDREN),
+  BUSCONF_RENAMED(BUSCONF_TREES_LEFT, BUSCONF_FAULT_TREES_LEFT),
+  BUSCONF_RENAMED(BUSCONF_AFTER_ROOT, BUSCONF_FAULT_AFTER_ROOT),
+  BUSCONF_RENAMED(BUSCONF_NO_ROOT, BUSCONF_FAULT_NO_ROOT),
+  BUSCONF_RENAMED(BUSCONF_TOO_MANY, BUSCONF_FAULT_TOO_MANY),
+  BUSCONF_RENAMED(BUSCONF_BAD_LENGTH, BUSCONF_FAULT_BAD_LENGTH),
+  BUSCONF_RENAMED(BUSCONF_BAD_INVERSE, BUSCONF_FAULT_BAD_INVERSE),
+  BUSCONF_RENAMED(BUSCONF_CONFIG, BUSCONF_PACKET_CONFIG),
+  BUSCONF_RENAMED(BUSCONF_LINK_ON, BUSCONF_PACKET_LINK_ON),
+  BUSCONF_RENAMED(BUSCONF_SELF_ZERO, BUSCONF_PACKET_SELF_ZERO),
+  BUSCONF_RENAMED(BUSCONF_SELF_MORE, BUSCONF_PACKET_SELF_MORE),
+  BUSCONF_RENAMED(BUSCONF_EXTENDED, BUSCONF_PACKET_EXTENDED),
+  BUSCONF_RENAMED(BUSCONF_OTHER, BUSCONF_PACKET_OTHER),
+  BUSCONF_RENAMED(BUSCONF_DIRECTORY, BUSCONF_BLOCK_DIRECTORY),
+  BUSCONF_RENAMED(BUSCONF_LEAF, BUSCONF_BLOCK_LEAF),
+  BUSCONF_RENAMED(BUSCONF_NO_INFO, BUSCONF_ROM_NO_INFO),
+  BUSCONF_RENAMED(BUSCONF_MINIMAL, BUSCONF_ROM_MINIMAL),
+  BUSCONF_RENAMED(BUSCONF_BUS_NAME, BUSCONF_ROM_BUS_NAME),
+  BUSCONF_RENAMED(BUSCONF_OUTSIDE, BUSCONF_ROM_OUTSIDE),
+  BUSCONF_RENAMED(BUSCONF_SELF_TARGET, BUSCONF_ROM_SELF_TARGET),
+  BUSCONF_RENAMED(BUSCONF_NO_CHANNEL, BUSCONF_GRANT_NO_CHANNEL),
+  BUSCONF_RENAMED(BUSCONF_NO_BANDWIDTH, BUSCONF_GRANT_NO_BANDWIDTH),
+  BUSCONF_RENAMED(BUSCONF_CHANGED, BUSCONF_GRANT_CHANGED)
+};
+#undef BUSCONF_RENAMED
+#endif
 
 #ifdef __cplusplus
 }

@@ -65,7 +65,8 @@ prove() {
   rm -f "$log"
 }
 
-# Makes a crate's one object, with the kit's allocation functions, that has no name but its calls'.
+# Makes a crate's one object, with the kit's allocation functions and what border/ has before its calls, that has no name
+# but its calls'. A proved call that has something before it gets a name of its own.
 object() {
   local made
   (archive "$1")
@@ -74,7 +75,12 @@ object() {
     cd "$made"
     ar x "$top/crates/$1/out/lib$1.a"
     ar x "$kit/c/liblibc_c.a" heap.pic.o
-    ld -r -o whole.o ./*.o
+    ld -r -o proved.o ./*.o
+    ${CC:-cc} -std=c99 -Wall -Wextra -Werror -pedantic -O2 -fPIC -ffunction-sections -I "$top/include" -c \
+      "$top/border/$1.c" -o border.o
+    nm --defined-only border.o | awk '$2 == "T" { print $3, "proved_" $3 }' >before
+    objcopy --redefine-syms=before proved.o
+    ld -r -o whole.o proved.o border.o
     objcopy --wildcard --keep-global-symbol='busconf_*' whole.o "$2"
   )
   rm -rf "$made"
@@ -139,6 +145,46 @@ differs() {
   fi
 }
 
+# Whether a compiler takes a header by a standard, in a language.
+takes() {
+  echo "#include $4" | "$1" -fsyntax-only -Wall -Wextra -Werror -pedantic "-std=$2" -I "$top/include" -x "$3" - 2>/dev/null
+}
+
+# Whether each compiler here takes the header without a word by each standard of C and C++ that it knows, with the layouts
+# of its records; warns of a switch that misses a case; and says of each old name what the new one is.
+try_header() {
+  local compiler language standard known=() old said
+  for compiler in gcc clang g++ clang++; do
+    command -v "$compiler" >/dev/null || continue
+    language=c
+    [[ "$compiler" != *++ ]] || language=c++
+    for standard in c89 c99 c11 c17 c2x c23 c++98 c++11 c++14 c++17 c++20 c++23; do
+      takes "$compiler" "$standard" "$language" '<stddef.h>' || continue
+      if ! takes "$compiler" "$standard" "$language" '"busconf.h"'; then
+        echo "library: $compiler -std=$standard doesn't take the header without a word" >&2
+        return 1
+      fi
+      "$compiler" -fsyntax-only -Wall -Wextra -Werror -pedantic "-std=$standard" -I "$top/include" -x "$language" \
+        "$top/tools/library/layout.c" || return 1
+      known+=("$compiler/$standard")
+    done
+    old=$(sed -n 's/^  BUSCONF_RENAMED(\(\w*\), \w*),\?$/\1/p' "$top/include/busconf.h")
+    said=$(printf 'int of_%s = %s;\n' $(sed 's/.*/& &/' <<<"$old") | cat <(echo '#include "busconf.h"') - \
+      | LC_ALL=C "$compiler" -fsyntax-only -I "$top/include" -x "$language" - 2>&1 | grep -c 'its name is BUSCONF_' || true)
+    if [ "$said" != "$(wc -l <<<"$old")" ]; then
+      echo "library: $compiler: of $(wc -l <<<"$old") old names $said are told" >&2
+      return 1
+    fi
+    if "$compiler" -fsyntax-only -Wall -Werror -DMISSES_A_CASE -I "$top/include" -x "$language" \
+      "$top/tools/library/layout.c" 2>/dev/null; then
+      echo "library: $compiler says nothing of a switch that misses a case" >&2
+      return 1
+    fi
+  done
+  [ ${#known[@]} -gt 0 ] || { echo "library: neither gcc nor clang is here" >&2; return 1; }
+  echo "library: the header by ${known[*]}"
+}
+
 run_tests() {
   local check=() python exported file form input
   build "$room"
@@ -147,14 +193,12 @@ run_tests() {
   [ -z "$exported" ] || { echo "library: exports $exported" >&2; exit 1; }
   echo "library: $(stat -c %s "$room/libbusconf.a") bytes of archive, $(stat -c %s "$room/libbusconf.so") of shared object"
 
-  # The header alone, and all that is written in C, as C99 and as C++17.
-  echo '#include "busconf.h"' | cc -fsyntax-only -Wall -Wextra -Werror -std=c99 -pedantic -I "$top/include" -x c -
-  echo '#include "busconf.h"' | c++ -fsyntax-only -Wall -Wextra -Werror -std=c++17 -pedantic -I "$top/include" -x c++ -
+  try_header
   for file in recorder bench; do
     program "$room/$file" "$top/examples/c/$file.c" cc -std=c99
     program "$room/$file-c++" "$top/examples/c/$file.c" c++ -std=c++17 -x c++
   done
-  for file in check rom refusal script speed; do program "$room/$file" "$top/tools/library/$file.c" cc -std=c99; done
+  for file in check null rom refusal script speed; do program "$room/$file" "$top/tools/library/$file.c" cc -std=c99; done
 
   for file in recorder recorder-c++; do
     cases "$top/cases/busconf/read" cat "$room/$file" 2000
@@ -172,6 +216,7 @@ run_tests() {
   else
     echo "library: no valgrind here, so no block's bounds are watched"
   fi
+  "${check[@]}" "$room/null"
   "${check[@]}" "$room/check" 2000 $(captures "$top/cases/busconf/read")
   "${check[@]}" "$room/check" 1995 $(captures "$top/cases/busconf/read95")
   cases "$top/cases/busconf/rom" blocks "${check[@]}" "$room/rom"

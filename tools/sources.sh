@@ -1,7 +1,7 @@
 # shellcheck shell=bash
-# A checksum of all that the program is made of.
+# A checksum of all that the programs and the library are made of.
 sources_sum() {
-  (cd "$1" && cat crates.txt && find crates -path '*/out' -prune -o \( -path '*/src/*' -o -path '*/specs/*' -o -path '*/proofs/*' \) -type f -print0 \
+  (cd "$1" && cat crates.txt && find crates border -path '*/out' -prune -o \( -path '*/src/*' -o -path '*/specs/*' -o -path '*/proofs/*' -o -path 'border/*' \) -type f -print0 \
     | LC_ALL=C sort -z | xargs -0 sha256sum) | sha256sum | cut -d' ' -f1
 }
 

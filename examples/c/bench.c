@@ -21,16 +21,16 @@ static char *load(const char *path, size_t *count) {
 /* What a script prints, with a 0 behind it, or null where it is refused. The first call tells the length. */
 static char *run(const char *script, size_t count) {
   struct busconf_script_fault fault;
-  char none, *text;
+  char *text;
   size_t length = 0;
-  uint32_t status = busconf_run(script, count, &none, 0, &length, &fault);
+  enum busconf_status status = busconf_run(script, count, NULL, 0, &length, &fault);
   if (status == BUSCONF_REFUSED) {
     printf("the script has the fault %u in line %lu\n", (unsigned)fault.kind, (unsigned long)fault.line);
     return NULL;
   }
   text = (char *)malloc(length + 1);
   if (status != BUSCONF_TOO_SHORT || !text) exit(2);
-  if (busconf_run(script, count, text, length, &length, &fault) != BUSCONF_VALID) exit(2);
+  if (busconf_run(script, count, text, length, &length, &fault) != BUSCONF_OK) exit(2);
   text[length] = 0;
   return text;
 }
@@ -40,14 +40,14 @@ static uint32_t quadlet(const unsigned char *b) {
 }
 
 /* Gives a reader what a device recorded, one packet after the other, as the device does. */
-static uint32_t record(struct busconf_reader *device, struct busconf_fault *fault) {
+static enum busconf_status record(struct busconf_reader *device, struct busconf_fault *fault) {
   unsigned char b[8];
   size_t pair;
   busconf_reader_init(device);
   for (pair = 0; fread(b, 1, sizeof b, stdin) == sizeof b; pair++) {
     if (quadlet(b + 4) != (uint32_t)~quadlet(b)) {
       fault->at = pair;
-      fault->kind = BUSCONF_BAD_INVERSE;
+      fault->kind = BUSCONF_FAULT_BAD_INVERSE;
       fault->found = fault->wanted = 0;
       return BUSCONF_REFUSED;
     }
@@ -59,9 +59,9 @@ static uint32_t record(struct busconf_reader *device, struct busconf_fault *faul
 static void put_fault(const struct busconf_reader *device, const struct busconf_fault *fault) {
   char text[160];
   size_t length = 0;
-  if (busconf_fault_text(fault, text, sizeof text, &length) == BUSCONF_VALID) fwrite(text, 1, length, stdout);
+  if (busconf_fault_text(fault, text, sizeof text, &length) == BUSCONF_OK) fwrite(text, 1, length, stdout);
   if (busconf_sentence(device->quads, device->count, BUSCONF_IEEE2000, fault, text, sizeof text, &length)
-      == BUSCONF_VALID)
+      == BUSCONF_OK)
     fwrite(text, 1, length, stdout);
 }
 
@@ -72,7 +72,7 @@ static void slots_text(const struct busconf_node *node, char *to) {
   for (slot = 0; slot < node->slot_count; slot++) {
     struct busconf_slot it = node->slots[slot];
     to += sprintf(to, "%s", signs[it.status & 3]);
-    if (it.far != BUSCONF_NO_NODE) to += sprintf(to, "%u", (unsigned)it.far);
+    if (it.peer != BUSCONF_ID_NONE) to += sprintf(to, "%u", (unsigned)it.peer);
   }
   strcpy(to, " name ");
 }
@@ -116,7 +116,7 @@ int main(int argc, char **argv) {
   char *script, *text;
   int differ;
   if (argc != 2) return 2;
-  if (record(&device, &fault) != BUSCONF_VALID) {
+  if (record(&device, &fault) != BUSCONF_OK) {
     put_fault(&device, &fault);
     return 1;
   }

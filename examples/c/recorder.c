@@ -11,15 +11,15 @@
 static void put_fault(const struct busconf_fault *fault) {
   char line[128];
   size_t length = 0;
-  if (busconf_fault_text(fault, line, sizeof line, &length) == BUSCONF_VALID) fwrite(line, 1, length, stdout);
+  if (busconf_fault_text(fault, line, sizeof line, &length) == BUSCONF_OK) fwrite(line, 1, length, stdout);
 }
 
 static void put_slot(struct busconf_slot slot) {
-  switch (slot.status) {
-  case BUSCONF_ABSENT: printf(" -"); break;
-  case BUSCONF_UNPLUGGED: printf(" ."); break;
-  case BUSCONF_UP: printf(" ^%u", (unsigned)slot.far); break;
-  default: printf(" v%u", (unsigned)slot.far); break;
+  switch ((enum busconf_slot_status)slot.status) {
+  case BUSCONF_SLOT_ABSENT: printf(" -"); break;
+  case BUSCONF_SLOT_UNPLUGGED: printf(" ."); break;
+  case BUSCONF_SLOT_UP: printf(" ^%u", (unsigned)slot.peer); break;
+  case BUSCONF_SLOT_DOWN: printf(" v%u", (unsigned)slot.peer); break;
   }
 }
 
@@ -34,7 +34,7 @@ static void put_bus(const struct busconf_bus *bus, const struct busconf_node *no
     printf("\n");
   }
   printf("nodes %u root %u irm ", (unsigned)bus->nodes, (unsigned)bus->root);
-  if (bus->manager == BUSCONF_NO_NODE) printf("none\n");
+  if (bus->manager == BUSCONF_ID_NONE) printf("none\n");
   else printf("%u\n", (unsigned)bus->manager);
 }
 
@@ -45,12 +45,12 @@ int main(int argc, char **argv) {
   struct busconf_fault fault;
   uint32_t standard = argc > 1 ? (uint32_t)strtoul(argv[1], NULL, 10) : BUSCONF_IEEE2000;
   size_t count = fread(bytes, 1, sizeof bytes, stdin);
-  uint32_t status = busconf_read_capture(bytes, count, standard, nodes, BUSCONF_MAX_NODES, &bus, &fault);
+  enum busconf_status status = busconf_read_capture(bytes, count, standard, nodes, BUSCONF_MAX_NODES, &bus, &fault);
   if (status == BUSCONF_REFUSED) {
     put_fault(&fault);
     return 1;
   }
-  if (status != BUSCONF_VALID) {
+  if (status != BUSCONF_OK) {
     fprintf(stderr, "recorder: status %u\n", (unsigned)status);
     return 5;
   }

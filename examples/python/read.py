@@ -11,7 +11,7 @@ VALID, REFUSED, NO_NODE = 0, 1, 63
 
 
 class Slot(ctypes.Structure):
-    _fields_ = [("status", U8), ("far", U8)]
+    _fields_ = [("status", U8), ("peer", U8)]
 
 
 class Node(ctypes.Structure):
@@ -29,7 +29,7 @@ class Fault(ctypes.Structure):
 
 def line(node):
     said = "node " + " ".join(f"{it} {getattr(node, it)}" for it in Node.words)[3:]
-    signs = [(" -", " .", f" ^{it.far}", f" v{it.far}")[it.status] for it in node.slots[: node.slot_count]]
+    signs = [(" -", " .", f" ^{it.peer}", f" v{it.peer}")[it.status] for it in node.slots[: node.slot_count]]
     return said + " ports" + "".join(signs)
 
 

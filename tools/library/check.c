@@ -62,20 +62,20 @@ static uint32_t read_into(const uint32_t *quads, size_t count, uint32_t standard
   size_t bytes = room * sizeof(struct busconf_node), id, slot;
   struct busconf_node *nodes = (struct busconf_node *)block(bytes, 0xa5);
   uint32_t status = busconf_read(quads, count, standard, nodes, room, bus, fault);
-  if (status != BUSCONF_VALID) expect(filled(nodes, 0, bytes, 0xa5), "nodes stay where nothing is shown");
+  if (status != BUSCONF_OK) expect(filled(nodes, 0, bytes, 0xa5), "nodes stay where nothing is shown");
   else {
     expect(filled(nodes, bus->nodes * sizeof *nodes, bytes, 0xa5), "what stands behind the nodes stays");
     for (id = 0; id < bus->nodes; id++) {
       expect(nodes[id].id == id, "nodes stand by ID");
       for (slot = 0; slot < BUSCONF_MAX_SLOTS; slot++) {
         struct busconf_slot at = nodes[id].slots[slot], back;
-        int leads = at.status == BUSCONF_UP || at.status == BUSCONF_DOWN;
-        expect(leads == (at.far != BUSCONF_NO_NODE), "a slot leads to a node where it is up or down");
+        int leads = at.status == BUSCONF_SLOT_UP || at.status == BUSCONF_SLOT_DOWN;
+        expect(leads == (at.peer != BUSCONF_ID_NONE), "a slot leads to a node where it is up or down");
         if (leads) {
           size_t k, found = 0;
-          for (k = 0; k < nodes[at.far].slot_count; k++) {
-            back = nodes[at.far].slots[k];
-            found += back.far == id && back.status == (at.status == BUSCONF_UP ? BUSCONF_DOWN : BUSCONF_UP);
+          for (k = 0; k < nodes[at.peer].slot_count; k++) {
+            back = nodes[at.peer].slots[k];
+            found += back.peer == id && back.status == (at.status == BUSCONF_SLOT_UP ? BUSCONF_SLOT_DOWN : BUSCONF_SLOT_UP);
           }
           expect(found == 1, "a slot leads back");
         }
@@ -86,8 +86,8 @@ static uint32_t read_into(const uint32_t *quads, size_t count, uint32_t standard
   return status;
 }
 
-typedef uint32_t (*image_call)(const uint32_t *, size_t, uint32_t, uint32_t, uint32_t *, size_t, size_t *,
-                               struct busconf_fault *);
+typedef enum busconf_status (*image_call)(const uint32_t *, size_t, uint32_t, uint32_t, uint32_t *, size_t, size_t *,
+                                          struct busconf_fault *);
 
 static void check_image(image_call call, const uint32_t *quads, size_t count, uint32_t standard, uint32_t status) {
   struct busconf_fault fault;
@@ -105,7 +105,7 @@ static void check_image(image_call call, const uint32_t *quads, size_t count, ui
   expect(again == needed && filled(place, 0, (needed - 1) * 4, 0xa5), "the length is told and nothing is written");
   free(place);
   place = (uint32_t *)block(needed * 4, 0xa5);
-  expect(call(quads, count, standard, 7, place, needed, &again, &fault) == BUSCONF_VALID, "exactly as much");
+  expect(call(quads, count, standard, 7, place, needed, &again, &fault) == BUSCONF_OK, "exactly as much");
   expect(again == needed && place[0] >> 16 == needed - 1 && place[1] == 7, "the image has its length and generation");
   expect((place[0] & 0xffffu) == busconf_crc16(place + 1, needed - 1), "the image keeps its CRC");
   free(place);
@@ -117,7 +117,7 @@ static void check_rows(const uint32_t *quads, size_t count, uint32_t standard, c
   uint8_t *less = (uint8_t *)block(all - 1, 0xa5), *rows = (uint8_t *)block(all, 0xa5);
   expect(busconf_speed_rows(quads, count, standard, less, all - 1, &needed, &fault) == BUSCONF_TOO_SHORT, "rows");
   expect(needed == all && filled(less, 0, all - 1, 0xa5), "rows have 64 bytes a node");
-  expect(busconf_speed_rows(quads, count, standard, rows, all, &needed, &fault) == BUSCONF_VALID, "all rows");
+  expect(busconf_speed_rows(quads, count, standard, rows, all, &needed, &fault) == BUSCONF_OK, "all rows");
   for (a = 0; a < bus->nodes; a++)
     for (b = 0; b < 64; b++)
       expect(b < bus->nodes ? rows[64 * a + b] == rows[64 * b + a] : rows[64 * a + b] == 0, "speeds go both ways");
@@ -136,9 +136,9 @@ static void check_reader(const uint32_t *quads, size_t count) {
     struct busconf_fault told, read;
     uint32_t state = busconf_reader_state(reader, &told);
     uint32_t status = read_into(quads, n, BUSCONF_IEEE2000, BUSCONF_MAX_NODES, &bus, &read);
-    expect((state == BUSCONF_VALID) == (status == BUSCONF_VALID), "the reader says when a list is whole");
+    expect((state == BUSCONF_OK) == (status == BUSCONF_OK), "the reader says when a list is whole");
     if (status == BUSCONF_REFUSED) {
-      int ends = read.kind == BUSCONF_EMPTY || read.kind == BUSCONF_NO_ROOT || read.kind == BUSCONF_CUT;
+      int ends = read.kind == BUSCONF_FAULT_EMPTY || read.kind == BUSCONF_FAULT_NO_ROOT || read.kind == BUSCONF_FAULT_CUT;
       expect(same_fault(&told, &read), "the reader tells the list's fault");
       expect(state == (ends ? BUSCONF_INCOMPLETE : BUSCONF_REFUSED), "the reader says whether the fault lasts");
     }
@@ -161,7 +161,7 @@ static void check_texts(void) {
     fault.kind = (uint8_t)kind;
     status = busconf_fault_text(&fault, place, 0, &needed);
     free(place);
-    if (kind < BUSCONF_NOT_SELF_ID || kind > BUSCONF_BAD_INVERSE) {
+    if (kind < BUSCONF_FAULT_NOT_SELF_ID || kind > BUSCONF_FAULT_BAD_INVERSE) {
       expect(status == BUSCONF_REFUSED && needed == 500, "no such kind");
       continue;
     }
@@ -171,7 +171,7 @@ static void check_texts(void) {
     expect(filled(place, 0, needed - 1, 0xa5), "no line is cut");
     free(place);
     place = (char *)block(needed, 0xa5);
-    expect(busconf_fault_text(&fault, place, needed, &again) == BUSCONF_VALID && again == needed, "exactly as much");
+    expect(busconf_fault_text(&fault, place, needed, &again) == BUSCONF_OK && again == needed, "exactly as much");
     expect(memcmp(place, "refused pair 7 ", 15) == 0 && place[needed - 1] == '\n', "a line is whole");
     free(place);
   }
@@ -190,10 +190,10 @@ static void check_bytes(const uint32_t *quads, size_t count, uint32_t standard) 
   if (status == BUSCONF_REFUSED) expect(same_fault(&of_list, &of_bytes), "bytes have the list's fault");
   if (count) {
     expect(busconf_read_capture(bytes, 8 * count - 1, standard, nodes, BUSCONF_MAX_NODES, &b, &of_bytes)
-               == BUSCONF_REFUSED && of_bytes.kind == BUSCONF_BAD_LENGTH && of_bytes.at == count - 1, "one byte less");
+               == BUSCONF_REFUSED && of_bytes.kind == BUSCONF_FAULT_BAD_LENGTH && of_bytes.at == count - 1, "one byte less");
     bytes[8 * count - 1] ^= 1;
     expect(busconf_read_capture(bytes, 8 * count, standard, nodes, BUSCONF_MAX_NODES, &b, &of_bytes) == BUSCONF_REFUSED
-               && of_bytes.kind == BUSCONF_BAD_INVERSE && of_bytes.at == count - 1, "one bit turned");
+               && of_bytes.kind == BUSCONF_FAULT_BAD_INVERSE && of_bytes.at == count - 1, "one bit turned");
   }
   free(nodes);
   free(bytes);
@@ -214,12 +214,12 @@ static void check_capture(const char *path, uint32_t standard) {
   status = read_into(quads, count, standard, 0, &bus, &fault);
   expect(status == BUSCONF_TOO_SHORT || status == BUSCONF_REFUSED, "no bus has room in none");
   if (status == BUSCONF_TOO_SHORT) {
-    expect(read_into(quads, count, standard, bus.nodes, &one, &fault) == BUSCONF_VALID, "exactly the nodes");
+    expect(read_into(quads, count, standard, bus.nodes, &one, &fault) == BUSCONF_OK, "exactly the nodes");
     expect(one.nodes == bus.nodes && one.root == bus.root && one.manager == bus.manager, "one bus");
     again = read_into(quads, count, standard, bus.nodes - 1u, &one, &fault);
     expect(again == BUSCONF_TOO_SHORT && one.nodes == bus.nodes, "one node less");
     check_rows(quads, count, standard, &bus);
-    status = BUSCONF_VALID;
+    status = BUSCONF_OK;
   }
   check_image(busconf_topology_map, quads, count, standard, status);
   check_image(busconf_speed_map, quads, count, standard, status);
@@ -227,11 +227,11 @@ static void check_capture(const char *path, uint32_t standard) {
   expect(status ? hops == 200 : hops < bus.nodes, "hops are those of the bus, or stay");
   again = busconf_plan(quads, count, standard, &plan, &fault);
   if (!status) {
-    expect(again == (bus.manager == BUSCONF_NO_NODE ? BUSCONF_NO_CANDIDATE : BUSCONF_VALID), "a plan where one is elected");
+    expect(again == (bus.manager == BUSCONF_ID_NONE ? BUSCONF_NO_CANDIDATE : BUSCONF_OK), "a plan where one is elected");
     if (!again) {
       struct busconf_packet packet;
       busconf_decode(plan.packet, &packet);
-      expect(packet.kind == BUSCONF_CONFIG && packet.phy_id == plan.root && packet.gap == plan.gap && packet.force
+      expect(packet.kind == BUSCONF_PACKET_CONFIG && packet.phy_id == plan.root && packet.gap == plan.gap && packet.force
                  && packet.set_gap, "the plan's packet says what the plan says");
       expect(plan.hops == hops && plan.gap == busconf_gap_for(hops), "the plan's gap is that of the hops");
     }
@@ -240,7 +240,7 @@ static void check_capture(const char *path, uint32_t standard) {
     struct busconf_packet packet;
     uint32_t quad = ~quads[n];
     busconf_decode(quads[n], &packet);
-    expect(busconf_encode(&packet, &quad) == BUSCONF_VALID && quad == quads[n], "a packet is written as it was read");
+    expect(busconf_encode(&packet, &quad) == BUSCONF_OK && quad == quads[n], "a packet is written as it was read");
   }
   expect(read_into(quads, count, 1996, 0, &bus, &fault) == BUSCONF_NO_STANDARD, "no standard");
   check_bytes(quads, count, standard);
@@ -251,8 +251,8 @@ static void check_capture(const char *path, uint32_t standard) {
 /* Quadlets of each kind, and packets that are none. */
 static void check_packets(void) {
   static const uint32_t quads[] = {0x817f88d4u, 0x8483555cu, 0x01c50000u, 0x42000000u, 0x03040000u, 0xc0000001u};
-  static const uint8_t kinds[] = {BUSCONF_SELF_ZERO, BUSCONF_SELF_MORE, BUSCONF_CONFIG, BUSCONF_LINK_ON, BUSCONF_EXTENDED,
-                                  BUSCONF_OTHER};
+  static const uint8_t kinds[] = {BUSCONF_PACKET_SELF_ZERO, BUSCONF_PACKET_SELF_MORE, BUSCONF_PACKET_CONFIG, BUSCONF_PACKET_LINK_ON, BUSCONF_PACKET_EXTENDED,
+                                  BUSCONF_PACKET_OTHER};
   struct busconf_packet packet;
   uint32_t quad = 5;
   size_t n;
@@ -260,7 +260,7 @@ static void check_packets(void) {
   for (n = 0; n < sizeof quads / sizeof *quads; n++) {
     busconf_decode(quads[n], &packet);
     expect(packet.kind == kinds[n], "the kind of a quadlet");
-    expect(busconf_encode(&packet, &quad) == BUSCONF_VALID && quad == quads[n], "both ways");
+    expect(busconf_encode(&packet, &quad) == BUSCONF_OK && quad == quads[n], "both ways");
   }
   quad = 5;
   packet.kind = 0;
@@ -282,17 +282,17 @@ static void check_registers(void) {
   regs = first;
   expect(regs.bus_manager_id == 63 && regs.bandwidth_available == 4915, "the values after a reset");
   busconf_registers_look(&regs, &seen);
-  expect(busconf_registers_allocate(&regs, &seen, 31, 915, &fault) == BUSCONF_VALID, "a channel is taken");
+  expect(busconf_registers_allocate(&regs, &seen, 31, 915, &fault) == BUSCONF_OK, "a channel is taken");
   expect(regs.bandwidth_available == 4000 && regs.channels_available_hi == 0xfffffffeu, "its bit and its units");
   expect(busconf_registers_allocate(&regs, &seen, 32, 1, &fault) == BUSCONF_REFUSED, "what was seen changed");
-  expect(fault.kind == BUSCONF_CHANGED && fault.detail == 0x220 && fault.now == 4000, "by which register");
+  expect(fault.kind == BUSCONF_GRANT_CHANGED && fault.detail == 0x220 && fault.now == 4000, "by which register");
   busconf_registers_look(&regs, &seen);
   expect(busconf_registers_allocate(&regs, &seen, 31, 1, &fault) == BUSCONF_REFUSED, "the channel is held");
-  expect(fault.kind == BUSCONF_NO_CHANNEL, "no channel");
+  expect(fault.kind == BUSCONF_GRANT_NO_CHANNEL, "no channel");
   expect(busconf_registers_allocate(&regs, &seen, 32, 4001, &fault) == BUSCONF_REFUSED, "too much");
-  expect(fault.kind == BUSCONF_NO_BANDWIDTH && fault.detail == 4000, "no bandwidth");
+  expect(fault.kind == BUSCONF_GRANT_NO_BANDWIDTH && fault.detail == 4000, "no bandwidth");
   expect(busconf_registers_allocate(&regs, &seen, 64, 1, &fault) == BUSCONF_OUT_OF_RANGE, "no such channel");
-  expect(busconf_registers_release(&regs, &seen, 31, 915, &fault) == BUSCONF_VALID, "it is given back");
+  expect(busconf_registers_release(&regs, &seen, 31, 915, &fault) == BUSCONF_OK, "it is given back");
   expect(memcmp(&regs, &first, sizeof regs) == 0, "all is as at first");
   busconf_registers_read(&regs, 0x220, &reply);
   expect(reply.rcode == 0 && reply.value == 4915, "a read");
@@ -303,7 +303,7 @@ static void check_registers(void) {
   busconf_registers_lock(&regs, 0x220, 2, 4915, 0xffff, &reply);
   expect(reply.value == 4915 && regs.bandwidth_available == 0x1fff, "a lock, cut to the width");
   expect(busconf_registers_attempt(&regs, 63, &manager) == BUSCONF_OUT_OF_RANGE && manager == 200, "no node");
-  expect(busconf_registers_attempt(&regs, 5, &manager) == BUSCONF_VALID && manager == 5, "the first is elected");
+  expect(busconf_registers_attempt(&regs, 5, &manager) == BUSCONF_OK && manager == 5, "the first is elected");
   expect(busconf_registers_attempt(&regs, 6, &manager) == BUSCONF_REFUSED && manager == 5, "and no second");
 }
 

@@ -16,34 +16,50 @@ def snake(name):
 
 
 header = text("include/busconf.h")
-has = {name: int(number) for name, number in re.findall(r"#define BUSCONF_(\w+) (\d+)u", header)}
+enums = {
+    name: {it: int(number) for it, number in re.findall(r"\bBUSCONF_(\w+) = (\d+)", body)}
+    for name, body in re.findall(r"^enum busconf_(\w+) \{\n(.*?)^\};", header, re.M | re.S)
+}
+renamed = re.findall(r"^  BUSCONF_RENAMED\(BUSCONF_(\w+), BUSCONF_(\w+)\)", header, re.M)
+has = {name: int(number) for name, number in re.findall(r"#define BUSCONF_(\w+) (\d+)u?\b", header)}
+for body in enums.values():
+    has |= body
 wants = {}
 crate, border, scripts = "crates/busconf_c", "crates/c_border", "crates/script_c"
-for name, number in re.findall(r"_record \(?(\w+).*?\)? =\s+fault_with (\d+)", text(f"{crate}/specs/Faults.antt")):
-    wants[snake(name)] = int(number)
+
+
+def want(prefix, path, pattern):
+    for name, number in re.findall(pattern, text(path), re.M):
+        wants[prefix + snake(name)] = int(number)
+
+
+want("FAULT_", f"{crate}/specs/Faults.antt", r"_record \(?(\w+).*?\)? =\s+fault_with (\d+)")
+want("PACKET_", f"{crate}/specs/Packets.antt", r"packet_record \((\w+)[^)]*\) =\s+record \(blank (\d+)\)")
+want("ROM_", f"{crate}/specs/Roms.antt", r"rom_record \((?:Rom)?(\w+).*?\) =\s+rom_fault_with (\d+)")
+want("BLOCK_", f"{crate}/specs/Roms.antt", r"kind_number (\w+) = (\d+)")
+want("CRC_", f"{crate}/specs/Roms.antt", r"block_of b \(?(\w+).*? = block_with b (\d+)")
+want("GRANT_", f"{crate}/specs/Registers.antt", r"grant_record \(?(\w+).* kind = (\d+) }")
+want("SCRIPT_", f"{scripts}/specs/Faults.antt", r"^kind_number (\w+) = (\d+)$")
+want("SLOT_", "crates/self_id/specs/Node.antt", r"^status_bits (\w+) = (\d)$")
 for name, number in re.findall(r"^(bad_\w+) pair = fault_with (\d+)", text(f"{crate}/specs/Faults.antt"), re.M):
-    wants[name.upper()] = int(number)
-for name, number in re.findall(r"packet_record \((\w+)[^)]*\) =\s+record \(blank (\d+)\)", text(f"{crate}/specs/Packets.antt")):
-    wants[snake(name)] = int(number)
-for name, number in re.findall(r"rom_record \((\w+).*?\) =\s+rom_fault_with (\d+)", text(f"{crate}/specs/Roms.antt")):
-    wants[snake(name)] = int(number)
-for name, number in re.findall(r"kind_number (\w+) = (\d+)", text(f"{crate}/specs/Roms.antt")):
-    wants[snake(name)] = int(number)
-for name, number in re.findall(r"block_of b \(?(\w+).*? = block_with b (\d+)", text(f"{crate}/specs/Roms.antt")):
-    wants["CRC_" + snake(name)] = int(number)
-for name, number in re.findall(r"grant_record \(?(\w+).* kind = (\d+) }", text(f"{crate}/specs/Registers.antt")):
-    wants[snake(name)] = int(number)
-for name, number in re.findall(r"^kind_number (\w+) = (\d+)$", text(f"{scripts}/specs/Faults.antt"), re.M):
-    wants["SCRIPT_" + snake(name)] = int(number)
+    wants["FAULT_" + name.upper()] = int(number)
 for name, number in re.findall(r"pub const (\w+): \w+ = (\d+);", text(f"{border}/src/status.rt") + text(f"{crate}/src/records.rt")):
     wants[name] = int(number)
-for name, number in re.findall(r"^status_bits (\w+) = (\d)$", text("crates/self_id/specs/Node.antt"), re.M):
-    wants[snake(name)] = int(number)
 for year in re.findall(r"year == (\d+) then Some", text(f"{crate}/specs/Answers.antt")):
     wants[f"IEEE{year}"] = int(year)
-wants["NO_NODE"] = int(re.search(r"^id_or_none None = (\d+)$", text(f"{crate}/specs/Shown.antt"), re.M)[1])
+wants["ID_NONE"] = int(re.search(r"^id_or_none None = (\d+)$", text(f"{crate}/specs/Shown.antt"), re.M)[1])
 wants["MAX_NODES"] = int(re.search(r"length \(walk t\) ≤ (\d+)", text("crates/topology_stack/specs/Tree.antt"))[1])
+wants["VERSION"] = int(re.search(r"ensures \{ result ≡ (\d+) \}", text(f"{crate}/src/version.rt"))[1])
 bad = [f"{it}: header {has.get(it)}, contracts {wants.get(it)}" for it in sorted({*has, *wants}) if has.get(it) != wants.get(it)]
+
+# The version is that of the programs. Each family of numbers but the answers has a prefix. Old names lead to names.
+parts = re.search(r'^pub const VERSION: &str = "(\d+)\.(\d+)\.(\d+)";', text("crates/about/src/lib.rt"), re.M)
+if has["VERSION"] != int(parts[1]) * 1000000 + int(parts[2]) * 1000 + int(parts[3]):
+    bad.append(f"the version is {'.'.join(parts.groups())}")
+for name, body in enums.items():
+    if body and name != "status" and not re.match(r"[A-Z]+_|IEEE", os.path.commonprefix(list(body))):
+        bad.append(f"enum busconf_{name}: no prefix")
+bad += [f"{old} is {now}" for old, now in renamed if old in has or now not in has]
 
 # What the heads of definitions say of the statuses, as `0 valid`, and that each digit behind a status is said there.
 for file in [border, crate, scripts]:
@@ -74,9 +90,14 @@ for it in [crate, scripts]:
         for name, words in re.findall(r'pub extern "C" fn (\w+)\((.*?)\)\s*(?:->|\n|ensures)', text(f"{it}/src/{file}.rt"), re.S):
             exports[name] = "alloc: Global" in words and name != "busconf_reader_state"
 declared = {}
-for said, name in re.findall(r"/\*((?:(?!\*/).)*)\*/\n\w+ (busconf_\w+)\(", header, re.S):
+for said, name in re.findall(r"/\*((?:(?!\*/).)*)\*/\n(?:enum )?\w+ (busconf_\w+)\(", header, re.S):
     declared[name] = "Takes memory." in said
 bad += [f"{it}: only in one of the header and the crates" for it in sorted(set(exports) ^ set(declared))]
 bad += [f"{it}: whether it takes memory" for it in sorted(set(exports) & set(declared)) if exports[it] != declared[it]]
+
+# What takes a length has something before it, which makes a pointer to something of a null one.
+before = re.findall(r"^PROVED\((\w+)\);", text("border/busconf_c.c") + text("border/script_c.c"), re.M)
+lengths = re.findall(r"^(?:enum )?\w+ (busconf_\w+)\([^;]*\bsize_t (?:count|room)\b[^;]*\);", header, re.M)
+bad += [f"{it}: a length without border/, or the other way round" for it in sorted(set(before) ^ set(lengths))]
 print("\n".join(bad) or f"numbers: {len(wants)} numbers, {len(records)} records and {len(exports)} calls of the header are the crates'")
 sys.exit(1 if bad else 0)

@@ -48,7 +48,7 @@ static char *sentence(const uint8_t *bytes, const uint32_t *quads, size_t count,
     status = quads ? busconf_sentence(quads, count, standard, fault, place, rooms[n], &told)
                    : busconf_sentence_capture(bytes, count, standard, fault, place, rooms[n], &told);
     expect(told == *length, "one length");
-    expect(status == (n ? BUSCONF_VALID : BUSCONF_TOO_SHORT), "a sentence has room, or says so");
+    expect(status == (n ? BUSCONF_OK : BUSCONF_TOO_SHORT), "a sentence has room, or says so");
     expect(n ? filled(place + told, rooms[n] - told) : filled(place, rooms[n]), "what isn't told stays");
   }
   return place;
@@ -110,10 +110,10 @@ int main(int argc, char **argv) {
              | bytes[8 * n + 3];
   if (busconf_read_capture(bytes, size, standard, nodes, BUSCONF_MAX_NODES, &bus, &fault) == BUSCONF_REFUSED) {
     char line[128], *text = sentence(bytes, NULL, size, &fault, &length);
-    if (busconf_fault_text(&fault, line, sizeof line, &n) != BUSCONF_VALID) return 3;
+    if (busconf_fault_text(&fault, line, sizeof line, &n) != BUSCONF_OK) return 3;
     fwrite(line, 1, n, stdout);
     fwrite(text, 1, length, stdout);
-    if (fault.kind <= BUSCONF_TOO_MANY) {
+    if (fault.kind <= BUSCONF_FAULT_TOO_MANY) {
       char *of_list = sentence(NULL, quads, count, &fault, &other);
       expect(other == length && memcmp(text, of_list, length) == 0, "a list has its capture's sentence");
       free(of_list);

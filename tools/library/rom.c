@@ -14,7 +14,7 @@ int main(void) {
   uint8_t *bytes = (uint8_t *)malloc(count ? count : 1);
   struct busconf_block *place = (struct busconf_block *)malloc(sizeof *place);
   struct busconf_rom_fault fault;
-  uint32_t status;
+  enum busconf_status status;
   if (!bytes || !place) return 2;
   for (n = 0; n < count; n++) bytes[n] = all[n];
   status = busconf_rom_check(bytes, count, place, 0, &needed, &fault);
@@ -29,10 +29,10 @@ int main(void) {
   place = (struct busconf_block *)malloc(needed * sizeof *place);
   if (!place) return 2;
   if (busconf_rom_check(bytes, count, place, needed - 1, &again, &fault) != BUSCONF_TOO_SHORT || again != needed) return 4;
-  if (busconf_rom_check(bytes, count, place, needed, &again, &fault) != BUSCONF_VALID || again != needed) return 5;
+  if (busconf_rom_check(bytes, count, place, needed, &again, &fault) != BUSCONF_OK || again != needed) return 5;
   for (n = 0; n < needed; n++) {
     const struct busconf_block *b = &place[n];
-    printf("%s %u length %u crc ", b->kind == BUSCONF_DIRECTORY ? "directory" : "leaf", (unsigned)b->at,
+    printf("%s %u length %u crc ", b->kind == BUSCONF_BLOCK_DIRECTORY ? "directory" : "leaf", (unsigned)b->at,
            (unsigned)b->length);
     if (b->crc == BUSCONF_CRC_GOOD) printf("good\n");
     else printf("bad %04x %04x\n", (unsigned)b->kept, (unsigned)b->computed);

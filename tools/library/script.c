@@ -7,7 +7,8 @@
 #include <stdlib.h>
 #include <string.h>
 
-typedef uint32_t (*script_call)(const char *, size_t, char *, size_t, size_t *, struct busconf_script_fault *);
+typedef enum busconf_status (*script_call)(const char *, size_t, char *, size_t, size_t *,
+                                           struct busconf_script_fault *);
 
 static const char *const kinds[] = {"",        "Word",       "Number", "Name",       "Twice",     "Late",
                                     "TooManyNodes", "NoNode", "NoPort", "InUse",     "SameNode",  "NotPlugged",
@@ -50,7 +51,7 @@ int main(int argc, char **argv) {
   struct busconf_script_fault fault = {77, 99}, again = {77, 99};
   size_t count, needed = 7, told = 7;
   char *script = input(&count), *none = block(0), *place;
-  uint32_t status = call(script, count, none, 0, &needed, &fault);
+  enum busconf_status status = call(script, count, none, 0, &needed, &fault);
   free(none);
   if (status == BUSCONF_REFUSED) {
     if (needed != 7 || fault.kind < BUSCONF_SCRIPT_WORD || fault.kind > BUSCONF_SCRIPT_TOO_MANY_MAPS) return 3;
@@ -59,7 +60,7 @@ int main(int argc, char **argv) {
     return 1;
   }
   if (fault.line != 77 || fault.kind != 99) return 4;
-  if (status != (needed ? BUSCONF_TOO_SHORT : BUSCONF_VALID)) return 5;
+  if (status != (needed ? BUSCONF_TOO_SHORT : BUSCONF_OK)) return 5;
   if (needed) {
     place = block(needed - 1);
     if (call(script, count, place, needed - 1, &told, &again) != BUSCONF_TOO_SHORT || told != needed) return 6;
@@ -67,11 +68,11 @@ int main(int argc, char **argv) {
     free(place);
   }
   place = block(needed + 3);
-  if (call(script, count, place, needed + 3, &told, &again) != BUSCONF_VALID || told != needed) return 8;
+  if (call(script, count, place, needed + 3, &told, &again) != BUSCONF_OK || told != needed) return 8;
   if (!filled(place + needed, 3)) return 9;
   free(place);
   place = block(needed);
-  if (call(script, count, place, needed, &told, &again) != BUSCONF_VALID || told != needed) return 10;
+  if (call(script, count, place, needed, &told, &again) != BUSCONF_OK || told != needed) return 10;
   fwrite(place, 1, needed, stdout);
   free(place);
   free(script);

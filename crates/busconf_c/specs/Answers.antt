@@ -1,5 +1,5 @@
 -- What a call answers that reads the list of a bus.
--- Statuses: 0 valid, 1 refused, 2 no memory, 3 too short, 4 no standard.
+-- Statuses: 0 ok, 1 refused, 2 no memory, 3 too short, 4 no standard.
 use Rattle.std.specs.Prelude.{◌≡◌, ℕ, ◌<◌, ◌==◌, if◌then◌else◌, Option, Some, None, List, length, ◌≢◌, ◌/◌, ◌%◌}
 use Rattle.quad_lanes.specs.Pairs.{quads_of, firsts, first_bad_pair}
 use Rattle.self_id.specs.declared.standard.Standard.{Standard}

@@ -1,5 +1,5 @@
 -- The records of PHY packets.
--- Statuses: 0 valid, 1 refused.
+-- Statuses: 0 ok, 1 refused.
 use Rattle.std.specs.Prelude.{◌≡◌, ℕ, ◌%◌, ◌^◌, Bool, not, ◌==◌, if◌then◌else◌, Option, Some, None}
 use Rattle.topology_stack.specs.Text.{truth}
 use Rattle.phy_packet.specs.Packet.{quad_of, IsValid}

@@ -1,5 +1,5 @@
 -- The record of the root that suits a bus best.
--- Statuses: 0 valid, 5 no candidate.
+-- Statuses: 0 ok, 5 no candidate.
 use Rattle.std.specs.Prelude.{◌≡◌, ℕ, true, None}
 use Rattle.phy_packet.specs.Packet.{quad_of}
 use Rattle.phy_packet.specs.declared.packet.PhyPacket.TheVariants.{Config}
@@ -14,9 +14,9 @@ use Rattle.busconf_c.specs.declared.records.PlanRecord.{PlanRecord}
 -- the best root of a tree's bus, and the packet that makes it root
 pub record IsPlanRecord (t : Tree) (r : PlanRecord) : Type 0 where
   pub eligible : IsCandidate (walk t) r.root
-  pub far : IsReach t r.root r.far
-  pub least : NoneReachesLess t r.far
-  pub highest : NoneIsHigher t r.root r.far
+  pub reach : IsReach t r.root r.reach
+  pub least : NoneReachesLess t r.reach
+  pub highest : NoneIsHigher t r.root r.reach
   pub hops : IsHops t r.hops
   pub gap : r.gap ≡ gap_of r.hops
   pub packet : r.packet ≡ quad_of (Config r.root true true r.gap 0)

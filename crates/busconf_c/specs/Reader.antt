@@ -1,5 +1,5 @@
 -- A reader of fixed size: for which list it stands, and what is told of that list.
--- Statuses: 0 valid, 1 refused, 6 incomplete.
+-- Statuses: 0 ok, 1 refused, 6 incomplete.
 use Rattle.std.specs.Prelude.{◌≡◌, ℕ, List, length, take}
 use Rattle.self_id.specs.declared.standard.Standard.TheVariants.{Ieee2000}
 use Rattle.topology_stack.specs.declared.fault.TreeFault.{TreeFault}

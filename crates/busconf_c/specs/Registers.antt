@@ -1,5 +1,5 @@
 -- The records of an isochronous resource manager.
--- Statuses: 0 valid, 1 refused, 7 out of range.
+-- Statuses: 0 ok, 1 refused, 7 out of range.
 use Rattle.std.specs.Prelude.{◌≡◌, ◌≢◌, ℕ, ◌≤◌, ◌<◌, Option, None, Some}
 use Rattle.resource_manager.specs.declared.register.Register.TheVariants.{BusManagerId, BandwidthAvailable, ChannelsAvailableHi, ChannelsAvailableLo}
 use Rattle.resource_manager.specs.declared.registers.Reply.{Reply}

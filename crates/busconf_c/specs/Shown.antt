@@ -17,16 +17,16 @@ id_or_none (Some id) = id
 
 -- a slot with this status, and what stands at its other end
 abbrev pub slot_record : PortStatus → Option ℕ → SlotRecord
-slot_record status far = record { status = status_bits status; far = id_or_none far }
+slot_record status peer = record { status = status_bits status; peer = id_or_none peer }
 
 -- a slot that a node doesn't have
 abbrev pub no_slot : SlotRecord
-no_slot = record { status = 0; far = 63 }
+no_slot = record { status = 0; peer = 63 }
 
 -- the record of this slot of a tree's node, or of a slot behind its last
 pub record IsSlotOf (t : Tree) (id slot : ℕ) (r : SlotRecord) : Type 0 where
-  pub shown : (n : Node) (status : PortStatus) (far : Option ℕ) → slice_get (walk t) id ≡ Some n →
-      slice_get n.ports slot ≡ Some status → Far t id slot far → r ≡ slot_record status far
+  pub shown : (n : Node) (status : PortStatus) (peer : Option ℕ) → slice_get (walk t) id ≡ Some n →
+      slice_get n.ports slot ≡ Some status → Far t id slot peer → r ≡ slot_record status peer
   pub blank : (n : Node) → slice_get (walk t) id ≡ Some n → length n.ports ≤ slot → r ≡ no_slot
 
 -- what a node says of itself, beside slots that have these records

@@ -15,3 +15,4 @@ mod rom;
 mod sentence;
 mod shown;
 mod tree;
+mod version;

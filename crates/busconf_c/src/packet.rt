@@ -5,7 +5,7 @@ ghost use Rattle.phy_packet.specs.declared.packet.PhyPacket.{PhyPacket};
 ghost use Rattle.busconf_c.specs.Packets.{blank, packet_record, packet_in, Encodes, RecordsAreReadBack};
 
 use crate::records::PacketRecord;
-use c_border::{REFUSED, VALID};
+use c_border::{OK, REFUSED};
 use phy_packet::{PhyPacket, decode, encode, is_valid};
 
 /// A record of this kind that has 0 in all other fields.
@@ -175,7 +175,7 @@ pub extern "C" fn busconf_encode(packet: &PacketRecord, quad: &mut u32) -> u32
     match packet_in(packet) {
         Some(found) if is_valid(&found) => {
             *quad = encode(&found);
-            VALID
+            OK
         }
         _ => REFUSED,
     }

@@ -6,7 +6,7 @@ use crate::answer::tree_of;
 use crate::fault::fault_with;
 use crate::records::{BusRecord, FaultRecord, NodeRecord};
 use crate::shown::{bus_record, show_nodes};
-use c_border::{NO_MEMORY, REFUSED, TOO_SHORT, VALID};
+use c_border::{NO_MEMORY, OK, REFUSED, TOO_SHORT};
 use quad_lanes::{PairFault, QuadList, first_bad_pair, firsts, pairs_of};
 use std::alloc::Global;
 use topology_stack::BusTree;
@@ -20,7 +20,7 @@ pub(crate) fn show(tree: &BusTree, nodes: &mut [NodeRecord], bus: &mut BusRecord
         return TOO_SHORT;
     }
     show_nodes(tree, nodes);
-    VALID
+    OK
 }
 
 /// Reads a list by the standard of a year.

@@ -9,7 +9,7 @@ ghost use Rattle.busconf_c.specs.Reader.{HasTaken, TellsState};
 
 use crate::fault::tree_record;
 use crate::records::{FaultRecord, READER_QUADS, ReaderRecord};
-use c_border::{INCOMPLETE, REFUSED, VALID};
+use c_border::{INCOMPLETE, OK, REFUSED};
 use self_id::GroupFault;
 use std::alloc::Global;
 use topology_stack::{BusTree, TreeFault, TreeReader, TreeStop, one_answer};
@@ -117,7 +117,7 @@ pub extern "C" fn busconf_reader_state(
 {
     let count = (reader.count as usize).min(READER_QUADS);
     let Some(found) = fault_of(alloc, &reader.quads[..count]) else {
-        return VALID;
+        return OK;
     };
     *fault = tree_record(found);
     if is_lasting(found) {

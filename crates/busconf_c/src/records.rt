@@ -14,7 +14,7 @@ pub struct SlotRecord {
     /// The two bits of the port status: 0 absent, 1 unplugged, 2 up to the parent, 3 down to a child.
     pub status: u8,
     /// The ID of the node at the other end, or 63 where there is none.
-    pub far: u8,
+    pub peer: u8,
 }
 
 /// A node of a bus.
@@ -127,7 +127,7 @@ pub struct PlanRecord {
     /// The gap count for them.
     pub gap: u8,
     /// The reach of the root.
-    pub far: u8,
+    pub reach: u8,
 }
 
 /// A reader.

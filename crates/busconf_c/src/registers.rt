@@ -8,7 +8,7 @@ ghost use Rattle.busconf_c.specs.Registers.{registers_record, values_in, reply_r
 
 use crate::records::{GrantRecord, RegistersRecord, ReplyRecord, SeenRecord};
 use bus_manager::attempt;
-use c_border::{OUT_OF_RANGE, REFUSED, VALID};
+use c_border::{OK, OUT_OF_RANGE, REFUSED};
 use resource_manager::{
     COMPARE_SWAP, GrantFault, Register, Registers, Reply, Seen, allocate, look, release,
 };
@@ -187,7 +187,7 @@ pub extern "C" fn busconf_registers_allocate(
     match allocate(&mut held, seen_in(seen), channel, units) {
         Ok(()) => {
             *regs = registers_record(&held);
-            VALID
+            OK
         }
         Err(found) => {
             *fault = grant_record(found);
@@ -217,7 +217,7 @@ pub extern "C" fn busconf_registers_release(
     match release(&mut held, seen_in(seen), channel, units) {
         Ok(()) => {
             *regs = registers_record(&held);
-            VALID
+            OK
         }
         Err(found) => {
             *fault = grant_record(found);
@@ -246,5 +246,5 @@ pub extern "C" fn busconf_registers_attempt(
     let _bid = attempt(&mut held, id);
     *regs = registers_record(&held);
     *manager = id;
-    VALID
+    OK
 }

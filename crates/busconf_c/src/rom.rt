@@ -4,7 +4,7 @@ ghost use Rattle.c_border.specs.Places.{IsTold};
 ghost use Rattle.busconf_c.specs.Roms.{rom_fault_with, rom_record, block_with, block_record, TellsBlocks, TellsRom};
 
 use crate::records::{BlockRecord, RomFaultRecord};
-use c_border::{NO_MEMORY, REFUSED, TOO_SHORT, VALID};
+use c_border::{NO_MEMORY, OK, REFUSED, TOO_SHORT};
 use config_rom::{Block, BlockKind, CrcState, Rom, RomFault, RomStop, blocks, decode_rom};
 use std::alloc::Global;
 
@@ -73,7 +73,7 @@ fn tell_blocks(list: &[Block], place: &mut [BlockRecord], needed: &mut usize) ->
     for (i, block) in list.iter().enumerate() {
         place[i] = block_record(*block);
     }
-    VALID
+    OK
 }
 
 /// Tells the blocks of a ROM, or their first fault.

@@ -13,7 +13,7 @@ const NO_NODE: u8 = 63;
 /// A slot that a node doesn't have.
 const NO_SLOT: SlotRecord = SlotRecord {
     status: 0,
-    far: NO_NODE,
+    peer: NO_NODE,
 };
 
 /// An ID, or the number that names no node.
@@ -27,8 +27,8 @@ fn id_or_none(id: Option<u8>) -> u8
 }
 
 /// The record of a slot with what stands at its other end.
-fn slot_record(status: PortStatus, far: Option<u8>) -> SlotRecord
-    ensures { result ≡ slot_record status far }
+fn slot_record(status: PortStatus, peer: Option<u8>) -> SlotRecord
+    ensures { result ≡ slot_record status peer }
 {
     let status = match status {
         PortStatus::Absent => 0,
@@ -38,7 +38,7 @@ fn slot_record(status: PortStatus, far: Option<u8>) -> SlotRecord
     };
     SlotRecord {
         status,
-        far: id_or_none(far),
+        peer: id_or_none(peer),
     }
 }
 

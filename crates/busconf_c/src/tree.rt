@@ -12,7 +12,7 @@ ghost use Rattle.busconf_c.specs.Plans.{TellsPlan};
 
 use crate::answer::tree_of;
 use crate::records::{FaultRecord, PlanRecord};
-use c_border::{NO_CANDIDATE, NO_MEMORY, VALID, tell_bytes, tell_quads};
+use c_border::{NO_CANDIDATE, NO_MEMORY, OK, tell_bytes, tell_quads};
 use quad_lanes::{OutOfMemory, QuadList};
 use std::alloc::Global;
 use topology_stack::BusTree;
@@ -33,7 +33,7 @@ pub extern "C" fn busconf_hops(
     match tree_of(alloc, quads, year, fault) {
         Ok(tree) => {
             *hops = bus_manager::hops(&tree);
-            VALID
+            OK
         }
         Err(status) => status,
     }
@@ -60,9 +60,9 @@ fn plan_of(tree: &BusTree, plan: &mut PlanRecord) -> u32
         root: best.root_id,
         hops: best.hops,
         gap: best.gap,
-        far: best.far,
+        reach: best.far,
     };
-    VALID
+    OK
 }
 
 /// Tells the root that suits a bus best, and the packet that makes it root.

@@ -1,5 +1,5 @@
 -- What is told at a place of the caller's.
--- Statuses: 0 valid, 2 no memory, 3 too short.
+-- Statuses: 0 ok, 2 no memory, 3 too short.
 use Rattle.std.specs.Prelude.{◌≡◌, ℕ, ◌<◌, ◌≤◌, Result, Ok, Err, List, ◌++◌, length, drop}
 
 -- a list stands at the front of a place, and what is behind it stays; where the place is too short

@@ -1,7 +1,7 @@
 //! Lists at places of the caller's.
 ghost use Rattle.c_border.specs.Places.{IsTold};
 
-use crate::status::{TOO_SHORT, VALID};
+use crate::status::{OK, TOO_SHORT};
 
 /// Writes bytes to the front of a place, where it has room, and tells how many they are.
 pub fn tell_bytes(bytes: &[u8], place: &mut [u8], needed: &mut usize) -> u32
@@ -13,7 +13,7 @@ pub fn tell_bytes(bytes: &[u8], place: &mut [u8], needed: &mut usize) -> u32
         return TOO_SHORT;
     }
     place[..count].copy_from_slice(bytes);
-    VALID
+    OK
 }
 
 /// Writes quadlets to the front of a place, where it has room, and tells how many they are.
@@ -26,5 +26,5 @@ pub fn tell_quads(quads: &[u32], place: &mut [u32], needed: &mut usize) -> u32
         return TOO_SHORT;
     }
     place[..length].copy_from_slice(quads);
-    VALID
+    OK
 }

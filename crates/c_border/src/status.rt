@@ -1,7 +1,7 @@
 //! What a call answers. Contracts have these numbers as digits.
 
 /// The call did what it is for.
-pub const VALID: u32 = 0;
+pub const OK: u32 = 0;
 
 /// What was read has a fault, which is told.
 pub const REFUSED: u32 = 1;

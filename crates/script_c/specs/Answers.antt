@@ -1,5 +1,5 @@
 -- What a call answers that runs a script.
--- Statuses: 0 valid, 1 refused, 2 no memory, 3 too short, 8 too long.
+-- Statuses: 0 ok, 1 refused, 2 no memory, 3 too short, 8 too long.
 use Rattle.std.specs.Prelude.{◌≡◌, ℕ, List}
 use Rattle.script_lines.specs.declared.kind.ScriptFault.{ScriptFault}
 use Rattle.script_told.specs.Script.{Told}

@@ -1,0 +1,77 @@
+/* The calls of the crate busconf_c that take a length. */
+#include "border.h"
+
+PROVED(busconf_read);
+PROVED(busconf_read_capture);
+PROVED(busconf_fault_text);
+PROVED(busconf_sentence);
+PROVED(busconf_sentence_capture);
+PROVED(busconf_hops);
+PROVED(busconf_plan);
+PROVED(busconf_topology_map);
+PROVED(busconf_speed_rows);
+PROVED(busconf_speed_map);
+PROVED(busconf_rom_check);
+PROVED(busconf_crc16);
+
+enum busconf_status busconf_read(const uint32_t *quads, size_t count, uint32_t standard, struct busconf_node *nodes,
+                                 size_t room, struct busconf_bus *bus, struct busconf_fault *fault) {
+  return proved_busconf_read(FROM(quads, count), count, standard, PLACE(nodes, room), room, bus, fault);
+}
+
+enum busconf_status busconf_read_capture(const uint8_t *bytes, size_t count, uint32_t standard,
+                                         struct busconf_node *nodes, size_t room, struct busconf_bus *bus,
+                                         struct busconf_fault *fault) {
+  return proved_busconf_read_capture(FROM(bytes, count), count, standard, PLACE(nodes, room), room, bus, fault);
+}
+
+enum busconf_status busconf_fault_text(const struct busconf_fault *fault, char *place, size_t room, size_t *needed) {
+  return proved_busconf_fault_text(fault, PLACE(place, room), room, needed);
+}
+
+enum busconf_status busconf_sentence(const uint32_t *quads, size_t count, uint32_t standard,
+                                     const struct busconf_fault *fault, char *place, size_t room, size_t *needed) {
+  return proved_busconf_sentence(FROM(quads, count), count, standard, fault, PLACE(place, room), room, needed);
+}
+
+enum busconf_status busconf_sentence_capture(const uint8_t *bytes, size_t count, uint32_t standard,
+                                             const struct busconf_fault *fault, char *place, size_t room,
+                                             size_t *needed) {
+  return proved_busconf_sentence_capture(FROM(bytes, count), count, standard, fault, PLACE(place, room), room, needed);
+}
+
+enum busconf_status busconf_hops(const uint32_t *quads, size_t count, uint32_t standard, uint8_t *hops,
+                                 struct busconf_fault *fault) {
+  return proved_busconf_hops(FROM(quads, count), count, standard, hops, fault);
+}
+
+enum busconf_status busconf_plan(const uint32_t *quads, size_t count, uint32_t standard, struct busconf_plan *plan,
+                                 struct busconf_fault *fault) {
+  return proved_busconf_plan(FROM(quads, count), count, standard, plan, fault);
+}
+
+enum busconf_status busconf_topology_map(const uint32_t *quads, size_t count, uint32_t standard, uint32_t generation,
+                                         uint32_t *place, size_t room, size_t *needed, struct busconf_fault *fault) {
+  return proved_busconf_topology_map(FROM(quads, count), count, standard, generation, PLACE(place, room), room, needed,
+                                     fault);
+}
+
+enum busconf_status busconf_speed_rows(const uint32_t *quads, size_t count, uint32_t standard, uint8_t *place,
+                                       size_t room, size_t *needed, struct busconf_fault *fault) {
+  return proved_busconf_speed_rows(FROM(quads, count), count, standard, PLACE(place, room), room, needed, fault);
+}
+
+enum busconf_status busconf_speed_map(const uint32_t *quads, size_t count, uint32_t standard, uint32_t generation,
+                                      uint32_t *place, size_t room, size_t *needed, struct busconf_fault *fault) {
+  return proved_busconf_speed_map(FROM(quads, count), count, standard, generation, PLACE(place, room), room, needed,
+                                  fault);
+}
+
+enum busconf_status busconf_rom_check(const uint8_t *bytes, size_t count, struct busconf_block *place, size_t room,
+                                      size_t *needed, struct busconf_rom_fault *fault) {
+  return proved_busconf_rom_check(FROM(bytes, count), count, PLACE(place, room), room, needed, fault);
+}
+
+uint16_t busconf_crc16(const uint32_t *quads, size_t count) {
+  return proved_busconf_crc16(FROM(quads, count), count);
+}
