@@ -12,6 +12,7 @@ PROVED(busconf_topology_map);
 PROVED(busconf_speed_rows);
 PROVED(busconf_speed_map);
 PROVED(busconf_rom_check);
+PROVED(busconf_rom_fault_text);
 PROVED(busconf_crc16);
 
 enum busconf_status busconf_read(const uint32_t *quads, size_t count, uint32_t standard, struct busconf_node *nodes,
@@ -70,6 +71,11 @@ enum busconf_status busconf_speed_map(const uint32_t *quads, size_t count, uint3
 enum busconf_status busconf_rom_check(const uint8_t *bytes, size_t count, struct busconf_block *place, size_t room,
                                       size_t *needed, struct busconf_rom_fault *fault) {
   return proved_busconf_rom_check(FROM(bytes, count), count, PLACE(place, room), room, needed, fault);
+}
+
+enum busconf_status busconf_rom_fault_text(const struct busconf_rom_fault *fault, char *place, size_t room,
+                                           size_t *needed) {
+  return proved_busconf_rom_fault_text(fault, PLACE(place, room), room, needed);
 }
 
 uint16_t busconf_crc16(const uint32_t *quads, size_t count) {

@@ -44,7 +44,8 @@ enum busconf_status {
   BUSCONF_NO_CANDIDATE = 5, /* no node is eligible as root: none has an active link and contends */
   BUSCONF_INCOMPLETE = 6,   /* the list has to go on before it can be a bus tree's */
   BUSCONF_OUT_OF_RANGE = 7, /* a number is past what it may be: a channel 63, units 4915, an ID 62 */
-  BUSCONF_TOO_LONG = 8      /* the script has more than 1,048,576 bytes */
+  BUSCONF_TOO_LONG = 8,     /* the script has more than 1,048,576 bytes */
+  BUSCONF_NO_NAME = 9       /* no node may have the name: it is 1 to 16 letters a to z, digits and _, a letter first */
 };
 
 /* ---- By which standard nodes show themselves */
@@ -315,10 +316,32 @@ enum busconf_status busconf_run(const char *script, size_t count, char *place, s
 enum busconf_status busconf_advice(const char *script, size_t count, char *place, size_t room, size_t *needed,
                                    struct busconf_script_fault *fault);
 
-/* Tells what happens on a script's bus, turn by turn, as `busview trace` writes it; a refusal has no sentence below its
- * line. Takes memory. */
+/* Tells what happens on a script's bus, turn by turn, as `busview trace` writes it. Takes memory. */
 enum busconf_status busconf_trace(const char *script, size_t count, char *place, size_t room, size_t *needed,
                                   struct busconf_script_fault *fault);
+
+/* Tells what changes on a script's bus as a Value Change Dump (IEEE Std 1364-2005, 18.2), as `busview waves` writes it.
+ * Takes memory. */
+enum busconf_status busconf_waves(const char *script, size_t count, char *place, size_t room, size_t *needed,
+                                  struct busconf_script_fault *fault);
+
+/* Tells the capture of the tree in which the node with a name stands in the end, as `busview capture` writes it: the
+ * bytes that busconf_read_capture reads. BUSCONF_REFUSED comes also where no node has the name or its part of the bus
+ * isn't a tree, with the number of lines and 1. BUSCONF_NO_NAME. Takes memory. */
+enum busconf_status busconf_capture(const char *script, size_t count, const char *name, size_t length, uint8_t *place,
+                                    size_t room, size_t *needed, struct busconf_script_fault *fault);
+
+/* Tells the line of a script's fault as `busconf run` writes it, in ASCII with its line feed and with no byte 0 behind
+ * it. BUSCONF_OK: the first `*needed` bytes at `place` are the line. BUSCONF_TOO_SHORT: `*needed` is how many they are;
+ * no line has more than 48. BUSCONF_REFUSED: there is no such kind. BUSCONF_NO_MEMORY. Takes memory. */
+enum busconf_status busconf_script_fault_text(const struct busconf_script_fault *fault, char *place, size_t room,
+                                              size_t *needed);
+
+/* Tells the sentence of a script's fault as `busview trace` and `busview explain` write it: which word is at fault,
+ * where it stands, and what may stand there. `script` is the one that has the fault. As busconf_script_fault_text, but
+ * of any length, and BUSCONF_TOO_LONG. Takes memory. */
+enum busconf_status busconf_script_sentence(const char *script, size_t count, const struct busconf_script_fault *fault,
+                                            char *place, size_t room, size_t *needed);
 
 /* ---- Configuration ROMs (IEEE Std 1212) */
 
@@ -369,6 +392,12 @@ struct busconf_rom_fault {
  * are. BUSCONF_REFUSED: `fault` is why there are none. BUSCONF_NO_MEMORY. Takes memory. */
 enum busconf_status busconf_rom_check(const uint8_t *bytes, size_t count, struct busconf_block *place, size_t room,
                                       size_t *needed, struct busconf_rom_fault *fault);
+
+/* Tells the line of a ROM's fault as `busconf rom` writes it, in ASCII with its line feed and with no byte 0 behind it.
+ * BUSCONF_OK: the first `*needed` bytes at `place` are the line. BUSCONF_TOO_SHORT: `*needed` is how many they are; no
+ * line has more than 48. BUSCONF_REFUSED: there is no such kind. BUSCONF_NO_MEMORY. Takes memory. */
+enum busconf_status busconf_rom_fault_text(const struct busconf_rom_fault *fault, char *place, size_t room,
+                                           size_t *needed);
 
 /* ---- The registers of an isochronous resource manager (IEEE Std 1394-1995, 8.3.2.3.6 to 8.3.2.3.8)
  *

@@ -129,9 +129,6 @@ cases() {
 blocks() { grep '^directory \|^leaf \|^refused ' "$1" || true; }
 refusal() { grep -A 1 '^refused pair ' "$1" || true; }
 
-# What is left of the answer of `busview trace`: all but the sentence below a refusal, which the library doesn't write.
-without_sentence() { sed '/^refused line /q' "$1"; }
-
 # Runs a command of a case by the standard that the case's words name.
 by_its_standard() {
   if grep -qsx -e --1995 "$input.args"; then "$@" 1995; else "$@" 2000; fi
@@ -222,10 +219,11 @@ run_tests() {
   cases "$top/cases/busconf/rom" blocks "${check[@]}" "$room/rom"
   cases "$top/cases/busview/packets" refusal by_its_standard "${check[@]}" "$room/refusal"
   for form in run advice; do cases "$top/cases/busconf/$form" cat "$room/script" $form; done
-  cases "$top/cases/busview/trace" without_sentence "$room/script" trace
+  for form in trace waves; do cases "$top/cases/busview/$form" cat "$room/script" $form; done
+  capture_cases
   for file in two-nodes hub plan loop; do
-    for form in run advice trace; do
-      "${check[@]}" "$room/script" $form <"$top/examples/$file.script" >/dev/null
+    for form in run advice trace waves "capture a"; do
+      "${check[@]}" "$room/script" $form <"$top/examples/$file.script" >/dev/null || [ $? -eq 1 ]
     done
   done
 
@@ -237,9 +235,27 @@ run_tests() {
     "$python" "$top/tools/library/numbers.py" "$top"
     python_cases "$python" "$top/cases/busconf/read" 2000
     python_cases "$python" "$top/cases/busconf/read95" 1995
+    BUSCONF_LIBRARY="$room/libbusconf.so" "$python" "$top/tools/library/module.py" "$top"
   else
-    echo "library: no python3 here, so neither the header's numbers nor the example in Python is tried"
+    echo "library: no python3 here, so neither the header's numbers nor what is written in Python is tried"
   fi
+}
+
+# The captures of nodes of scripts are those of the cases whose words are `capture` and a name; a name that no node may have
+# is none.
+capture_cases() {
+  local input words status count=0
+  for input in $(captures "$top/cases/busview/capture"); do
+    [ -f "$input.args" ] || continue
+    mapfile -t words <"$input.args"
+    [ "${#words[@]}" -eq 2 ] && [ "${words[0]}" = capture ] || continue
+    status=0
+    "$room/script" capture "${words[1]}" <"$input" >"$room/said" || status=$?
+    if [ $status -eq 2 ]; then : >"$room/said"; fi
+    cmp -s "$room/said" "$input.stdout" || { echo "library: capture ${words[1]} on $input: not what is wanted" >&2; return 1; }
+    count=$((count + 1))
+  done
+  echo "library: script capture: $count cases of capture"
 }
 
 captures() {

@@ -1,5 +1,5 @@
-/* Calls each call of libbusconf that takes a length with null pointers and the length 0, and compares what it answers with
- * what it answers for a pointer to something. It says what fails. */
+/* Makes each call of libbusconf that takes a length with null pointers and the length 0, and looks whether it answers as
+ * for a pointer to something. It says what fails. */
 #include "busconf.h"
 
 #include <stdio.h>
@@ -73,6 +73,9 @@ static void check_nothing(void) {
   size_t needed = 7;
   expect(busconf_rom_check(NULL, 0, NULL, 0, &needed, &fault) == BUSCONF_REFUSED && fault.kind == BUSCONF_ROM_EMPTY,
          "an empty ROM");
+  needed = 0;
+  expect(busconf_rom_fault_text(&fault, NULL, 0, &needed) == BUSCONF_TOO_SHORT && needed == 27,
+         "the line of a ROM's fault");
   expect(busconf_crc16(NULL, 0) == busconf_crc16(one, 0), "the CRC of nothing");
 }
 
@@ -87,6 +90,22 @@ static void run_nothing(script_call call, const char *what) {
   expect(call(script, sizeof script - 1, NULL, 0, &needed, &fault) == BUSCONF_TOO_SHORT, what);
 }
 
+static void say_nothing(void) {
+  static const char script[] = "node a 3\n";
+  struct busconf_script_fault fault;
+  size_t needed = 7;
+  expect(busconf_capture(NULL, 0, NULL, 0, NULL, 0, &needed, &fault) == BUSCONF_NO_NAME && needed == 7,
+         "a node of no name");
+  expect(busconf_capture(NULL, 0, "a", 1, NULL, 0, &needed, &fault) == BUSCONF_REFUSED
+             && fault.kind == BUSCONF_SCRIPT_NO_NODE && fault.line == 1, "a node of an empty script");
+  expect(busconf_script_fault_text(&fault, NULL, 0, &needed) == BUSCONF_TOO_SHORT && needed == 22,
+         "the line of a script's fault");
+  expect(busconf_script_sentence(NULL, 0, &fault, NULL, 0, &needed) == BUSCONF_TOO_SHORT && needed > 0,
+         "the sentence of a script's fault");
+  expect(busconf_capture(script, sizeof script - 1, "a", 1, NULL, 0, &needed, &fault) == BUSCONF_TOO_SHORT && needed == 8,
+         "a capture, and no room");
+}
+
 int main(void) {
   read_nothing();
   tell_nothing();
@@ -95,6 +114,8 @@ int main(void) {
   run_nothing(busconf_run, "a run");
   run_nothing(busconf_advice, "an advice");
   run_nothing(busconf_trace, "a trace");
+  run_nothing(busconf_waves, "waves");
+  say_nothing();
   if (!failed) printf("null: each call takes null where the length is 0\n");
   return failed;
 }

@@ -5,8 +5,34 @@
 #include <stdio.h>
 #include <stdlib.h>
 
-static const char *const kinds[] = {"",        "RomLength", "RomTooLong", "RomEmpty", "NoInfo",
-                                    "Minimal", "RomCut",    "BusName",    "Outside",  "SelfTarget"};
+/* The line of a fault, in a place of exactly its size, after one of one byte less. */
+static int put_fault(const struct busconf_rom_fault *fault) {
+  size_t length = 0, told = 0;
+  char *place;
+  if (busconf_rom_fault_text(fault, NULL, 0, &length) != BUSCONF_TOO_SHORT || length > 48) return 6;
+  place = (char *)malloc(length - 1);
+  if (busconf_rom_fault_text(fault, place, length - 1, &told) != BUSCONF_TOO_SHORT || told != length) return 7;
+  free(place);
+  place = (char *)malloc(length);
+  if (busconf_rom_fault_text(fault, place, length, &told) != BUSCONF_OK || told != length) return 8;
+  fwrite(place, 1, length, stdout);
+  free(place);
+  return 1;
+}
+
+/* There is no line of a kind that there isn't. */
+static int has_no_other_kinds(void) {
+  struct busconf_rom_fault fault = {0, 0, 0};
+  size_t needed = 7;
+  unsigned kind;
+  for (kind = 0; kind < 256; kind++) {
+    enum busconf_status status;
+    fault.kind = (uint8_t)kind;
+    status = busconf_rom_fault_text(&fault, NULL, 0, &needed);
+    if (status != (kind >= 1 && kind <= 9 ? BUSCONF_TOO_SHORT : BUSCONF_REFUSED)) return 0;
+  }
+  return 1;
+}
 
 int main(void) {
   static uint8_t all[4096];
@@ -16,13 +42,13 @@ int main(void) {
   struct busconf_rom_fault fault;
   enum busconf_status status;
   if (!bytes || !place) return 2;
+  if (!has_no_other_kinds()) return 9;
   for (n = 0; n < count; n++) bytes[n] = all[n];
   status = busconf_rom_check(bytes, count, place, 0, &needed, &fault);
   if (status == BUSCONF_REFUSED) {
-    printf("refused quadlet %zu %s\n", fault.at, kinds[fault.kind]);
     free(bytes);
     free(place);
-    return 1;
+    return put_fault(&fault);
   }
   if (status != BUSCONF_TOO_SHORT || !needed) return 3;
   free(place);

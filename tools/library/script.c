@@ -1,6 +1,6 @@
-/* `script run`, `script advice`, `script trace`: takes a script from standard input and writes what the program writes of
- * it, with the program's status. Each text is written to a place of exactly its size, after one of none and one of one
- * byte less; each place is a block of its own, so that valgrind sees what is written past it. */
+/* `script run`, `advice`, `trace`, `waves` and `capture NAME`: takes a script from standard input and writes what the
+ * program writes of it, with the program's status. Each text is written to a place of exactly its size, after one of none
+ * and one of one byte less; each place is a block of its own, so that valgrind sees what is written past it. */
 #include "busconf.h"
 
 #include <stdio.h>
@@ -10,9 +10,21 @@
 typedef enum busconf_status (*script_call)(const char *, size_t, char *, size_t, size_t *,
                                            struct busconf_script_fault *);
 
-static const char *const kinds[] = {"",        "Word",       "Number", "Name",       "Twice",     "Late",
-                                    "TooManyNodes", "NoNode", "NoPort", "InUse",     "SameNode",  "NotPlugged",
-                                    "Range",   "NotSettled", "NoManager", "NotManager", "TooManyTurns", "TooManyMaps"};
+/* The name behind `capture`, in a block of exactly its size. */
+static const char *name;
+static size_t name_length;
+
+static enum busconf_status capture(const char *script, size_t count, char *place, size_t room, size_t *needed,
+                                   struct busconf_script_fault *fault) {
+  return busconf_capture(script, count, name, name_length, (uint8_t *)place, room, needed, fault);
+}
+
+static script_call call_of(const char *form) {
+  if (strcmp(form, "advice") == 0) return busconf_advice;
+  if (strcmp(form, "trace") == 0) return busconf_trace;
+  if (strcmp(form, "waves") == 0) return busconf_waves;
+  return strcmp(form, "capture") == 0 ? capture : busconf_run;
+}
 
 static int filled(const char *at, size_t count) {
   size_t n;
@@ -45,20 +57,64 @@ static char *input(size_t *count) {
   return exact;
 }
 
+/* The line of a fault, and its sentence where a script is given, each in a place of exactly its size. */
+static int put_fault(const struct busconf_script_fault *fault, const char *script, size_t count) {
+  size_t length = 0, told = 0;
+  char *place;
+  if (busconf_script_fault_text(fault, NULL, 0, &length) != BUSCONF_TOO_SHORT || length > 48) return 13;
+  place = block(length - 1);
+  if (busconf_script_fault_text(fault, place, length - 1, &told) != BUSCONF_TOO_SHORT || told != length) return 14;
+  if (!filled(place, length - 1)) return 15;
+  free(place);
+  place = block(length);
+  if (busconf_script_fault_text(fault, place, length, &told) != BUSCONF_OK || told != length) return 16;
+  fwrite(place, 1, length, stdout);
+  free(place);
+  if (!script) return 1;
+  if (busconf_script_sentence(script, count, fault, NULL, 0, &length) != BUSCONF_TOO_SHORT) return 17;
+  place = block(length);
+  if (busconf_script_sentence(script, count, fault, place, length, &told) != BUSCONF_OK || told != length) return 18;
+  fwrite(place, 1, length, stdout);
+  free(place);
+  return 1;
+}
+
+/* Nothing is told of a kind that there isn't. */
+static int has_no_other_kinds(void) {
+  struct busconf_script_fault fault = {1, 0};
+  size_t needed = 7;
+  unsigned kind;
+  for (kind = 0; kind < 256; kind++) {
+    enum busconf_status wanted = kind >= 1 && kind <= 17 ? BUSCONF_TOO_SHORT : BUSCONF_REFUSED;
+    fault.kind = (uint8_t)kind;
+    if (busconf_script_fault_text(&fault, NULL, 0, &needed) != wanted) return 0;
+    if (busconf_script_sentence("x", 1, &fault, NULL, 0, &needed) != wanted) return 0;
+  }
+  return 1;
+}
+
 int main(int argc, char **argv) {
   const char *form = argc > 1 ? argv[1] : "run";
-  script_call call = strcmp(form, "advice") == 0 ? busconf_advice : strcmp(form, "trace") == 0 ? busconf_trace : busconf_run;
+  script_call call = call_of(form);
   struct busconf_script_fault fault = {77, 99}, again = {77, 99};
   size_t count, needed = 7, told = 7;
   char *script = input(&count), *none = block(0), *place;
-  enum busconf_status status = call(script, count, none, 0, &needed, &fault);
-  free(none);
-  if (status == BUSCONF_REFUSED) {
-    if (needed != 7 || fault.kind < BUSCONF_SCRIPT_WORD || fault.kind > BUSCONF_SCRIPT_TOO_MANY_MAPS) return 3;
-    printf("refused line %lu %s\n", (unsigned long)fault.line, kinds[fault.kind]);
-    free(script);
-    return 1;
+  enum busconf_status status;
+  if (argc > 2) {
+    name_length = strlen(argv[2]);
+    name = (const char *)memcpy(block(name_length), argv[2], name_length);
   }
+  status = call(script, count, none, 0, &needed, &fault);
+  free(none);
+  if (!has_no_other_kinds()) return 19;
+  if (status == BUSCONF_REFUSED) {
+    int said, explains = strcmp(form, "trace") == 0 || strcmp(form, "waves") == 0;
+    if (needed != 7 || fault.kind < BUSCONF_SCRIPT_WORD || fault.kind > BUSCONF_SCRIPT_TOO_MANY_MAPS) return 3;
+    said = put_fault(&fault, explains ? script : NULL, count);
+    free(script);
+    return said;
+  }
+  if (status == BUSCONF_NO_NAME) return needed == 7 && fault.line == 77 && fault.kind == 99 ? 2 : 20;
   if (fault.line != 77 || fault.kind != 99) return 4;
   if (status != (needed ? BUSCONF_TOO_SHORT : BUSCONF_OK)) return 5;
   if (needed) {

@@ -237,6 +237,7 @@ def tarball_of(built):
     files[f"lib/{SONAME}"] = Entry(built.shared)
     files["lib/libbusconf.so"] = Entry(link=SONAME)
     files["lib/pkgconfig/busconf.pc"] = pc_of("${pcfiledir}/../..", "lib")
+    files["lib/python/busconf.py"] = Entry(data_of("python/busconf.py"))
     files[f"{doc}/PROVED"] = Entry(built.proved)
     files[f"{doc}/copyright"] = copyright_of(built)
     return with_sums(files, "SHA256SUMS")

@@ -132,6 +132,21 @@ def header_of(built):
         files)
 
 
+def python_of(built):
+    """The package of the module for Python, which loads the shared library."""
+    return Package(
+        "python3-busconf",
+        {
+            "Depends": f"python3 (>= 3.9), libbusconf0 (>= {built.version})",
+            "Section": "python",
+            "Multi-Arch": "foreign",
+        },
+        "The module busconf for Python, over the shared library of the proved calls.",
+        "FireWire cable buses, read, planned and run: the module for Python",
+        {"usr/lib/python3/dist-packages/busconf.py": Entry(data_of("python/busconf.py"))},
+        architecture="all")
+
+
 def vectors_package_of(built):
     """The package of the vectors."""
     files = {f"usr/share/busconf/vectors/{path}": entry for path, entry in vectors_of(built).items()}
@@ -157,7 +172,7 @@ def libc_of(built):
 
 def packages_of(built):
     """All Debian packages, each with its pages and checksums."""
-    found = [programs_of(built), library_of(built), header_of(built)]
+    found = [programs_of(built), library_of(built), header_of(built), python_of(built)]
     if built.vectors:
         found.append(vectors_package_of(built))
     for package in found:

@@ -137,6 +137,16 @@ def compile_examples(root, room, config, prefix, way):
                 raise Fault(f"examples/python/read.py on {os.path.relpath(case, TOP)}: not what is wanted")
 
 
+def try_module(folder, library):
+    """The packaged module for Python reads an example by the packaged library."""
+    program = ("import sys, busconf; bus = busconf.read_capture(sys.stdin.buffer.read()); "
+               "print(busconf.__file__, len(bus.nodes), bus.root)")
+    env = {**os.environ, "PYTHONPATH": folder, "PYTHONDONTWRITEBYTECODE": "1", "BUSCONF_LIBRARY": library}
+    said = run(sys.executable, "-c", program, input=data_of("examples/two-nodes.capture"), env=env).decode()
+    if said != f"{folder}/busconf.py 2 1\n":
+        raise Fault(f"the module busconf: not what is wanted: {said}")
+
+
 def small_set(folder):
     """A set of some vectors, where the repository can make one and none was given."""
     tool = os.path.join(TOP, "tools", "vectors")
@@ -183,17 +193,18 @@ class Trial:
         read_pages(glob.glob(f"{folder}/share/man/man1/*.1"))
         config = {**os.environ, "PKG_CONFIG_PATH": f"{folder}/lib/pkgconfig"}
         compile_examples(root, self.room, config, f"/tmp/{name}/lib", "archive")
-        return f"the archive: {count} cases in an empty root, its pages, and the examples in C and Python"
+        try_module(f"{folder}/lib/python", f"{folder}/lib/{SONAME}")
+        return f"the archive: {count} cases in an empty root, its pages, the examples in C and Python, and the module"
 
     def packages(self):
-        """The Debian packages, installed by dpkg into an empty root that has nothing but this machine's libc6."""
+        """The Debian packages, installed by dpkg into an empty root that has nothing but this machine's libc6, and of
+        python3 the name."""
         root = Root(tempfile.mkdtemp(dir=self.room))
         state = os.path.join(root.folder, "var/lib/dpkg")
         for part in ("info", "updates", "triggers"):
             os.makedirs(os.path.join(state, part))
         known = run("dpkg-query", "--status", "libc6") + b"\n"
-        if any("vectors" in it for it in self.debs):
-            known += run("dpkg-query", "--status", "python3") + b"\n"
+        known += run("dpkg-query", "--status", "python3") + b"\n"
         with open(os.path.join(state, "status"), "wb") as file:
             file.write(known)
         root.dpkg("--install", *self.debs)
@@ -205,12 +216,13 @@ class Trial:
                   "PKG_CONFIG_SYSROOT_DIR": root.folder, "PKG_CONFIG_ALLOW_SYSTEM_CFLAGS": "1",
                   "PKG_CONFIG_ALLOW_SYSTEM_LIBS": "1"}
         compile_examples(root, self.room, config, "", "packages")
+        try_module(f"{root.folder}/usr/lib/python3/dist-packages", f"{root.folder}/usr/{MULTIARCH}/{SONAME}")
         names = [os.path.basename(it).split("_")[0] for it in self.debs]
         root.dpkg("--purge", *names)
         left = [it for it in files_below(os.path.join(root.folder, "usr")) if "busconf" in it or "busview" in it]
         if left:
             raise Fault(f"dpkg --purge left {left[0]}")
-        said = f"{count} cases, their pages, and the examples in C and Python"
+        said = f"{count} cases, their pages, the examples in C and Python, and the module"
         return f"{' '.join(names)}: installed by dpkg into an empty root, {said}"
 
     def vectors(self):

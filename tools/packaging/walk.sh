@@ -41,6 +41,13 @@ examples() {
   ./bench $at/hub.script <$at/hub.capture | diff $at/c/bench.stdout -
 }
 
+module() {
+  cd "$(mktemp -d)"
+  sed -n 's/^    >>> //p' $doc/libbusconf-dev/LIBRARY.md >first.py
+  cp $doc/busconf/examples/two-nodes.capture .
+  python3 -i <first.py 2>/dev/null | grep -x '(1, \[0, 1\])'
+}
+
 vectors() {
   cd "$(mktemp -d)"
   awk '/^## /{on = /A reader in C/} on' $doc/busconf-vectors/VECTORS.md | sed -n 's/^    //p' >reader.c
@@ -56,6 +63,8 @@ step "apt install gcc libc6-dev pkg-config" apt-get install -y gcc libc6-dev pkg
 step "apt install the library" apt-get install -y ./libbusconf0_*.deb ./libbusconf-dev_*.deb
 step "the first program of docs/LIBRARY.md" first
 step "the examples in C" examples
+step "apt install ./python3-busconf_*.deb" apt-get install -y ./python3-busconf_*.deb
+step "the module for Python" module
 if compgen -G "busconf-vectors_*.deb" >/dev/null; then
   step "apt install ./busconf-vectors_*.deb" apt-get install -y ./busconf-vectors_*.deb
   step "the reader in C of docs/VECTORS.md over the vectors" vectors

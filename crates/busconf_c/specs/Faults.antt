@@ -1,5 +1,4 @@
 -- The records of faults: the number of the kind, the place, and what was found and wanted.
--- Statuses: 1 refused.
 use Rattle.std.specs.Prelude.{◌≡◌, ℕ, ◌==◌, ◌||◌, if◌then◌else◌, List, [], ◌++◌, codes, decimal}
 use Rattle.self_id.specs.declared.fault.GroupFault.{GroupFault}
 use Rattle.self_id.specs.declared.fault.GroupFault.TheVariants.{NotSelfId, WrongId, BadOrder, Cut, TwoParents}
@@ -62,8 +61,3 @@ counts r =
 abbrev pub line_of : FaultRecord → List ℕ → List ℕ
 line_of r word =
     codes "refused pair " ++ (decimal r.at ++ (codes " " ++ (word ++ (counts r ++ codes "\n"))))
-
--- nothing is told of a kind that there isn't
-abbrev pub IsUntold : List ℕ → List ℕ → ℕ → ℕ → ℕ → Type 0
-IsUntold before after needed_before needed status =
-    (after ≡ before) × (needed ≡ needed_before) × (status ≡ 1)

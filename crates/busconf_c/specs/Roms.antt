@@ -1,6 +1,6 @@
 -- The records of a configuration ROM.
 -- Statuses: 1 refused, 2 no memory.
-use Rattle.std.specs.Prelude.{◌≡◌, ℕ, Some, List, map}
+use Rattle.std.specs.Prelude.{◌≡◌, ℕ, ◌==◌, if◌then◌else◌, Some, List, [], ◌++◌, map, codes, decimal}
 use Rattle.config_rom.specs.declared.block.Block.{Block}
 use Rattle.config_rom.specs.declared.block.BlockKind.{BlockKind}
 use Rattle.config_rom.specs.declared.block.BlockKind.TheVariants.{Directory, Leaf}
@@ -75,3 +75,20 @@ pub data TellsRom (bytes : List ℕ) (before after : List BlockRecord) (needed_b
   no_memory : after ≡ before → needed ≡ needed_before → fault ≡ fault_before →
       status ≡ 2 →
       TellsRom bytes before after needed_before needed fault_before fault status
+
+-- ---- the line of a fault: `refused quadlet Q KIND`
+
+abbrev pub rom_word : ℕ → List ℕ
+rom_word kind =
+    if kind == 1 then codes "RomLength"
+    else (if kind == 2 then codes "RomTooLong"
+    else (if kind == 3 then codes "RomEmpty"
+    else (if kind == 4 then codes "NoInfo"
+    else (if kind == 5 then codes "Minimal"
+    else (if kind == 6 then codes "RomCut"
+    else (if kind == 7 then codes "BusName"
+    else (if kind == 8 then codes "Outside"
+    else (if kind == 9 then codes "SelfTarget" else []))))))))
+
+abbrev pub rom_line_of : RomFaultRecord → List ℕ → List ℕ
+rom_line_of r word = codes "refused quadlet " ++ (decimal r.at ++ (codes " " ++ (word ++ codes "\n")))

@@ -1,7 +1,7 @@
 //! A fault as a record.
 ghost use Rattle.std.specs.Prelude.{◌≡◌, ◌<◌, ◌≤◌, ◌++◌, IfOk, OnOk};
-ghost use Rattle.busconf_c.specs.Faults.{group_record, tree_record, fault_with, kind_word, counts, line_of, IsUntold};
-ghost use Rattle.c_border.specs.Places.{Tells};
+ghost use Rattle.busconf_c.specs.Faults.{group_record, tree_record, fault_with, kind_word, counts, line_of};
+ghost use Rattle.c_border.specs.Places.{Tells, IsUntold};
 
 use crate::records::FaultRecord;
 use c_border::{NO_MEMORY, REFUSED, tell_bytes};

@@ -12,6 +12,7 @@ mod reader;
 mod records;
 mod registers;
 mod rom;
+mod rom_text;
 mod sentence;
 mod shown;
 mod tree;

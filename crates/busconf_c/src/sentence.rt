@@ -1,7 +1,7 @@
 //! The sentence of a fault.
 ghost use Rattle.std.specs.Prelude.{◌≡◌, ◌<◌, ◌≤◌, IfOk, slice_index_or};
 ghost use Rattle.view_text.specs.Sentence.{first_at, second_at, length_sentence, inverse_sentence};
-ghost use Rattle.busconf_c.specs.Faults.{IsUntold};
+ghost use Rattle.c_border.specs.Places.{IsUntold};
 ghost use Rattle.busconf_c.specs.Sentences.{tree_fault_in, FaultsAreReadBack, quad_before, first_before, IsShown, IsSentence, IsListSentence, IsFirstsSentence, IsCaptureSentence, TellsSentence};
 
 use crate::answer::standard_of;

@@ -1,5 +1,5 @@
 -- What is told at a place of the caller's.
--- Statuses: 0 ok, 2 no memory, 3 too short.
+-- Statuses: 0 ok, 1 refused, 2 no memory, 3 too short.
 use Rattle.std.specs.Prelude.{◌≡◌, ℕ, ◌<◌, ◌≤◌, Result, Ok, Err, List, ◌++◌, length, drop}
 
 -- a list stands at the front of a place, and what is behind it stays; where the place is too short
@@ -17,6 +17,11 @@ pub data Tells (Holds : List ℕ → Type 0) (before after : List ℕ) (needed_b
       Tells Holds before after needed_before needed status
   no_memory : after ≡ before → needed ≡ needed_before → status ≡ 2 →
       Tells Holds before after needed_before needed status
+
+-- nothing is told of a kind that there isn't
+abbrev pub IsUntold : List ℕ → List ℕ → ℕ → ℕ → ℕ → Type 0
+IsUntold before after needed_before needed status =
+    (after ≡ before) × (needed ≡ needed_before) × (status ≡ 1)
 
 -- the list is told, unless memory ran out for it
 abbrev pub TellsOk : {E : Type 0} → Result (List ℕ) E → List ℕ → List ℕ → ℕ → ℕ → ℕ → Type 0

@@ -6,6 +6,6 @@ mod status;
 
 pub use place::{tell_bytes, tell_quads};
 pub use status::{
-    INCOMPLETE, NO_CANDIDATE, NO_MEMORY, NO_STANDARD, OK, OUT_OF_RANGE, REFUSED, TOO_LONG,
+    INCOMPLETE, NO_CANDIDATE, NO_MEMORY, NO_NAME, NO_STANDARD, OK, OUT_OF_RANGE, REFUSED, TOO_LONG,
     TOO_SHORT,
 };

@@ -26,3 +26,6 @@ pub const OUT_OF_RANGE: u32 = 7;
 
 /// The script has more than 1,048,576 bytes.
 pub const TOO_LONG: u32 = 8;
+
+/// The name isn't one that a node may have: 1 to 16 letters a to z, digits and underlines, a letter first.
+pub const NO_NAME: u32 = 9;

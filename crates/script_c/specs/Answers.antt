@@ -1,6 +1,8 @@
 -- What a call answers that runs a script.
--- Statuses: 0 ok, 1 refused, 2 no memory, 3 too short, 8 too long.
-use Rattle.std.specs.Prelude.{◌≡◌, ℕ, List}
+-- Statuses: 0 ok, 1 refused, 2 no memory, 3 too short, 8 too long, 9 no name.
+use Rattle.std.specs.Prelude.{◌≡◌, ℕ, List, Ok}
+use Rattle.quad_lanes.specs.Capture.{capture}
+use Rattle.script_run.specs.Listed.{IsListed}
 use Rattle.script_lines.specs.declared.kind.ScriptFault.{ScriptFault}
 use Rattle.script_told.specs.Script.{Told}
 use Rattle.c_border.specs.Places.{IsTold}
@@ -26,6 +28,23 @@ abbrev pub IsTooLong :
     List ℕ → List ℕ → ℕ → ℕ → ScriptFaultRecord → ScriptFaultRecord → ℕ → Type 0
 IsTooLong before after needed_before needed fault_before fault status =
     (after ≡ before) × (needed ≡ needed_before) × (fault ≡ fault_before) × (status ≡ 8)
+
+-- nor is one of which only this is asked
+abbrev pub IsUnread : List ℕ → List ℕ → ℕ → ℕ → ℕ → Type 0
+IsUnread before after needed_before needed status =
+    (after ≡ before) × (needed ≡ needed_before) × (status ≡ 8)
+
+-- the name of a node isn't one, so no script is asked
+abbrev pub IsNoName :
+    List ℕ → List ℕ → ℕ → ℕ → ScriptFaultRecord → ScriptFaultRecord → ℕ → Type 0
+IsNoName before after needed_before needed fault_before fault status =
+    (after ≡ before) × (needed ≡ needed_before) × (fault ≡ fault_before) × (status ≡ 9)
+
+-- the capture of the list that a script's node has in the end
+pub record HasCapture (bytes name text : List ℕ) : Type 0 where
+  pub list : List ℕ
+  pub listed : IsListed bytes name (Ok list)
+  pub text_is : text ≡ capture list
 
 -- there is one thing at most that a script tells so
 abbrev pub IsOneThing : (Told → Type 0) → Type 0

@@ -1,6 +1,6 @@
 -- The records of the faults of scripts: the line, and the number of the kind.
 -- Statuses: 1 refused, 2 no memory.
-use Rattle.std.specs.Prelude.{◌≡◌, ℕ}
+use Rattle.std.specs.Prelude.{◌≡◌, ℕ, ◌==◌, if◌then◌else◌, List, ◌++◌, codes, decimal}
 use Rattle.script_lines.specs.declared.kind.Kind.{Kind}
 use Rattle.script_lines.specs.declared.kind.Kind.TheVariants.{Word, Number, Name, Twice, Late, TooManyNodes, NoNode, NoPort, InUse, SameNode, NotPlugged, Range, NotSettled, NoManager, NotManager, TooManyTurns, TooManyMaps}
 use Rattle.script_lines.specs.declared.kind.ScriptFault.{ScriptFault}
@@ -34,3 +34,57 @@ fault_record f = record { line = f.line; kind = kind_number f.kind }
 abbrev pub IsStopped : ScriptStop → ScriptFaultRecord → ScriptFaultRecord → ℕ → Type 0
 IsStopped (Fault f) before after status = (after ≡ fault_record f) × (status ≡ 1)
 IsStopped (Memory none) before after status = (after ≡ before) × (status ≡ 2)
+
+-- ---- back from records
+
+-- the kind with a number from 1 to 17
+abbrev pub kind_in : ℕ → Kind
+kind_in n =
+    if n == 1 then Word
+    else (if n == 2 then Number
+    else (if n == 3 then Name
+    else (if n == 4 then Twice
+    else (if n == 5 then Late
+    else (if n == 6 then TooManyNodes
+    else (if n == 7 then NoNode
+    else (if n == 8 then NoPort
+    else (if n == 9 then InUse
+    else (if n == 10 then SameNode
+    else (if n == 11 then NotPlugged
+    else (if n == 12 then Range
+    else (if n == 13 then NotSettled
+    else (if n == 14 then NoManager
+    else (if n == 15 then NotManager
+    else (if n == 16 then TooManyTurns else TooManyMaps)))))))))))))))
+
+-- the fault that a record tells whose kind is 1 to 17
+abbrev pub fault_in : ScriptFaultRecord → ScriptFault
+fault_in r = record { line = r.line; kind = kind_in r.kind }
+
+-- the fault of a fault's record is that fault
+abbrev pub ScriptFaultsAreReadBack : Type 0
+ScriptFaultsAreReadBack = (f : ScriptFault) → fault_in (fault_record f) ≡ f
+
+-- ---- the line of a fault: `refused line L KIND`
+
+abbrev pub kind_word : Kind → List ℕ
+kind_word Word = codes "Word"
+kind_word Number = codes "Number"
+kind_word Name = codes "Name"
+kind_word Twice = codes "Twice"
+kind_word Late = codes "Late"
+kind_word TooManyNodes = codes "TooManyNodes"
+kind_word NoNode = codes "NoNode"
+kind_word NoPort = codes "NoPort"
+kind_word InUse = codes "InUse"
+kind_word SameNode = codes "SameNode"
+kind_word NotPlugged = codes "NotPlugged"
+kind_word Range = codes "Range"
+kind_word NotSettled = codes "NotSettled"
+kind_word NoManager = codes "NoManager"
+kind_word NotManager = codes "NotManager"
+kind_word TooManyTurns = codes "TooManyTurns"
+kind_word TooManyMaps = codes "TooManyMaps"
+
+abbrev pub line_of : ScriptFault → List ℕ → List ℕ
+line_of f word = codes "refused line " ++ (decimal f.line ++ (codes " " ++ (word ++ codes "\n")))

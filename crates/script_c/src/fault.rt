@@ -1,6 +1,6 @@
 //! The fault of a script as a record.
 ghost use Rattle.std.specs.Prelude.{◌≡◌};
-ghost use Rattle.script_c.specs.Faults.{kind_number, fault_record, IsStopped};
+ghost use Rattle.script_c.specs.Faults.{kind_number, fault_record, kind_in, fault_in, IsStopped, ScriptFaultsAreReadBack};
 
 use crate::record::ScriptFaultRecord;
 use c_border::{NO_MEMORY, REFUSED};
@@ -53,3 +53,44 @@ pub(crate) fn tell_stop(stop: ScriptStop, fault: &mut ScriptFaultRecord) -> u32
         ScriptStop::Memory(_) => NO_MEMORY,
     }
 }
+
+/// The kind with a number, 1 to 17.
+fn kind_in(number: u8) -> Kind
+    ensures { result ≡ kind_in number }
+{
+    match number {
+        1 => Kind::Word,
+        2 => Kind::Number,
+        3 => Kind::Name,
+        4 => Kind::Twice,
+        5 => Kind::Late,
+        6 => Kind::TooManyNodes,
+        7 => Kind::NoNode,
+        8 => Kind::NoPort,
+        9 => Kind::InUse,
+        10 => Kind::SameNode,
+        11 => Kind::NotPlugged,
+        12 => Kind::Range,
+        13 => Kind::NotSettled,
+        14 => Kind::NoManager,
+        15 => Kind::NotManager,
+        16 => Kind::TooManyTurns,
+        _ => Kind::TooManyMaps,
+    }
+}
+
+/// The fault that a record tells whose kind is 1 to 17.
+pub(crate) fn fault_in(fault: &ScriptFaultRecord) -> ScriptFault
+    ensures { result ≡ fault_in fault.now }
+{
+    let ScriptFaultRecord { line, kind } = *fault;
+    ScriptFault {
+        line,
+        kind: kind_in(kind),
+    }
+}
+
+/// A law: the fault of a fault's record is that fault.
+pub fn script_faults_are_read_back()
+    ensures { ScriptFaultsAreReadBack }
+{}

@@ -3,6 +3,8 @@
 //! again. It is a library of its own, so that a program that only reads buses has nothing of scripts.
 #![tactic(auto)]
 
+mod captured;
 mod fault;
 mod record;
 mod script;
+mod text;

@@ -1,0 +1,207 @@
+"""Tries python/busconf.py: its numbers and records against the header's, and its calls over the cases of the programs.
+
+The first argument is the top of the repository; BUSCONF_LIBRARY names the shared object.
+"""
+import ctypes
+import glob
+import os
+import re
+import sys
+
+top = sys.argv[1]
+sys.path.insert(0, os.path.join(top, "python"))
+sys.dont_write_bytecode = True
+
+import busconf  # noqa: E402
+
+bad = []
+
+
+def text(path):
+    with open(os.path.join(top, path), encoding="utf-8") as file:
+        return file.read()
+
+
+def data(path):
+    with open(path, "rb") as file:
+        return file.read()
+
+
+def cases(folder):
+    """The inputs of a folder of cases, the words of each, and what is wanted of it."""
+    for wanted in sorted(glob.glob(os.path.join(top, "cases", folder, "*.stdout"))):
+        path = wanted[: -len(".stdout")]
+        words = data(path + ".args").decode().split() if os.path.exists(path + ".args") else []
+        yield path, words, data(wanted).decode()
+
+
+def expect(holds, what):
+    if not holds:
+        bad.append(what)
+
+
+# ---- numbers and records
+
+families = {
+    "status": (busconf.Status, ""),
+    "standard": (busconf.Standard, ""),
+    "slot_status": (busconf.SlotStatus, "SLOT_"),
+    "fault_kind": (busconf.FaultKind, "FAULT_"),
+    "packet_kind": (busconf.PacketKind, "PACKET_"),
+    "script_fault_kind": (busconf.ScriptFaultKind, "SCRIPT_"),
+    "block_kind": (busconf.BlockKind, "BLOCK_"),
+    "block_crc": (busconf.BlockCrc, "CRC_"),
+    "rom_fault_kind": (busconf.RomFaultKind, "ROM_"),
+    "grant_kind": (busconf.GrantKind, "GRANT_"),
+}
+header = text("include/busconf.h")
+for name, body in re.findall(r"^enum busconf_(\w+) \{\n(.*?)^\};", header, re.M | re.S):
+    has = {it: int(number) for it, number in re.findall(r"\bBUSCONF_(\w+) = (\d+)", body)}
+    if has:
+        family, prefix = families.pop(name, (busconf.Status, "?"))
+        expect(has == {prefix + it.name: it.value for it in family}, f"enum busconf_{name}")
+expect(not families, f"no enum of the header: {', '.join(families)}")
+for name in ("ID_NONE", "MAX_NODES", "MAX_SLOTS", "READER_QUADS"):
+    expect(f"#define BUSCONF_{name} {getattr(busconf, name)}u" in header, name)
+version = re.search(r'VERSION: &str = "(.*)"', text("crates/about/src/lib.rt"))[1]
+expect(version == ".".join(map(str, busconf.VERSION)), f"the version is {version}")
+
+
+def record(name):
+    return getattr(busconf, "_" + "".join(it.capitalize() for it in name.split("_")))
+
+
+layout = text("tools/library/layout.c")
+for name, size in re.findall(r"^SIZE\((\w+), (\d+)\);", layout, re.M):
+    expect(ctypes.sizeof(record(name)) == int(size), f"the size of struct busconf_{name}")
+for name, field, place in re.findall(r"^AT\((\w+), (\w+), (\d+)\);", layout, re.M):
+    expect(getattr(record(name), field).offset == int(place), f"the place of {field} in struct busconf_{name}")
+
+
+# ---- cases
+
+
+def node_line(node):
+    signs = {"ABSENT": " -", "UNPLUGGED": " .", "UP": " ^{}", "DOWN": " v{}"}
+    slots = "".join(signs[it.status.name].format(it.peer) for it in node.slots)
+    return (f"node {node.id} link {int(node.link)} gap {node.gap} speed {node.speed} contender {int(node.contender)} "
+            f"power {node.power} initiated {int(node.initiated)} ports{slots}\n")
+
+
+def said_of(call, *words):
+    """What a call says, or the line of its refusal."""
+    try:
+        return call(*words)
+    except busconf.Refused as refused:
+        return f"{refused.line}\n"
+
+
+def explained(call, *words):
+    try:
+        return call(*words)
+    except busconf.Refused as refused:
+        return f"{refused.line}\n{refused.sentence}\n"
+
+
+def read(capture, standard):
+    bus = busconf.read_capture(capture, standard)
+    manager = "none" if bus.manager is None else bus.manager
+    return "".join(map(node_line, bus.nodes)) + f"nodes {len(bus.nodes)} root {bus.root} irm {manager}\n"
+
+
+def blocks(rom):
+    lines = ""
+    for it in busconf.rom_check(rom):
+        crc = "good" if it.crc == busconf.BlockCrc.GOOD else f"bad {it.kept:04x} {it.computed:04x}"
+        lines += f"{it.kind.name.lower()} {it.at} length {it.length} crc {crc}\n"
+    return lines
+
+
+def compare(folder, said, keep=lambda wanted: wanted):
+    """Compares what is said of each input of a folder with what is wanted; None passes a case over."""
+    count = 0
+    for path, words, wanted in cases(folder):
+        answer = said(data(path), words)
+        if answer is not None:
+            expect(answer == keep(wanted), os.path.relpath(path, top))
+            count += 1
+    print(f"library: module.py: {count} cases of {os.path.basename(folder)}")
+
+
+def lines_of(pattern):
+    return lambda wanted: "".join(it + "\n" for it in wanted.splitlines() if re.match(pattern, it))
+
+
+def refusal(capture, words):
+    said = explained(read, capture, 1995 if "--1995" in words else 2000)
+    return said if said.startswith("refused ") else ""
+
+
+def refusal_of(wanted):
+    found = re.search(r"^refused pair .*\n.*\n", wanted, re.M)
+    return found[0] if found else ""
+
+
+def captured(script, words):
+    if len(words) != 2 or words[0] != "capture":
+        return None
+    try:
+        return said_of(lambda: busconf.capture(script, words[1]).decode("latin-1"))
+    except ValueError:
+        return ""
+
+
+compare("busconf/read", lambda it, words: said_of(read, it, 2000))
+compare("busconf/read95", lambda it, words: said_of(read, it, 1995))
+compare("busconf/rom", lambda it, words: said_of(blocks, it), lines_of("directory |leaf |refused "))
+compare("busview/packets", refusal, refusal_of)
+compare("busconf/run", lambda it, words: said_of(busconf.run, it))
+compare("busconf/advice", lambda it, words: said_of(busconf.advice, it))
+compare("busview/trace", lambda it, words: explained(busconf.trace, it))
+compare("busview/waves", lambda it, words: explained(busconf.waves, it))
+for path, words, wanted in cases("busview/capture"):
+    answer = captured(data(path), words)
+    expect(answer in (None, data(path + ".stdout").decode("latin-1")), os.path.relpath(path, top))
+
+
+# ---- the calls that no case has
+
+script = data(os.path.join(top, "examples", "two-nodes.script"))
+capture = busconf.capture(script, "a")
+quads = [int.from_bytes(capture[at : at + 4], "big") for at in range(0, len(capture), 8)]
+bus = busconf.read(quads)
+reader = busconf.Reader()
+for quad in quads:
+    expect(reader.state()[0] == busconf.Status.INCOMPLETE, "a list that goes on")
+    reader.push(quad)
+expect(reader.state() == (busconf.Status.OK, None) and reader.quads == quads, "a list that is whole")
+expect(busconf.hops(quads) == len(bus.nodes) - 1, "hops")
+best = busconf.plan(quads)
+expect(best is None or best.gap == busconf.gap_for(best.hops), "a plan")
+for image in (busconf.topology_map(quads, 7), busconf.speed_map(quads, 7)):
+    expect(image[1] == 7 and image[0] & 0xFFFF == busconf.crc16(image[1:]), "an image")
+expect(len(busconf.speed_rows(quads)) == 64 * len(bus.nodes), "rows")
+for quad in [*quads, 0x01C50000, 0x42000000, 0x03040000, 0xC0000001]:
+    expect(busconf.encode(busconf.decode(quad)) == quad, "a packet, both ways")
+registers = busconf.Registers()
+seen = registers.look()
+registers.allocate(31, 915, seen)
+expect(registers.read(0x220) == (4000, 0), "what is left")
+try:
+    registers.allocate(32, 1, seen)
+    bad.append("what was seen changed")
+except busconf.Denied as denied:
+    expect(denied.kind == busconf.GrantKind.CHANGED and denied.now == 4000, "by which register")
+registers.release(31, 915)
+expect(registers.attempt(5) == (True, 5) and registers.attempt(6) == (False, 5), "one bus manager")
+for wrong in (lambda: busconf.read([1 << 32]), lambda: busconf.read([], 1996), lambda: busconf.run(b"\n" * 1048577)):
+    try:
+        wrong()
+        bad.append("no ValueError")
+    except busconf.Refused:
+        bad.append("refused in place of a ValueError")
+    except ValueError:
+        pass
+
+print("\n".join(f"library: module.py: {it}: not what is wanted" for it in bad) or "library: module.py: all of busconf.py")
+sys.exit(1 if bad else 0)
