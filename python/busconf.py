@@ -17,7 +17,8 @@ from __future__ import annotations
 
 import ctypes
 import os
-from collections.abc import Callable, Iterable
+import re
+from collections.abc import Callable, Iterable, Iterator
 from dataclasses import dataclass
 from enum import IntEnum
 from typing import Any
@@ -278,6 +279,22 @@ class RomFault:
     kind: RomFaultKind
     at: int
     found: int
+
+
+@dataclass(frozen=True)
+class Event:
+    """What happens on a bus once `turn` turns are done: at a node, on one of its ports or on none. Of an act of the
+    script there is no node, and `what` is its line. As a text it is the line of a trace."""
+
+    turn: int
+    node: str | None
+    port: int | None
+    what: str
+
+    def __str__(self) -> str:
+        node = "" if self.node is None else f"{self.node} "
+        port = "" if self.port is None else f"port {self.port} "
+        return f"turn {self.turn} {node}{port}{self.what}"
 
 
 @dataclass(frozen=True)
@@ -563,6 +580,25 @@ def advice(script: str | bytes) -> str:
 def trace(script: str | bytes) -> str:
     """What happens on a script's bus, an event a line, as `busview trace` writes it. Raises as `run`."""
     return _script(_library.busconf_trace, script).decode("ascii")
+
+
+_SIGNAL = r"BUS_RESET|IDLE|TX_PARENT_NOTIFY|TX_CHILD_NOTIFY|TX_GRANT|TX_IDENT_DONE|packet [0-9a-f]{8}"
+_AT_NODE = re.compile(
+    r"([a-z]\w{0,15}) (?:(enters [A-Z]\d|configuration timeout|coin (?:[01] )?wait \d+|phy_ID \d+)"
+    rf"|port (\d+) (to its parent|to a child|sends (?:{_SIGNAL})))")
+
+
+def events(script: str | bytes) -> Iterator[Event]:
+    """The events of a script's bus, in the order in which they happen: those of `trace`. Raises as `run`."""
+    for line in trace(script).splitlines():
+        _, turn, words = line.split(" ", 2)
+        at = _AT_NODE.fullmatch(words)
+        if not at:
+            yield Event(int(turn), None, None, words)
+        elif at[2]:
+            yield Event(int(turn), at[1], None, at[2])
+        else:
+            yield Event(int(turn), at[1], int(at[3]), at[4])
 
 
 def waves(script: str | bytes) -> str:

@@ -158,6 +158,7 @@ compare("busview/packets", refusal, refusal_of)
 compare("busconf/run", lambda it, words: said_of(busconf.run, it))
 compare("busconf/advice", lambda it, words: said_of(busconf.advice, it))
 compare("busview/trace", lambda it, words: explained(busconf.trace, it))
+compare("busview/trace", lambda it, words: explained(lambda: "".join(f"{event}\n" for event in busconf.events(it))))
 compare("busview/waves", lambda it, words: explained(busconf.waves, it))
 for path, words, wanted in cases("busview/capture"):
     answer = captured(data(path), words)
@@ -170,6 +171,9 @@ script = data(os.path.join(top, "examples", "two-nodes.script"))
 capture = busconf.capture(script, "a")
 quads = [int.from_bytes(capture[at : at + 4], "big") for at in range(0, len(capture), 8)]
 bus = busconf.read(quads)
+at_nodes = [it for it in busconf.events(script) if it.node is not None]
+expect({it.node for it in at_nodes} == {"a", "b"}, "the nodes of events")
+expect(sum(it.what.startswith("phy_ID ") for it in at_nodes) >= len(bus.nodes), "each node takes an ID")
 reader = busconf.Reader()
 for quad in quads:
     expect(reader.state()[0] == busconf.Status.INCOMPLETE, "a list that goes on")
