@@ -6,7 +6,7 @@ use Rattle.about.specs.declared.asked.About.TheVariants.{Help, Version}
 use Rattle.self_id.specs.declared.standard.Standard.{Standard}
 use Rattle.self_id.specs.declared.standard.Standard.TheVariants.{Ieee1995, Ieee2000}
 use Rattle.bus_view.specs.declared.form.CaptureView.{CaptureView}
-use Rattle.bus_view.specs.declared.form.CaptureView.TheVariants.{Packets, Tree, Dot}
+use Rattle.bus_view.specs.declared.form.CaptureView.TheVariants.{Packets, Tree, Dot, Json}
 use Rattle.bus_view.specs.declared.form.ViewForm.{ViewForm}
 use Rattle.bus_view.specs.declared.form.ViewForm.TheVariants.{Capture, Trace, Waves, Script, ListOf, Explain, Resets, Nosy, OfItself}
 use Rattle.script_lines.specs.Name.{is_name}
@@ -50,12 +50,14 @@ abbrev view_word : CaptureView → List ℕ
 view_word Packets = codes "packets"
 view_word Tree = codes "tree"
 view_word Dot = codes "dot"
+view_word Json = codes "json"
 
 abbrev view_of : List ℕ → Option CaptureView
 view_of word =
     cond (same word (codes "packets")) (Some Packets)
     (cond (same word (codes "tree")) (Some Tree)
-    (cond (same word (codes "dot")) (Some Dot) None))
+    (cond (same word (codes "dot")) (Some Dot)
+    (cond (same word (codes "json")) (Some Json) None)))
 
 capture_of : Option CaptureView → Standard → Option ViewForm
 capture_of None standard = None
@@ -111,6 +113,8 @@ is_found (Capture Tree Ieee1995) words e = ap (λ (ws : List (List ℕ)). form_o
 is_found (Capture Tree Ieee2000) words e = ap (λ (ws : List (List ℕ)). form_of ws) e
 is_found (Capture Dot Ieee1995) words e = ap (λ (ws : List (List ℕ)). form_of ws) e
 is_found (Capture Dot Ieee2000) words e = ap (λ (ws : List (List ℕ)). form_of ws) e
+is_found (Capture Json Ieee1995) words e = ap (λ (ws : List (List ℕ)). form_of ws) e
+is_found (Capture Json Ieee2000) words e = ap (λ (ws : List (List ℕ)). form_of ws) e
 is_found Trace words e = ap (λ (ws : List (List ℕ)). form_of ws) e
 is_found Waves words e = ap (λ (ws : List (List ℕ)). form_of ws) e
 is_found Explain words e = ap (λ (ws : List (List ℕ)). form_of ws) e
@@ -140,6 +144,7 @@ of_view : (view : CaptureView) (standard : Standard) (words : List (List ℕ)) �
 of_view Packets standard words e = e
 of_view Tree standard words e = e
 of_view Dot standard words e = e
+of_view Json standard words e = e
 
 -- the first view whose word it is, or one of the rest
 tried : (test : Bool) (word : List ℕ) (first view : CaptureView) (rest : Option CaptureView) →
@@ -153,7 +158,8 @@ view_is : (word : List ℕ) (view : CaptureView) → view_of word ≡ Some view 
 view_is word view e =
     tried (same word (codes "packets")) word Packets view _ (same-true word (codes "packets"))
     (tried (same word (codes "tree")) word Tree view _ (same-true word (codes "tree"))
-    (tried (same word (codes "dot")) word Dot view None (same-true word (codes "dot")) (λ none. absurd cc))) e
+    (tried (same word (codes "dot")) word Dot view _ (same-true word (codes "dot"))
+    (tried (same word (codes "json")) word Json view None (same-true word (codes "json")) (λ none. absurd cc)))) e
 
 of_capture : (found : Option CaptureView) (standard : Standard) (word : List ℕ) (form : ViewForm) →
     ((view : CaptureView) → found ≡ Some view → word ≡ view_word view) →

@@ -9,3 +9,4 @@ pub mod Said
 pub mod Fitting
 pub mod Printed
 pub mod Captured
+pub mod TheLine

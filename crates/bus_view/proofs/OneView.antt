@@ -25,7 +25,7 @@ use Rattle.script_waves.specs.OneDump.{ScriptsHaveOneDump, DumpedScriptsAreTold}
 use Rattle.view_text.specs.Pairs.{AreShown, pairs_text}
 use Rattle.view_text.specs.Drawing.{IsDrawing, IsRoot, drawing}
 use Rattle.bus_view.specs.declared.form.CaptureView.{CaptureView}
-use Rattle.bus_view.specs.declared.form.CaptureView.TheVariants.{Packets, Tree as Drawn, Dot}
+use Rattle.bus_view.specs.declared.form.CaptureView.TheVariants.{Packets, Tree as Drawn, Dot, Json}
 use Rattle.bus_view.specs.declared.form.ViewForm.{ViewForm}
 use Rattle.bus_view.specs.declared.form.ViewForm.TheVariants.{Capture, Trace, Waves, Script, ListOf, Explain, Resets, Nosy, OfItself}
 use Rattle.bus_view.specs.Answer.{Reading, spelt, refused, IsReading, status_of, ShowsPackets, HasText, IsCaptureView, IsTraceView, traced, at_fault, IsWavesView, dumped, not_dumped, IsListView, has_list, has_none, IsView, viewed, no_form, IsExplainView, has_text, has_fault}
@@ -98,6 +98,8 @@ same_text Drawn standard bytes (spelt t) a b x y = same_drawing t a b x y
 same_text Drawn standard bytes (refused f) a b x y = x ∙ sym y
 same_text Dot standard bytes (spelt t) a b x y = x ∙ sym y
 same_text Dot standard bytes (refused f) a b x y = x ∙ sym y
+same_text Json standard bytes (spelt t) a b x y = x ∙ sym y
+same_text Json standard bytes (refused f) a b x y = x ∙ sym y
 
 same_capture : HasOneReading →
     (view : CaptureView) (standard : Standard) (bytes : List ℕ) (s r : ℕ) (a b : List ℕ) →

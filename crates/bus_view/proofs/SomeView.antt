@@ -23,8 +23,10 @@ use Rattle.script_waves.specs.OneDump.{RunsHaveDumps}
 use Rattle.view_text.specs.Pairs.{pairs_text}
 use Rattle.view_text.specs.Drawing.{IsDrawing, IsRoot, drawing}
 use Rattle.view_text.specs.Graph.{graph}
+use Rattle.bus_json.specs.Text.{json_line}
+use Rattle.bus_json.specs.Bus.{bus_value}
 use Rattle.bus_view.specs.declared.form.CaptureView.{CaptureView}
-use Rattle.bus_view.specs.declared.form.CaptureView.TheVariants.{Packets, Tree as Drawn, Dot}
+use Rattle.bus_view.specs.declared.form.CaptureView.TheVariants.{Packets, Tree as Drawn, Dot, Json}
 use Rattle.bus_view.specs.declared.form.ViewForm.{ViewForm}
 use Rattle.bus_view.specs.declared.form.ViewForm.TheVariants.{Capture, Trace, Waves, Script, ListOf, Explain, Resets, Nosy, OfItself}
 use Rattle.about.specs.Told.{about_text}
@@ -37,6 +39,7 @@ use Rattle.bus_view.specs.Sentence.{place, note}
 use Rattle.bus_view.specs.Answer.{Reading, spelt, refused, IsReading, status_of, HasText, IsCaptureView, IsTraceView, traced, at_fault, IsWavesView, dumped, not_dumped, IsListView, has_list, has_none, IsView, Answers, viewed, no_form, IsExplainView, has_text, has_fault}
 use Rattle.script_words.specs.Before.{feed_lines}
 use Rattle.bus_view.specs.Explained.{explanation}
+use Rattle.bus_view.specs.Json.{fault_value}
 use Rattle.bus_view.specs.OneAnswer.{EachInputHasAView}
 use Rattle.bus_view.proofs.Said.{some_explained}
 use Rattle.bus_view.proofs.Forms.{form_or_none}
@@ -82,6 +85,8 @@ some-text Drawn standard bytes (spelt t) fit = some-drawing t
 some-text Drawn standard bytes (refused f) fit = (fault_line f, refl)
 some-text Dot standard bytes (spelt t) fit = (graph t, refl)
 some-text Dot standard bytes (refused f) fit = (fault_line f, refl)
+some-text Json standard bytes (spelt t) fit = (json_line (bus_value t), refl)
+some-text Json standard bytes (refused f) fit = (json_line (fault_value f), refl)
 
 -- what may be shown, what is said of scripts
 pub record HasSomeReading : Type 0 where

@@ -21,14 +21,17 @@ use Rattle.script_waves.specs.Waves.{IsWaves}
 use Rattle.view_text.specs.Pairs.{AreShown, pairs_text}
 use Rattle.view_text.specs.Drawing.{IsDrawing}
 use Rattle.view_text.specs.Graph.{graph}
+use Rattle.bus_json.specs.Text.{json_line}
+use Rattle.bus_json.specs.Bus.{bus_value}
 use Rattle.bus_view.specs.declared.form.CaptureView.{CaptureView}
-use Rattle.bus_view.specs.declared.form.CaptureView.TheVariants.{Packets, Tree as Drawn, Dot}
+use Rattle.bus_view.specs.declared.form.CaptureView.TheVariants.{Packets, Tree as Drawn, Dot, Json}
 use Rattle.bus_view.specs.declared.form.ViewForm.{ViewForm}
 use Rattle.bus_view.specs.declared.form.ViewForm.TheVariants.{Capture, Trace, Waves, Script, ListOf, Explain, Resets, Nosy, OfItself}
 use Rattle.bus_view.specs.declared.help.TheConstants.{VIEW_HELP}
 use Rattle.bus_view.specs.Form.{Asks, IsForm}
 use Rattle.bus_view.specs.Sentence.{place, note}
 use Rattle.bus_view.specs.Explained.{explanation, IsExplained}
+use Rattle.bus_view.specs.Json.{fault_value}
 use Rattle.bus_view.specs.Log.{IsLogView, IsDumpView}
 
 -- what a capture is read as by a standard: the tree that it spells, or its fault, as `busconf read`
@@ -66,6 +69,8 @@ HasText Drawn standard bytes (spelt t) text = IsDrawing t text
 HasText Drawn standard bytes (refused f) text = text ≡ fault_line f
 HasText Dot standard bytes (spelt t) text = text ≡ graph t
 HasText Dot standard bytes (refused f) text = text ≡ fault_line f
+HasText Json standard bytes (spelt t) text = text ≡ json_line (bus_value t)
+HasText Json standard bytes (refused f) text = text ≡ json_line (fault_value f)
 
 -- the status and the text of a capture
 pub record IsCaptureView (view : CaptureView) (standard : Standard) (bytes : List ℕ) (status : ℕ)

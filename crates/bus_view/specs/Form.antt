@@ -9,7 +9,7 @@ use Rattle.script_lines.specs.Name.{is_name}
 use Rattle.script_lines.specs.Number.{number_of}
 use Rattle.reset_log.specs.Form.{AreWordsBy as AreResetsWords}
 use Rattle.nosy_dump.specs.Form.{AreWordsBy as AreNosyWords}
-use Rattle.bus_view.specs.declared.form.CaptureView.TheVariants.{Packets, Tree, Dot}
+use Rattle.bus_view.specs.declared.form.CaptureView.TheVariants.{Packets, Tree, Dot, Json}
 use Rattle.bus_view.specs.declared.form.ViewForm.{ViewForm}
 use Rattle.bus_view.specs.declared.form.ViewForm.TheVariants.{Capture, Trace, Waves, Script, ListOf, Explain, Resets, Nosy, OfItself}
 
@@ -33,6 +33,7 @@ abbrev pub AreWordsOf : ViewForm → List (List ℕ) → Type 0
 AreWordsOf (Capture Packets standard) words = words ≡ codes "packets" ∷ standard_words standard
 AreWordsOf (Capture Tree standard) words = words ≡ codes "tree" ∷ standard_words standard
 AreWordsOf (Capture Dot standard) words = words ≡ codes "dot" ∷ standard_words standard
+AreWordsOf (Capture Json standard) words = words ≡ codes "json" ∷ standard_words standard
 AreWordsOf Trace words = words ≡ codes "trace" ∷ []
 AreWordsOf Waves words = words ≡ codes "waves" ∷ []
 AreWordsOf Explain words = words ≡ codes "explain" ∷ []

@@ -1,6 +1,7 @@
 pub mod Form
 pub mod Sentence
 pub mod Explained
+pub mod Json
 pub mod Log
 pub mod Answer
 pub mod OneAnswer

@@ -12,12 +12,14 @@ ghost use Rattle.bus_cli.specs.Line.{fault_line};
 
 use crate::form::{CaptureView, ViewForm};
 use crate::help::VIEW_HELP;
+use crate::json::fault_json;
 use crate::pairs::capture_of;
 use crate::sentence::note_of;
 use about::{About, about_text};
 use bus_cli::{
     CaptureFault, CaptureStop, MAX_INPUT, REFUSED, VALID, fault_line, read_capture, script_line,
 };
+use bus_json::bus_line;
 use io_edges::{ReadStop, Source, read_all};
 use quad_lanes::quads_of;
 use script_made::make_script;
@@ -121,6 +123,24 @@ fn view_dot(alloc: Global, standard: Standard, bytes: &[u8]) -> Result<View, Out
         Err(CaptureStop::Fault(fault)) => Ok(View {
             status: REFUSED,
             text: line_text(alloc, fault)?,
+        }),
+        Err(CaptureStop::Memory(error)) => Err(error),
+    }
+}
+
+/// The same as a line of JSON.
+fn view_json(alloc: Global, standard: Standard, bytes: &[u8]) -> Result<View, OutOfMemory>
+    ensures { IfOk result (λ view.
+        IsCaptureView CaptureView.Json standard bytes.now view.status view.text.items) }
+{
+    match read_capture(alloc, standard, bytes) {
+        Ok(tree) => Ok(View {
+            status: VALID,
+            text: bus_line(alloc, &tree)?,
+        }),
+        Err(CaptureStop::Fault(fault)) => Ok(View {
+            status: REFUSED,
+            text: fault_json(alloc, fault)?,
         }),
         Err(CaptureStop::Memory(error)) => Err(error),
     }
@@ -315,6 +335,7 @@ fn view_of(alloc: Global, form: ViewForm, bytes: &[u8]) -> Result<View, OutOfMem
         ViewForm::Capture(CaptureView::Packets, standard) => view_packets(alloc, standard, bytes),
         ViewForm::Capture(CaptureView::Tree, standard) => view_tree(alloc, standard, bytes),
         ViewForm::Capture(CaptureView::Dot, standard) => view_dot(alloc, standard, bytes),
+        ViewForm::Capture(CaptureView::Json, standard) => view_json(alloc, standard, bytes),
         ViewForm::Trace => view_trace(alloc, bytes),
         ViewForm::Waves => view_waves(alloc, bytes),
         ViewForm::Explain => view_explain(alloc, bytes),

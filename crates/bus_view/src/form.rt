@@ -17,6 +17,8 @@ pub enum CaptureView {
     Tree,
     /// `dot`: the tree as a Graphviz graph.
     Dot,
+    /// `json`: the tree, or the fault, as a line of JSON.
+    Json,
 }
 
 /// What the program can be asked for.
@@ -55,6 +57,7 @@ impl ViewForm {
             "packets" => Some(ViewForm::Capture(CaptureView::Packets, Standard::Ieee2000)),
             "tree" => Some(ViewForm::Capture(CaptureView::Tree, Standard::Ieee2000)),
             "dot" => Some(ViewForm::Capture(CaptureView::Dot, Standard::Ieee2000)),
+            "json" => Some(ViewForm::Capture(CaptureView::Json, Standard::Ieee2000)),
             "trace" => Some(ViewForm::Trace),
             "waves" => Some(ViewForm::Waves),
             "explain" => Some(ViewForm::Explain),
@@ -86,6 +89,7 @@ impl ViewForm {
             }
             ("tree", "--1995") => Some(ViewForm::Capture(CaptureView::Tree, Standard::Ieee1995)),
             ("dot", "--1995") => Some(ViewForm::Capture(CaptureView::Dot, Standard::Ieee1995)),
+            ("json", "--1995") => Some(ViewForm::Capture(CaptureView::Json, Standard::Ieee1995)),
             ("resets", "--1995") => Some(ViewForm::Resets(Standard::Ieee1995)),
             ("nosy", "--1995") => Some(ViewForm::Nosy(Standard::Ieee1995)),
             ("capture", name) => ViewForm::of_capture(name.as_bytes()),
@@ -135,6 +139,7 @@ impl ViewForm {
 /// How the program is called, in one line for a form.
 pub const VIEW_USAGE: &str = "usage: busview packets [--1995] < CAPTURE\n       \
     busview tree [--1995] < CAPTURE\n       busview dot [--1995] < CAPTURE\n       \
+    busview json [--1995] < CAPTURE\n       \
     busview trace < SCRIPT\n       busview waves < SCRIPT\n       \
     busview explain < SCRIPT\n       busview capture NAME < SCRIPT\n       \
     busview script N SEED\n       busview flawed KIND N SEED [--1995]\n       \

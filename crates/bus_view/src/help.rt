@@ -8,6 +8,7 @@ busview shows FireWire cable buses to people at a bench
 busview packets < CAPTURE  each packet field by field, and what is wrong where
 busview tree < CAPTURE     the tree of the bus as a drawing
 busview dot < CAPTURE      the tree of the bus as a graph for Graphviz
+busview json < CAPTURE     the tree of the bus as JSON, for programs
 busview trace < SCRIPT     what happens on the bus of a script, turn by turn
 busview waves < SCRIPT     what changes on it, for waveform viewers
 busview explain < SCRIPT   what is at fault in a script, and what was wanted
@@ -19,8 +20,8 @@ busview nosy < DUMP        the bus at each reset in a recording of nosy-dump
 busview --help, -h         this text
 busview --version          the version, its kit, and the standards
 
-With --1995 behind packets, tree, dot, resets or nosy self-ID packets are read
-by IEEE Std 1394-1995: up to 27 ports a node.
+With --1995 behind packets, tree, dot, json, resets or nosy self-ID packets are
+read by IEEE Std 1394-1995: up to 27 ports a node.
 
 A capture is the self-ID packets of one bus reset, each as a big-endian quadlet
 and its bitwise inverse. Input is at most 1,048,576 bytes; a log or a dump may

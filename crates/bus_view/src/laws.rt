@@ -1,5 +1,6 @@
 //! Laws of views.
 ghost use Rattle.bus_view.specs.Captured.{CapturesAreOfReports, ListsFit};
+ghost use Rattle.bus_view.specs.Json.{FaultsTellTheirLines};
 ghost use Rattle.bus_view.specs.Summed.{MakeSumsUpTheScript};
 ghost use Rattle.bus_view.specs.OneAnswer.{EachInputHasAView, NoInputHasTwoViews};
 
@@ -35,6 +36,12 @@ pub fn make_sums_up_the_script()
 {
     made_scripts_have_no_fault();
 }
+
+/// A law: what `json` writes of a refused capture has the pair, the kind and the counts that stand in the
+/// line of `busconf read`.
+pub fn faults_tell_their_lines()
+    ensures { FaultsTellTheirLines }
+{}
 
 /// A law: what `capture NAME` writes at status 0 is read by `busconf read` as the tree that stands in the
 /// script's last report, names aside. The script's last command prints that report.

@@ -4,6 +4,7 @@
 mod answer;
 mod form;
 mod help;
+mod json;
 mod laws;
 mod logs;
 mod pairs;
@@ -12,5 +13,7 @@ mod top;
 
 pub use form::{CaptureView, VIEW_USAGE, ViewForm};
 pub use help::VIEW_HELP;
-pub use laws::{captures_are_of_reports, make_sums_up_the_script, one_view};
+pub use laws::{
+    captures_are_of_reports, faults_tell_their_lines, make_sums_up_the_script, one_view,
+};
 pub use top::view_main;

@@ -130,7 +130,7 @@ fn view_asked<S: Source, K: Sink>(
 /// | status | comes |
 /// |---|---|
 /// | 0 | the capture was read to its end and spells a tree, or the script has no fault, and the whole view was written; or, with `script`, the whole script that is made; or all resets of a log or a dump without fault; or the whole help or version |
-/// | 1 | the capture was read to its end and is refused, as `busconf read` refuses it; with `packets` all its pairs were written, with the line of the fault and a sentence on it below the pair at fault, with the other forms the line alone. Or the script is refused, as `busconf run` refuses it, and the line of its fault was written. Or something in a log or a dump is at fault, and all that is shown of it was written |
+/// | 1 | the capture was read to its end and is refused, as `busconf read` refuses it; with `packets` all its pairs were written, with the line of the fault and a sentence on it below the pair at fault, with the other forms the line alone, which `json` writes as JSON. Or the script is refused, as `busconf run` refuses it, and the line of its fault was written. Or something in a log or a dump is at fault, and all that is shown of it was written |
 /// | 2 | the words are none of the forms; nothing was read or written |
 /// | 3 | the source failed; nothing was written, but of a log or a dump what came before |
 /// | 4 | the sink failed; the first bytes of the text were written, or none |
@@ -154,8 +154,8 @@ pub fn view_main<S: Source, K: Sink>(
         (Answers words.now) result source.old source.new sink.old sink.new }
     ensures no_form { (result ≡ 2) ↔ (¬ IsForm words.now) }
 
-    // With `packets`, `tree` and `dot` it is that view of the capture by the standard, or of its
-    // fault.
+    // With `packets`, `tree`, `dot` and `json` it is that view of the capture by the standard, or of
+    // its fault.
     ensures packets { (standard : Standard) →
         Asks words.now (ViewForm.Capture CaptureView.Packets standard) →
         IsWritten (IsCaptureView CaptureView.Packets standard)
@@ -167,6 +167,10 @@ pub fn view_main<S: Source, K: Sink>(
     ensures dot { (standard : Standard) →
         Asks words.now (ViewForm.Capture CaptureView.Dot standard) →
         IsWritten (IsCaptureView CaptureView.Dot standard)
+        result (S.left source.old) (K.written sink.old) (K.written sink.new) }
+    ensures json { (standard : Standard) →
+        Asks words.now (ViewForm.Capture CaptureView.Json standard) →
+        IsWritten (IsCaptureView CaptureView.Json standard)
         result (S.left source.old) (K.written sink.old) (K.written sink.new) }
 
     // With `trace` it is the trace of the script, with `waves` its dump, and with `explain` what is

@@ -52,7 +52,9 @@ fn put_no_event(rt: &HostRuntime, front: &[u8]) {
 /// What input looks like that a form refused, where it looks like something else, and what reads it.
 fn hint_of(form: &ViewForm, front: &[u8]) -> &'static [u8] {
     match form {
-        ViewForm::Capture(CaptureView::Tree | CaptureView::Dot, _) => hint_text(likeness_of(front)),
+        ViewForm::Capture(CaptureView::Tree | CaptureView::Dot | CaptureView::Json, _) => {
+            hint_text(likeness_of(front))
+        }
         ViewForm::Trace | ViewForm::Waves | ViewForm::Explain | ViewForm::ListOf(_) => {
             other_hint(front)
         }

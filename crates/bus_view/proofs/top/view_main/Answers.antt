@@ -1,5 +1,5 @@
 use Rattle.script_made.specs.Made.{made_script}
-use Rattle.bus_view.specs.declared.form.CaptureView.TheVariants.{Packets, Tree, Dot}
+use Rattle.bus_view.specs.declared.form.CaptureView.TheVariants.{Packets, Tree, Dot, Json}
 use Rattle.bus_view.specs.declared.form.ViewForm.TheVariants.{Capture, Trace, Waves, ListOf, Explain}
 use Rattle.bus_view.proofs.Forms.{log_apart}
 use Rattle.bus_view.proofs.Ends.{form_written, capture_written}
@@ -13,6 +13,9 @@ returns-clause-tree g c = λ standard asks. form_written c.args.words.now (Captu
 
 pub returns-clause-dot : goal.returns-clause-dot
 returns-clause-dot g c = λ standard asks. form_written c.args.words.now (Capture Dot standard) asks _ _ _ _ (c.view_asked.ensures.streams (log_apart c.args.words.now (Capture Dot standard) tt asks)).answer
+
+pub returns-clause-json : goal.returns-clause-json
+returns-clause-json g c = λ standard asks. form_written c.args.words.now (Capture Json standard) asks _ _ _ _ (c.view_asked.ensures.streams (log_apart c.args.words.now (Capture Json standard) tt asks)).answer
 
 pub returns-clause-trace : goal.returns-clause-trace
 returns-clause-trace g c = λ asks. form_written c.args.words.now Trace asks _ _ _ _ (c.view_asked.ensures.streams (log_apart c.args.words.now Trace tt asks)).answer

@@ -1,0 +1,4 @@
+pub mod ReadBack
+pub mod Slots
+pub mod Names
+pub mod Nodes

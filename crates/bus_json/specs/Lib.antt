@@ -1,0 +1,4 @@
+pub mod Text
+pub mod Bus
+pub mod Refusal
+pub mod codings

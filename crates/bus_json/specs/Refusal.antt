@@ -1,0 +1,22 @@
+-- The value of a refused capture.
+use Rattle.std.specs.Prelude.{ℕ, Option, Some, None, List, codes}
+use Rattle.json.specs.Json.{Json, string, object, Members, no_members, member}
+use Rattle.bus_json.specs.declared.refusal.Counts.{Counts}
+use Rattle.bus_json.specs.Text.{numeral}
+use Rattle.bus_json.specs.Bus.{with_schema}
+
+-- what was found and what was wanted, where both are known
+abbrev pub counts_members : Option Counts → Members
+counts_members None = no_members
+counts_members (Some c) =
+    member (codes "found") (numeral c.found) (member (codes "wanted") (numeral c.wanted) no_members)
+
+-- an object with the one member `refused`
+abbrev pub with_refusal : Members → Json
+with_refusal members = with_schema (member (codes "refused") (object members) no_members)
+
+-- the pair at fault and the kind of its fault
+abbrev pub refusal_value : ℕ → List ℕ → Option Counts → Json
+refusal_value pair kind counts =
+    with_refusal (member (codes "pair") (numeral pair)
+    (member (codes "kind") (string kind) (counts_members counts)))

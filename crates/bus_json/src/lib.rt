@@ -1,0 +1,10 @@
+//! What is told to programs: a bus tree, or the refusal of a capture, as a line of JSON (RFC 8259).
+#![tactic(auto)]
+
+mod bus;
+mod json_text;
+mod refusal;
+
+pub use bus::{bus_line, name_text, put_tree};
+pub use json_text::JsonText;
+pub use refusal::{Counts, refusal_line};

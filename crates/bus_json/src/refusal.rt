@@ -1,0 +1,58 @@
+//! A refused capture.
+ghost use Rattle.std.specs.Prelude.{◌≡◌, ◌++◌, ◌∷◌, [], Some, IfOk, OnOk};
+ghost use Rattle.json.specs.Token.{begin_object, end_object, key};
+ghost use Rattle.json.specs.Json.{document};
+ghost use Rattle.json.specs.Tree.{members_tokens};
+ghost use Rattle.bus_json.specs.Text.{json_line, json_text};
+ghost use Rattle.bus_json.specs.Refusal.{counts_members, refusal_value};
+
+use crate::json_text::JsonText;
+use std::alloc::Global;
+use topology_stack::OutOfMemory;
+
+/// How many there were, and how many it should have been.
+#[derive(Clone, Copy, Debug, PartialEq, Eq)]
+pub struct Counts {
+    /// How many there were.
+    pub found: u8,
+    /// How many it should have been.
+    pub wanted: u8,
+}
+
+/// Writes what was found and wanted, where both are known, and ends the object.
+fn put_counts(out: &mut JsonText, counts: Option<Counts>) -> Result<(), OutOfMemory>
+    ensures { OnOk result (out.new ≡ out.old ++ members_tokens (counts_members counts)) }
+{
+    if let Some(Counts { found, wanted }) = counts {
+        out.number_member("found", u64::from(found))?;
+        out.number_member("wanted", u64::from(wanted))?;
+    }
+    out.close_object()
+}
+
+/// The line of a refused capture: the pair at fault, the kind of its fault, and what was found and
+/// wanted where both are known.
+///
+/// `{"schema":1,"refused":{"pair":P,"kind":"KIND","found":F,"wanted":W}}`.
+pub fn refusal_line(
+    alloc: Global,
+    pair: usize,
+    kind: &str,
+    counts: Option<Counts>,
+) -> Result<Vec<u8>, OutOfMemory>
+    ensures line { IfOk result (λ line. line.items
+        ≡ json_line (refusal_value pair kind.now counts)) }
+    ensures reads_back { IfOk result (λ line. document (json_text (refusal_value pair kind.now counts))
+        ≡ Some (refusal_value pair kind.now counts)) }
+{
+    let mut out = JsonText::new(alloc);
+    out.open_schema()?;
+    out.key("refused")?;
+    out.open_object()?;
+    out.number_member("pair", pair as u64)?;
+    out.string_member("kind", kind)?;
+    put_counts(&mut out, counts)?;
+    out.close_object()?;
+    let line = out.into_line()?;
+    Ok(line)
+}
