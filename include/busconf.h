@@ -24,9 +24,9 @@ extern "C" {
 
 /* ---- The version
  *
- * BUSCONF_VERSION is the version of this header and busconf_version that of the library that a program runs with: a
- * million times the first part, a thousand times the second, and the third. Until 1.0 a rise of the second part may
- * change names, records and numbers; the soname, libbusconf.so.0, rises with what an older program can't run with.
+ * BUSCONF_VERSION is the version of this header, and busconf_version that of the library that a program runs with: a
+ * million times the first part, a thousand times the second, and the third. Until 1.0, names, records and numbers may
+ * change when the second part rises. The number in the soname, libbusconf.so.0, rises when older programs no longer run.
  */
 #define BUSCONF_VERSION 3000 /* 0.3.0 */
 
