@@ -43,9 +43,11 @@ int main(int argc, char **argv) {
   static struct busconf_node nodes[BUSCONF_MAX_NODES];
   struct busconf_bus bus;
   struct busconf_fault fault;
-  uint32_t standard = argc > 1 ? (uint32_t)strtoul(argv[1], NULL, 10) : BUSCONF_IEEE2000;
+  uint32_t standard = BUSCONF_IEEE2000;
   size_t count = fread(bytes, 1, sizeof bytes, stdin);
-  enum busconf_status status = busconf_read_capture(bytes, count, standard, nodes, BUSCONF_MAX_NODES, &bus, &fault);
+  enum busconf_status status;
+  if (argc > 1) standard = (uint32_t)strtoul(argv[1], NULL, 10);
+  status = busconf_read_capture(bytes, count, standard, nodes, BUSCONF_MAX_NODES, &bus, &fault);
   if (status == BUSCONF_REFUSED) {
     put_fault(&fault);
     return 1;
