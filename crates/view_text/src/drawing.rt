@@ -7,12 +7,12 @@ ghost use Rattle.view_text.specs.codings.Parts.{IsChildAt, AppendsPart};
 
 use crate::cable::{Cable, cable_to};
 use crate::gaps::{gap_at, put_gaps};
-use crate::node::{put_gap_words, put_link_words, put_title, speed_word};
+use crate::node::{between_ports, put_gap_words, put_link_words, put_title};
 use crate::words::put_field;
 use bus_manager::{gap_for, hops};
 use self_id::{PortStatus, SelfId, count_down};
 use std::alloc::Global;
-use topology_stack::{BusTree, OutOfMemory, elect};
+use topology_stack::{BusTree, OutOfMemory, elect, put_number};
 
 /// Appends the words of a node.
 fn put_node_words(
@@ -25,11 +25,11 @@ fn put_node_words(
     ensures { OnOk result (out.new.items ≡ out.old.items ++ node_words id node.now root irm) }
 {
     put_title(out, id, root, irm)?;
-    out.extend_from_slice(b" ")?;
+    out.push(b' ')?;
     put_link_words(out, node.attrs)?;
-    out.extend_from_slice(b" ")?;
+    out.push(b' ')?;
     put_gap_words(out, node.attrs)?;
-    out.extend_from_slice(b"\n")?;
+    out.push(b'\n')?;
     Ok(())
 }
 
@@ -40,9 +40,8 @@ fn put_cable(out: &mut Vec<u8>, cable: Cable) -> Result<(), OutOfMemory>
         ≡ out.old.items ++ cable_text cable.port cable.speed cable.child_port) }
 {
     put_field(out, b"[", u64::from(cable.port))?;
-    out.extend_from_slice(b"]--")?;
-    out.extend_from_slice(speed_word(cable.speed))?;
-    put_field(out, b"--[", u64::from(cable.child_port))?;
+    out.extend_from_slice(between_ports(cable.speed))?;
+    put_number(out, u64::from(cable.child_port))?;
     out.extend_from_slice(b"] ")?;
     Ok(())
 }
@@ -72,16 +71,6 @@ fn put_branch(out: &mut Vec<u8>, margin: &[u8], on: bool, cable: Cable) -> Resul
     Ok(())
 }
 
-/// What stands before the lines below a child.
-fn margin_below(alloc: Global, margin: &[u8], on: bool) -> Result<Vec<u8>, OutOfMemory>
-    ensures { IfOk result (λ below. below.items ≡ margin.now ++ bar on) }
-{
-    let mut below = Vec::new(alloc);
-    below.extend_from_slice(margin)?;
-    below.extend_from_slice(bar(on))?;
-    Ok(below)
-}
-
 /// Whether a slot behind this one leads to a child.
 fn goes_on(ports: &[PortStatus], slot: usize) -> bool
     requires { slot < length ports.now }
@@ -107,17 +96,18 @@ fn child_at(tree: &BusTree, id: u8, slot: u8) -> Option<u8>
 }
 
 /// Appends the line of a node, and those of all nodes below it by rising port. `margin` is what
-/// stands before each line but the first.
+/// stands before each line but the first, and stays as it is.
 fn put_tree(
-    alloc: Global,
     out: &mut Vec<u8>,
-    margin: &[u8],
+    margin: &mut Vec<u8>,
     tree: &BusTree,
     id: u8,
     irm: Option<u8>,
 ) -> Result<(), OutOfMemory>
     requires { id < length (walk tree.now) }
-    ensures { OnOk result (AppendsPart tree.now margin.now irm id out.old.items out.new.items) }
+    ensures lines { OnOk result (AppendsPart tree.now margin.old.items irm id
+        out.old.items out.new.items) }
+    ensures margin { OnOk result (margin.new.items ≡ margin.old.items) }
 {
     put_node_words(out, id, tree.node(id), tree.root(), irm)?;
     let ports = tree.node(id).ports.as_slice();
@@ -125,8 +115,10 @@ fn put_tree(
         if let Some(child) = child_at(tree, id, slot as u8) {
             let on = goes_on(ports, slot);
             put_branch(out, margin, on, cable_to(tree, id, slot as u8, child))?;
-            let below = margin_below(alloc, margin, on)?;
-            put_tree(alloc, out, &below, tree, child, irm)?;
+            let outer = margin.len();
+            margin.extend_from_slice(bar(on))?;
+            put_tree(out, margin, tree, child, irm)?;
+            margin.truncate(outer);
         }
     }
     Ok(())
@@ -164,6 +156,11 @@ fn put_hops(out: &mut Vec<u8>, hops: u8) -> Result<(), OutOfMemory>
     Ok(())
 }
 
+/// The bytes of most drawings of so many nodes.
+fn room(nodes: u8) -> usize {
+    160 + 96 * usize::from(nodes)
+}
+
 /// The drawing of a bus tree: a line a node, the root at the top, and below each node its children
 /// by rising port, each behind the cable between them, `+--[PORT]--SPEED--[PORT] `; then the hops of
 /// the bus with the gap count that the table has for them, up to 15, and whether the nodes' gap
@@ -171,10 +168,11 @@ fn put_hops(out: &mut Vec<u8>, hops: u8) -> Result<(), OutOfMemory>
 pub fn tree_drawing(alloc: Global, tree: &BusTree) -> Result<Vec<u8>, OutOfMemory>
     ensures { IfOk result (λ text. IsDrawing tree.now text.items) }
 {
-    let mut out = Vec::new(alloc);
+    let mut out = Vec::with_capacity(alloc, room(tree.len()))?;
+    let mut margin = Vec::with_capacity(alloc, 64)?;
     let hops = hops(tree);
     let gap = gap_at(tree, tree.root());
-    put_tree(alloc, &mut out, &[], tree, tree.root(), elect(tree))?;
+    put_tree(&mut out, &mut margin, tree, tree.root(), elect(tree))?;
     put_hops(&mut out, hops)?;
     put_gaps(&mut out, tree, gap, hops)?;
     Ok(out)

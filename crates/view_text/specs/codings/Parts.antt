@@ -1,6 +1,9 @@
 -- The parts of a tree, where they stand in the whole, and a node's slots from one on. No public contract cites
 -- this file.
-use Rattle.std.specs.Prelude.{◌≡◌, ℕ, zero, suc, ◌+◌, ◌-◌, Option, Some, None, List, ◌++◌, length, slice_get}
+use Rattle.std.specs.Prelude.{◌≡◌, ℕ, zero, suc, ◌+◌, ◌-◌, Option, Some, None, List, ◌++◌, length, slice_get, codes}
+use Rattle.self_id.specs.declared.node.Attrs.{Attrs}
+use Rattle.topology_stack.specs.Text.{truth}
+use Rattle.view_text.specs.Packet.{field}
 use Rattle.topology_stack.specs.Tree.{Label, Tree, branch, Slots, no_more, absent, unplugged, up, down, walk, walk_below}
 use Rattle.topology_stack.specs.Far.{ends_from, ends}
 use Rattle.view_text.specs.Drawing.{tree_lines}
@@ -61,3 +64,10 @@ abbrev pub AppendsPart : Tree → List ℕ → Option ℕ → ℕ → List ℕ �
 AppendsPart t margin irm id old new =
     (from parent : ℕ) (part : Tree) → Stands t from parent part →
     id + 1 ≡ from + length (walk part) → new ≡ old ++ tree_lines margin (length (walk t) - 1) irm from part
+
+-- ---- the words of a node
+
+-- what stands before a node's gap count
+unfoldable pub gap_front : Attrs → List ℕ
+gap_front a =
+    field (codes "initiated ") (truth a.initiated) ++ (field (codes " speed ") a.speed ++ codes " gap ")

@@ -14,7 +14,7 @@ returns c =
     let place : length ns - 1 ≡ c.root.result = omega (arith, c.root.ensures) in
     let t = c.args.tree.now in
     let whole : Stands t 0 63 t = record { nodes = has-itself (walk t); ends_too = has-itself (ends t) } in
-    let lines = c.in_ok-put_tree.ensures 0 63 t whole (omega (arith, c.root.ensures)) in
+    let lines = rw c.in_ok-margin.ensures.items at (c.in_ok-put_tree.ensures.lines 0 63 t whole (omega (arith, c.root.ensures))) in
     let gap = c.gap_at-gap.ensures n.0 (subst (λ (k : ℕ). slice_get ns k ≡ Some n.0) place n.1) in
     record {
       hops = c.hops-hops.result;
@@ -22,5 +22,5 @@ returns c =
       are_hops = c.hops-hops.ensures.longest;
       is_root = n.1;
       text_is =
-          simp (c.in_ok-put_gaps.ensures, c.in_ok-put_hops.ensures, lines, c.elect.ensures.value, c.new-out.ensures.items, append_assoc, gap);
+          simp (c.in_ok-put_gaps.ensures, c.in_ok-put_hops.ensures, lines, c.elect.ensures.value, c.in_ok-out.ensures.items, append_assoc, gap);
     }

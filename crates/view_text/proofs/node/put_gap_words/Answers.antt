@@ -1,8 +1,7 @@
-use Rattle.std.proofs.Common.{append_assoc}
-use Rattle.view_text.specs.Node.{gap_words}
+use Rattle.view_text.proofs.OneDigit.{gap_words_are}
 use Rattle.view_text.proofs.node.put_gap_words.Goals as goal
 
 pub returns : goal.returns
-unfolding gap_words
 returns c =
-    simp (c.in_ok-put_field-2.ensures, c.in_ok-put_field.ensures, c.in_ok-put_flag.ensures, c.from.ensures, c.from-2.ensures, append_assoc)
+    gap_words_are c.args.out.now.items c.extend_from_slice.new.self.items c.put_number.new.out.items c.args.attrs
+    (rw c.gap_front.ensures at c.in_ok-extend_from_slice.ensures.items) (rw c.from.ensures at c.in_ok-put_number.ensures)
