@@ -12,8 +12,8 @@ ghost use Rattle.bus_cli.specs.Line.{fault_line};
 
 use crate::form::{CaptureView, ViewForm};
 use crate::help::VIEW_HELP;
-use crate::json::fault_json;
 use crate::pairs::capture_of;
+use crate::refusal::fault_json;
 use crate::sentence::note_of;
 use about::{About, about_text};
 use bus_cli::{

@@ -5,20 +5,23 @@ pub const VIEW_HELP: &str = "\
 busview shows FireWire cable buses to people at a bench
 (IEEE Std 1394-1995 and 1394a-2000).
 
-busview packets < CAPTURE  each packet field by field, and what is wrong where
-busview tree < CAPTURE     the tree of the bus as a drawing
-busview dot < CAPTURE      the tree of the bus as a graph for Graphviz
-busview json < CAPTURE     the tree of the bus as JSON, for programs
-busview trace < SCRIPT     what happens on the bus of a script, turn by turn
-busview waves < SCRIPT     what changes on it, for waveform viewers
-busview explain < SCRIPT   what is at fault in a script, and what was wanted
-busview capture NAME < SCRIPT  the capture of the bus with that node at the end
-busview script N SEED      the script that busconf make N SEED runs
+busview packets [CAPTURE ..]  each packet field by field, and what is wrong
+busview tree [CAPTURE ..]   the tree of the bus as a drawing
+busview dot [CAPTURE]       the tree of the bus as a graph for Graphviz
+busview json [CAPTURE]      the tree of the bus as JSON, for programs
+busview trace [SCRIPT]      what happens on the bus of a script, turn by turn
+busview waves [SCRIPT]      what changes on it, for waveform viewers
+busview explain [SCRIPT]    what is at fault in a script, and what was wanted
+busview capture NAME [SCRIPT]  the capture of the bus with that node at the end
+busview script N SEED       the script that busconf make N SEED runs
 busview flawed KIND N SEED  a capture that busconf read refuses by that fault
-busview resets < LOG       the bus at each reset in a Linux kernel's trace
-busview nosy < DUMP        the bus at each reset in a recording of nosy-dump
-busview --help, -h         this text
-busview --version          the version, its kit, and the standards
+busview resets [LOG ..]     the bus at each reset in a Linux kernel's trace
+busview nosy [DUMP ..]      the bus at each reset in a recording of nosy-dump
+busview --help, -h          this text; behind a form, what that form does
+busview --version           the version, its kit, and the standards
+
+CAPTURE, SCRIPT, LOG and DUMP are files. Without one, and for -, standard input
+is read. Of several files each answer stands below a line with the file's name.
 
 With --1995 behind packets, tree, dot, json, resets or nosy self-ID packets are
 read by IEEE Std 1394-1995: up to 27 ports a node.
@@ -31,10 +34,11 @@ Answers, refusals too, go to standard output.
 Status: 0 the input is valid
         1 the input is refused
         2 the words are none of these forms
-        3 standard input can't be read
+        3 the input can't be read
         4 standard output can't be written
         5 there is no memory
         6 the input is too long
+Of several files it is the greatest of theirs.
 
 Pages: man busview. In the sources: README.md, docs/VIEW.md,
 docs/CAPTURES.md, docs/SCRIPTS.md.

@@ -4,10 +4,10 @@
 mod answer;
 mod form;
 mod help;
-mod json;
 mod laws;
 mod logs;
 mod pairs;
+mod refusal;
 mod sentence;
 mod top;
 
