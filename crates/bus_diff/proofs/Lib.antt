@@ -1,0 +1,4 @@
+mod Adding
+mod Single
+mod Matched
+mod Whole

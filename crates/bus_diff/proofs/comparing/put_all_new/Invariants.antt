@@ -1,0 +1,5 @@
+use Rattle.bus_diff.specs.codings.Told.{Adds, Below, IsNewAt}
+use Rattle.bus_diff.proofs.comparing.put_all_new.Given as goal
+
+abbrev pub invariant-loop-id : goal.invariant-loop-id
+invariant-loop-id l = Adds l.initial.out.items l.out.items (Below (IsNewAt l.cables l.pairs) l.id)

@@ -1,0 +1,4 @@
+pub mod Matching
+pub mod Change
+pub mod Text
+pub mod codings
