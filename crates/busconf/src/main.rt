@@ -10,11 +10,28 @@ use program_edges::{
     Call, FileCount, FrontSink, FrontSource, PipeWriter, Program, WordsFault, run,
 };
 use say::{explain, say_hint, say_refusal};
-use std::io::Read;
+use std::io::{Read, Write};
 use std::process::ExitCode;
 use words::make_fault;
 
 struct Busconf;
+
+/// Answers a call over one input by the top call, and says on standard error what a refused input looks like.
+fn answer_into<R: Read + Drop, W: Write>(
+    rt: &HostRuntime,
+    call: &Call<'_, Form>,
+    input: R,
+    output: &mut W,
+) -> u8 {
+    let mut source = FrontSource::new(rt.alloc(), ReadSource::new(input));
+    let mut sink = FrontSink::new(rt.alloc(), WriteSink::new(output));
+    let status = bus_main(rt.alloc(), call.words, &mut source, &mut sink);
+    if status == REFUSED {
+        say_refusal(rt, call.form, sink.front());
+        say_hint(rt, call.form, source.front());
+    }
+    status
+}
 
 impl Program for Busconf {
     type Form = Form;
@@ -58,14 +75,8 @@ impl Program for Busconf {
     }
 
     fn answer<R: Read + Drop>(rt: &HostRuntime, call: &Call<'_, Form>, name: &str, input: R) -> u8 {
-        let mut source = FrontSource::new(rt.alloc(), ReadSource::new(input));
         let mut output = PipeWriter::new(rt.stdout());
-        let mut sink = FrontSink::new(rt.alloc(), WriteSink::new(&mut output));
-        let status = bus_main(rt.alloc(), call.words, &mut source, &mut sink);
-        if status == REFUSED {
-            say_refusal(rt, call.form, sink.front());
-            say_hint(rt, call.form, source.front());
-        }
+        let status = answer_into(rt, call, input, &mut output);
         if !output.is_broken() {
             explain(rt, status, name);
         }

@@ -13,7 +13,7 @@ use program_edges::{
     Call, FileCount, FrontSink, FrontSource, PipeWriter, Program, WordsFault, run,
 };
 use say::{explain, say_hints};
-use std::io::Read;
+use std::io::{Read, Write};
 use std::process::ExitCode;
 
 /// What the program can be asked for.
@@ -27,6 +27,21 @@ enum Form {
 
 struct Busview;
 
+/// Answers a form of the top call over one input, and says on standard error what has to be said of it.
+fn view_into<R: Read + Drop, W: Write>(
+    rt: &HostRuntime,
+    words: &[String],
+    form: &ViewForm,
+    input: R,
+    output: &mut W,
+) -> u8 {
+    let mut source = FrontSource::new(rt.alloc(), ReadSource::new(input));
+    let mut sink = FrontSink::new(rt.alloc(), WriteSink::new(output));
+    let status = view_main(rt.alloc(), words, &mut source, &mut sink);
+    say_hints(rt, form, status, source.front(), sink.front());
+    status
+}
+
 /// Answers a form of the top call over one input, which messages call by this name.
 fn view<R: Read + Drop>(
     rt: &HostRuntime,
@@ -35,11 +50,8 @@ fn view<R: Read + Drop>(
     name: &str,
     input: R,
 ) -> u8 {
-    let mut source = FrontSource::new(rt.alloc(), ReadSource::new(input));
     let mut output = PipeWriter::new(rt.stdout());
-    let mut sink = FrontSink::new(rt.alloc(), WriteSink::new(&mut output));
-    let status = view_main(rt.alloc(), words, &mut source, &mut sink);
-    say_hints(rt, form, status, source.front(), sink.front());
+    let status = view_into(rt, words, form, input, &mut output);
     if !output.is_broken() {
         explain(rt, form, status, name);
     }
