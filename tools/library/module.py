@@ -32,7 +32,7 @@ def cases(folder):
     for wanted in sorted(glob.glob(os.path.join(top, "cases", folder, "*.stdout"))):
         path = wanted[: -len(".stdout")]
         words = data(path + ".args").decode().split() if os.path.exists(path + ".args") else []
-        yield path, words, data(wanted).decode()
+        yield path, words, data(wanted).decode(errors="replace")
 
 
 def expect(holds, what):
