@@ -35,26 +35,35 @@ abbrev pub graph_nodes : ℕ → List Node → ℕ → Option ℕ → List ℕ
 graph_nodes id [] root irm = []
 graph_nodes id (n ∷ ns) root irm = graph_node id n root irm ++ graph_nodes (id + 1) ns root irm
 
--- `  nPARENT -- nCHILD [label="SPEED", taillabel="PORT", headlabel="PORT"];`
+-- `  nPARENT -- nCHILD [label="SPEED", penwidth=1, taillabel="PORT", headlabel="PORT"];`, and the line is wider
+-- at each higher speed
 unfoldable pub edge_ends : Cable → List ℕ
 edge_ends c = field (codes "  n") c.parent ++ field (codes " -- n") c.child
 
 unfoldable pub edge_ports : Cable → List ℕ
 edge_ports c =
-    field (codes "\", taillabel=\"") c.port
+    field (codes ", taillabel=\"") c.port
     ++ (field (codes "\", headlabel=\"") c.child_port ++ codes "\"];\n")
 
 abbrev pub graph_edge : Cable → List ℕ
 graph_edge c =
-    edge_ends c ++ (codes " [label=\"" ++ (speed_word c.speed ++ edge_ports c))
+    edge_ends c
+    ++ (codes " [label=\"" ++ (speed_word c.speed
+    ++ (field (codes "\", penwidth=") (c.speed + 1) ++ edge_ports c)))
 
 abbrev pub graph_edges : List Cable → List ℕ
 graph_edges [] = []
 graph_edges (c ∷ cs) = graph_edge c ++ graph_edges cs
 
+-- the root at the left, boxes for nodes, and small numbers of ports away from the lines
+unfoldable pub graph_head : List ℕ
+graph_head =
+    codes "graph bus {\n  rankdir=LR;\n  ranksep=1.1;\n  node [shape=box];\n"
+    ++ codes "  edge [headport=w, fontsize=11, labelfontsize=9, labeldistance=2.2, labelangle=-24];\n"
+
 -- the nodes by rising ID, and then the cables
 abbrev pub graph : Tree → List ℕ
 graph t =
-    codes "graph bus {\n  node [shape=box];\n"
+    graph_head
     ++ (graph_nodes 0 (walk t) (length (walk t) - 1) (elected t)
     ++ (graph_edges (cables t) ++ codes "}\n"))

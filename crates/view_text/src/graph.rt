@@ -1,7 +1,7 @@
 //! The graph of a bus tree in Graphviz's language.
 ghost use Rattle.std.specs.Prelude.{◌≡◌, ◌++◌, ◌-◌, length, IfOk, OnOk};
 ghost use Rattle.topology_stack.specs.Tree.{walk};
-ghost use Rattle.view_text.specs.Graph.{root_box, irm_box, graph_label, graph_node, graph_nodes, edge_ends, edge_ports, graph_edge, graph_edges, graph};
+ghost use Rattle.view_text.specs.Graph.{graph_head, root_box, irm_box, graph_label, graph_node, graph_nodes, edge_ends, edge_ports, graph_edge, graph_edges, graph};
 
 use crate::cable::{Cable, cables};
 use crate::node::{put_gap_words, put_link_words, put_title, speed_word};
@@ -95,7 +95,7 @@ fn put_edge_ends(out: &mut Vec<u8>, cable: &Cable) -> Result<(), OutOfMemory>
 fn put_edge_ports(out: &mut Vec<u8>, cable: &Cable) -> Result<(), OutOfMemory>
     ensures { OnOk result (out.new.items ≡ out.old.items ++ edge_ports cable.now) }
 {
-    put_field(out, b"\", taillabel=\"", u64::from(cable.port))?;
+    put_field(out, b", taillabel=\"", u64::from(cable.port))?;
     put_field(out, b"\", headlabel=\"", u64::from(cable.child_port))?;
     out.extend_from_slice(b"\"];\n")?;
     Ok(())
@@ -108,6 +108,7 @@ fn put_edge(out: &mut Vec<u8>, cable: &Cable) -> Result<(), OutOfMemory>
     put_edge_ends(out, cable)?;
     out.extend_from_slice(b" [label=\"")?;
     out.extend_from_slice(speed_word(cable.speed))?;
+    put_field(out, b"\", penwidth=", u64::from(cable.speed) + 1)?;
     put_edge_ports(out, cable)?;
     Ok(())
 }
@@ -122,15 +123,27 @@ fn put_edges(out: &mut Vec<u8>, cables: &[Cable]) -> Result<(), OutOfMemory>
     Ok(())
 }
 
+/// Appends what stands before the nodes.
+#[tactic(auto, unfolding(crate::specs::Graph::graph_head))]
+fn put_head(out: &mut Vec<u8>) -> Result<(), OutOfMemory>
+    ensures { OnOk result (out.new.items ≡ out.old.items ++ graph_head) }
+{
+    out.extend_from_slice(b"graph bus {\n  rankdir=LR;\n  ranksep=1.1;\n  node [shape=box];\n")?;
+    out.extend_from_slice(
+        b"  edge [headport=w, fontsize=11, labelfontsize=9, labeldistance=2.2, labelangle=-24];\n",
+    )?;
+    Ok(())
+}
+
 /// The graph of a bus tree, which Graphviz draws: a node for each node of the bus, and an edge for
-/// each cable with its speed and its ports, the parent's at its tail. The root's box has two lines,
-/// and that of the isochronous resource manager a bold one.
+/// each cable with its speed and its ports, the parent's at its tail. The root is at the left, and an
+/// edge is wider at a higher speed. The root's box has two lines, and that of the isochronous resource manager a bold one.
 pub fn tree_graph(alloc: Global, tree: &BusTree) -> Result<Vec<u8>, OutOfMemory>
     ensures { IfOk result (λ text. text.items ≡ graph tree.now) }
 {
     let mut out = Vec::new(alloc);
     let list = cables(alloc, tree)?;
-    out.extend_from_slice(b"graph bus {\n  node [shape=box];\n")?;
+    put_head(&mut out)?;
     put_nodes(&mut out, tree, elect(tree))?;
     put_edges(&mut out, &list)?;
     out.extend_from_slice(b"}\n")?;
