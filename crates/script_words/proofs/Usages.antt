@@ -6,6 +6,8 @@ use Rattle.std.proofs.lemmas.Bool.Decides.{nat_tests}
 use Rattle.script_lines.specs.Words.{words_of}
 use Rattle.script_words.specs.Usage.{usages}
 use Rattle.script_words.specs.Fit.{reach, right, furthest, first_of, all_of}
+use Rattle.script_words.specs.Near.{is_near, nearest_of}
+use Rattle.script_lines.specs.Form.{word_at}
 
 -- behind the last element there is nothing
 pub past : {X : Type 0} (xs : List X) (k : ℕ) → length xs ≤ k → drop k xs ≡ []
@@ -80,6 +82,19 @@ all_miss some n m number words lt e ne = rw (next number lt) (grind (arith, nat_
 pub all_done : (some : Bool) (n number : ℕ) (words : List (List ℕ)) → 22 ≤ number →
     all_of some n words (drop number usages) ≡ []
 all_done some n number words h = rw (done number h) refl
+
+pub near_hit : (number : ℕ) (word verb : List ℕ) → number < 22 →
+    verb ≡ word_at (words_of (get_or usages number [])) 0 → is_near word verb ≡ true →
+    nearest_of word (drop number usages) ≡ verb
+near_hit number word verb lt e is = rw (next number lt) (grind (arith, e, is))
+
+pub near_miss : (number : ℕ) (word verb : List ℕ) → number < 22 →
+    verb ≡ word_at (words_of (get_or usages number [])) 0 → is_near word verb ≡ false →
+    nearest_of word (drop number usages) ≡ nearest_of word (drop (number + 1) usages)
+near_miss number word verb lt e is = rw (next number lt) (grind (arith, e, is))
+
+pub near_done : (number : ℕ) (word : List ℕ) → 22 ≤ number → nearest_of word (drop number usages) ≡ []
+near_done number word h = rw (done number h) refl
 
 -- a text goes on behind what was written
 pub goes_on : (out x rest y w : List ℕ) → w ≡ out ++ x → y ≡ x ++ rest → w ++ rest ≡ out ++ y

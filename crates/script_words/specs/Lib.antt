@@ -1,8 +1,10 @@
 pub mod Column
 pub mod Usage
 pub mod Fit
+pub mod Near
 pub mod Pairs
 pub mod Before
+pub mod Cables
 pub mod LineSentence
 pub mod Sentence
 pub mod LineFault

@@ -1,5 +1,5 @@
 -- What was found and what was wanted in a line that is at fault by itself.
-use Rattle.std.specs.Prelude.{ℕ, ◌+◌, ◌-◌, ◌==◌, ◌&&◌, not, nat_lt, false, List, [], ◌++◌, length, drop, position, slice_index, codes, Option, Some, None, if◌then◌else◌}
+use Rattle.std.specs.Prelude.{ℕ, ◌+◌, ◌-◌, ◌==◌, ◌&&◌, not, nat_lt, false, List, [], ◌∷◌, ◌++◌, length, drop, position, slice_index, codes, Bool, Option, Some, None, if◌then◌else◌}
 use Rattle.std.specs.Str.{bytes_eq}
 use Rattle.topology_stack.specs.Hex.{hex}
 use Rattle.port_state.specs.declared.ranges.TimeRanges.{TimeRanges}
@@ -8,6 +8,7 @@ use Rattle.script_lines.specs.Form.{word_at}
 use Rattle.script_words.specs.Column.{field, found}
 use Rattle.script_words.specs.Usage.{usages, range_of}
 use Rattle.script_words.specs.Fit.{right, furthest, first_of, all_of}
+use Rattle.script_words.specs.Near.{nearest}
 use Rattle.script_words.specs.Pairs.{paired, pair_wanted, valued, range_wanted, value_wanted, distinct}
 use Rattle.script_words.specs.Before.{is_node_line}
 
@@ -20,14 +21,29 @@ byte_sentence byte place =
     ++ (field (codes " in column ") (place + 1)
     ++ codes ", wanted a tab or a character of ASCII from the space to the tilde.\n"))
 
+-- a file that begins with the mark by which some editors tell UTF-8
+abbrev pub is_marked : List ℕ → Bool
+is_marked (a ∷ b ∷ c ∷ cs) = a == 239 && (b == 187 && c == 191)
+is_marked line = false
+
+abbrev pub mark_sentence : List ℕ
+mark_sentence =
+    codes "Found a byte order mark, the bytes ef bb bf in column 1, wanted none: save the script without it.\n"
+
 abbrev pub verbs_wanted : List ℕ
 verbs_wanted =
-    codes "delay, times, node, plug, pull, reset, turn, hold, settle, config, csr, look, allocate, release, manager, plan or maps.\n"
+    codes "delay, times, node, plug, pull, reset, turn, hold, settle, config, csr, look, allocate, release, manager, plan or maps"
+
+-- the verb that a word comes near to, if there is one
+abbrev pub near_wanted : List ℕ → List ℕ
+near_wanted [] = codes ".\n"
+near_wanted (c ∷ cs) = codes ". The nearest is " ++ ((c ∷ cs) ++ codes ".\n")
 
 -- the usages for which so many words may stand
 abbrev pub usages_wanted : ℕ → List (List ℕ) → List ℕ
 usages_wanted n words =
-    if n == 0 then verbs_wanted else all_of false n words usages ++ codes ".\n"
+    if n == 0 then verbs_wanted ++ near_wanted (nearest (word_at words 0))
+    else all_of false n words usages ++ codes ".\n"
 
 abbrev pub pairs_sentence : List ℕ → List (List ℕ) → List ℕ
 pairs_sentence line words =
@@ -44,7 +60,8 @@ form_sentence line words =
 
 abbrev pub at_byte : List ℕ → Option ℕ → List ℕ
 at_byte line None = form_sentence line (words_of line)
-at_byte line (Some place) = byte_sentence (slice_index line place) place
+at_byte line (Some place) =
+    if is_marked line then mark_sentence else byte_sentence (slice_index line place) place
 
 abbrev pub word_sentence : List ℕ → List ℕ
 word_sentence line = at_byte line (position (λ c. not (is_permitted c)) line)

@@ -80,20 +80,38 @@ valued times [] = 0
 valued times (key ∷ []) = 0
 valued times (key ∷ value ∷ words) = if is_fault times key value then 1 else 2 + valued times words
 
--- the range of a key's numbers
+-- a range of numbers
 abbrev pub range_wanted : ℕ × ℕ → List ℕ
 range_wanted range =
     field (codes "a number from ") range.0 ++ (field (codes " to ") range.1 ++ codes ".\n")
 
-abbrev pub limits_wanted : Option (ℕ × ℕ) → List ℕ
-limits_wanted None = keys_wanted
-limits_wanted (Some range) = range_wanted range
+-- what the number behind a key is
+unfoldable pub meaning_of : List ℕ → List ℕ
+meaning_of key =
+    if bytes_eq key (codes "speed") then codes " (S100, S200, S400).\n"
+    else if bytes_eq key (codes "link") then codes " (1: its link is active).\n"
+    else if bytes_eq key (codes "contender") then
+    codes " (1: it may become isochronous resource manager).\n"
+    else if bytes_eq key (codes "force") then codes " (1: it waits to become root).\n"
+    else if bytes_eq key (codes "power") then codes " (its power class).\n"
+    else if bytes_eq key (codes "gap") then codes " (its gap count).\n"
+    else if bytes_eq key (codes "hold") then codes " (turns that it holds a bus reset).\n"
+    else if bytes_eq key (codes "short") then codes " (turns of a short wait in a contention).\n"
+    else if bytes_eq key (codes "long") then codes " (turns of a long wait in a contention).\n"
+    else codes " (its coins are drawn from it).\n"
+
+-- the range of a key's numbers, and what they are
+abbrev pub limits_wanted : List ℕ → Option (ℕ × ℕ) → List ℕ
+limits_wanted key None = keys_wanted
+limits_wanted key (Some range) =
+    key ++ (field (codes ": a number from ") range.0
+    ++ (field (codes " to ") range.1 ++ meaning_of key))
 
 -- what may stand behind a key
 unfoldable pub value_wanted : TimeRanges → List ℕ → List ℕ
 value_wanted times key =
     if bytes_eq key (codes "coins") then codes "1 to 64 coins, each 0 or 1.\n"
-    else limits_wanted (limits_of times key)
+    else limits_wanted key (limits_of times key)
 
 -- ---- a key that stands twice
 

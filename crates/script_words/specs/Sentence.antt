@@ -1,5 +1,5 @@
 -- What was found and what was wanted where a script is refused, in a sentence.
-use Rattle.std.specs.Prelude.{ℕ, ◌-◌, is_some, unwrap_or, List, [], ◌++◌, take, slice_index_or, codes, Option, Some, None, Result, Ok, Err, if◌then◌else◌}
+use Rattle.std.specs.Prelude.{ℕ, ◌-◌, is_some, unwrap_or, List, [], ◌∷◌, ◌++◌, take, drop, slice_index_or, codes, Option, Some, None, Result, Ok, Err, if◌then◌else◌}
 use Rattle.std.specs.Str.{bytes_eq}
 use Rattle.std.specs.Str.Lines.{strip_carriage_return}
 use Rattle.port_state.specs.declared.ranges.TimeRanges.{TimeRanges}
@@ -12,6 +12,7 @@ use Rattle.script_lines.specs.declared.kind.Kind.TheVariants.{Word, Number, Name
 use Rattle.script_lines.specs.declared.kind.ScriptFault.{ScriptFault}
 use Rattle.script_words.specs.Column.{field, found}
 use Rattle.script_words.specs.Before.{feed_lines, delay_of, times_said, ranges_of, ports_of, names_in, is_port}
+use Rattle.script_words.specs.Cables.{End, end_at, far_end}
 use Rattle.script_words.specs.LineSentence.{word_sentence, value_sentence, usage_words, twice_sentence}
 
 -- ---- names and ports
@@ -20,10 +21,24 @@ use Rattle.script_words.specs.LineSentence.{word_sentence, value_sentence, usage
 abbrev pub name_place : List (List ℕ) → List (List ℕ) → ℕ
 name_place lines words = if is_some (ports_of lines (word_at words 1)) then 3 else 1
 
-abbrev pub no_node_sentence : List (List ℕ) → List ℕ → List (List ℕ) → List ℕ
-no_node_sentence lines line words =
-    found line words (name_place lines words)
-    ++ (codes "a name of a node:" ++ (names_in lines ++ codes ".\n"))
+-- the names that the lines before declare
+abbrev pub names_wanted : List ℕ → List ℕ
+names_wanted [] = codes "a name of a node, but no line before declares one."
+names_wanted (c ∷ cs) = codes "a name of a node:" ++ ((c ∷ cs) ++ codes ".")
+
+-- whether a line behind declares the name, with so many ports
+abbrev pub told_later : Option ℕ → List ℕ
+told_later None = codes "\n"
+told_later (Some ports) = codes " A later line declares it.\n"
+
+abbrev pub no_node_at : List (List ℕ) → List (List ℕ) → List ℕ → List (List ℕ) → ℕ → List ℕ
+no_node_at lines behind line words place =
+    found line words place
+    ++ (names_wanted (names_in lines) ++ told_later (ports_of behind (word_at words place)))
+
+abbrev pub no_node_sentence : List (List ℕ) → List (List ℕ) → List ℕ → List (List ℕ) → List ℕ
+no_node_sentence lines behind line words =
+    no_node_at lines behind line words (name_place lines words)
 
 -- the number behind the first name, or where that node has the port the one behind the second
 abbrev pub port_place : List (List ℕ) → List (List ℕ) → ℕ
@@ -61,8 +76,7 @@ bus_wanted kind = []
 
 -- what is said of a fault that is of no one word
 abbrev pub whole_sentence : Kind → List ℕ
-whole_sentence InUse =
-    codes "Found a cable in one of the two ports, wanted both free: another port, or a pull before.\n"
+whole_sentence InUse = codes "Found a cable in one of the two ports, wanted both free.\n"
 whole_sentence TooManyTurns =
     codes "Found more than 2000000 turns in all, wanted fewer: each settle and plan has its turns, and so has the end.\n"
 whole_sentence TooManyMaps = codes "Found a 101st line maps, wanted 100 at most.\n"
@@ -70,6 +84,24 @@ whole_sentence kind = []
 
 abbrev pub at_place : List ℕ → List (List ℕ) → ℕ → Kind → List ℕ
 at_place line words place kind = found line words place ++ bus_wanted kind
+
+-- ---- a port in use
+
+-- where the cable in a port leads
+unfoldable pub free_wanted : End → List ℕ
+free_wanted far =
+    field (codes "a free port: another, or a pull before. The cable in it leads to port ") far.1
+    ++ (codes " of " ++ (far.0 ++ codes ".\n"))
+
+-- the port at a place of a line is in use, or else what another says
+abbrev pub in_use_at : List ℕ → List (List ℕ) → ℕ → Option End → List ℕ → List ℕ
+in_use_at line words place None other = other
+in_use_at line words place (Some far) other = found line words place ++ free_wanted far
+
+abbrev pub in_use_sentence : List (List ℕ) → List ℕ → List (List ℕ) → List ℕ
+in_use_sentence lines line words =
+    in_use_at line words 2 (far_end (end_at words 1) None lines)
+    (in_use_at line words 4 (far_end (end_at words 3) None lines) (whole_sentence InUse))
 
 -- ---- times that don't suit
 
@@ -118,31 +150,34 @@ range_sentence d times line words = by (times_said d words)
 
 -- ---- all kinds
 
-abbrev pub sentence_of : ℕ → TimeRanges → List (List ℕ) → List ℕ → List (List ℕ) → Kind → List ℕ
-sentence_of d times lines line words Word = word_sentence line
-sentence_of d times lines line words Number = value_sentence times line (usage_words words) words
-sentence_of d times lines line words Name = value_sentence times line (usage_words words) words
-sentence_of d times lines line words Range = range_sentence d times line words
-sentence_of d times lines line words Twice = twice_sentence line words
-sentence_of d times lines line words Late = found line words 0 ++ late_wanted words
-sentence_of d times lines line words NoNode = no_node_sentence lines line words
-sentence_of d times lines line words NoPort = no_port_at lines line words (port_place lines words)
-sentence_of d times lines line words TooManyNodes = at_place line words 0 TooManyNodes
-sentence_of d times lines line words SameNode = at_place line words 3 SameNode
-sentence_of d times lines line words NotPlugged = at_place line words 2 NotPlugged
-sentence_of d times lines line words NotSettled = at_place line words 1 NotSettled
-sentence_of d times lines line words NoManager = at_place line words 1 NoManager
-sentence_of d times lines line words NotManager = at_place line words 1 NotManager
-sentence_of d times lines line words InUse = whole_sentence InUse
-sentence_of d times lines line words TooManyTurns = whole_sentence TooManyTurns
-sentence_of d times lines line words TooManyMaps = whole_sentence TooManyMaps
+-- of a line with these words, where these lines are before it and these behind
+abbrev pub sentence_of : ℕ → TimeRanges → List (List ℕ) → List (List ℕ) → List ℕ → List (List ℕ) → Kind →
+    List ℕ
+sentence_of d times lines behind line words Word = word_sentence line
+sentence_of d times lines behind line words Number = value_sentence times line (usage_words words) words
+sentence_of d times lines behind line words Name = value_sentence times line (usage_words words) words
+sentence_of d times lines behind line words Range = range_sentence d times line words
+sentence_of d times lines behind line words Twice = twice_sentence line words
+sentence_of d times lines behind line words Late = found line words 0 ++ late_wanted words
+sentence_of d times lines behind line words NoNode = no_node_sentence lines behind line words
+sentence_of d times lines behind line words NoPort = no_port_at lines line words (port_place lines words)
+sentence_of d times lines behind line words TooManyNodes = at_place line words 0 TooManyNodes
+sentence_of d times lines behind line words SameNode = at_place line words 3 SameNode
+sentence_of d times lines behind line words NotPlugged = at_place line words 2 NotPlugged
+sentence_of d times lines behind line words NotSettled = at_place line words 1 NotSettled
+sentence_of d times lines behind line words NoManager = at_place line words 1 NoManager
+sentence_of d times lines behind line words NotManager = at_place line words 1 NotManager
+sentence_of d times lines behind line words InUse = in_use_sentence lines line words
+sentence_of d times lines behind line words TooManyTurns = whole_sentence TooManyTurns
+sentence_of d times lines behind line words TooManyMaps = whole_sentence TooManyMaps
 
--- the sentence of a fault in a script of these lines: the lines before it, and the line
+-- the sentence of a fault in a script of these lines: the lines before it and behind it, and the line
 abbrev pub sentence_in : List (List ℕ) → ScriptFault → List ℕ
 sentence_in script fault =
     let lines : List (List ℕ) = take (fault.line - 1) script in
+    let behind : List (List ℕ) = drop fault.line script in
     let line : List ℕ = strip_carriage_return (slice_index_or script (fault.line - 1) []) in
-    sentence_of (delay_of script) (ranges_of script) lines line (words_of line) fault.kind
+    sentence_of (delay_of script) (ranges_of script) lines behind line (words_of line) fault.kind
 
 abbrev pub sentence : List ℕ → ScriptFault → List ℕ
 sentence script fault = sentence_in (feed_lines script) fault

@@ -3,11 +3,13 @@
 #![tactic(auto)]
 
 mod before;
+mod cables;
 mod column;
 mod fit;
 mod laws;
 mod line_sentence;
 mod misfit;
+mod near;
 mod pairs;
 mod said;
 mod sentence;

@@ -1,14 +1,16 @@
 //! What was found and what was wanted in a line that is at fault by itself.
-ghost use Rattle.std.specs.Prelude.{◌≡◌, ◌≤◌, ◌<◌, ◌++◌, ◌+◌, ◌^◌, [], not, drop, length, position, OnOk, IfOk, IfSome};
+ghost use Rattle.std.specs.Prelude.{◌≡◌, ◌≤◌, ◌<◌, ◌++◌, ◌+◌, ◌^◌, [], not, drop, length, position, OnOk, IfOk, IfSome, Some};
 ghost use Rattle.script_lines.specs.Words.{words_of, is_permitted};
 ghost use Rattle.script_words.specs.Usage.{usages, range_of};
 ghost use Rattle.script_words.specs.Fit.{furthest};
+ghost use Rattle.script_words.specs.Near.{nearest};
 ghost use Rattle.script_words.specs.Pairs.{distinct};
-ghost use Rattle.script_words.specs.LineSentence.{byte_sentence, usages_wanted, pairs_sentence, usage_sentence, form_sentence, word_sentence, shape_wanted, pair_value, value_sentence, usage_words, twice_sentence};
+ghost use Rattle.script_words.specs.LineSentence.{byte_sentence, is_marked, verbs_wanted, near_wanted, at_byte, usages_wanted, pairs_sentence, usage_sentence, form_sentence, word_sentence, shape_wanted, pair_value, value_sentence, usage_words, twice_sentence};
 
 use crate::before::is_node_line;
 use crate::column::{put_field, put_found};
 use crate::fit::{first_of, furthest, put_all_of, right};
+use crate::near::nearest;
 use crate::pairs::{distinct, paired, put_range, put_value_wanted, valued};
 use crate::text::{Text, word_at, words_of};
 use crate::usage::range_of;
@@ -39,6 +41,42 @@ fn put_byte_sentence(out: &mut Vec<u8>, byte: u8, place: usize) -> Result<(), Ou
     Ok(())
 }
 
+/// Whether a line begins with the mark by which some editors tell UTF-8.
+fn is_marked(line: &[u8]) -> bool
+    ensures { result ≡ is_marked line.now }
+{
+    match line {
+        [a, b, c, ..] => *a == 0xEF && *b == 0xBB && *c == 0xBF,
+        _ => false,
+    }
+}
+
+/// Appends the verb that a word comes near to, if there is one.
+fn put_near(alloc: Global, out: &mut Vec<u8>, word: &[u8]) -> Result<(), OutOfMemory>
+    ensures { OnOk result (out.new.items
+        ≡ out.old.items ++ near_wanted (nearest word.now)) }
+{
+    let verb = nearest(alloc, word)?;
+    if verb.is_empty() {
+        return out.extend_from_slice(b".\n");
+    }
+    out.extend_from_slice(b". The nearest is ")?;
+    out.extend_from_slice(verb)?;
+    out.extend_from_slice(b".\n")?;
+    Ok(())
+}
+
+/// Appends the verbs, and which of them a word comes near to.
+fn put_verbs(alloc: Global, out: &mut Vec<u8>, word: &[u8]) -> Result<(), OutOfMemory>
+    ensures { OnOk result (out.new.items
+        ≡ out.old.items ++ (verbs_wanted ++ near_wanted (nearest word.now))) }
+{
+    out.extend_from_slice(
+        b"delay, times, node, plug, pull, reset, turn, hold, settle, config, csr, look, allocate, release, manager, plan or maps",
+    )?;
+    put_near(alloc, out, word)
+}
+
 /// Appends the usages for which so many words may stand.
 fn put_usages_wanted(
     alloc: Global,
@@ -49,9 +87,7 @@ fn put_usages_wanted(
     ensures { OnOk result (out.new.items ≡ out.old.items ++ usages_wanted n words.now) }
 {
     if n == 0 {
-        return out.extend_from_slice(
-            b"delay, times, node, plug, pull, reset, turn, hold, settle, config, csr, look, allocate, release, manager, plan or maps.\n",
-        );
+        return put_verbs(alloc, out, word_at(words, 0));
     }
     put_all_of(alloc, out, n, words)?;
     out.extend_from_slice(b".\n")?;
@@ -101,6 +137,19 @@ fn put_form_sentence(
     }
 }
 
+/// Appends the sentence on a line that has a byte at this place that isn't permitted.
+fn put_bad_sentence(out: &mut Vec<u8>, line: &[u8], place: usize) -> Result<(), OutOfMemory>
+    requires { place < length line.now }
+    ensures { OnOk result (out.new.items ≡ out.old.items ++ at_byte line.now (Some place)) }
+{
+    if is_marked(line) {
+        return out.extend_from_slice(
+            b"Found a byte order mark, the bytes ef bb bf in column 1, wanted none: save the script without it.\n",
+        );
+    }
+    put_byte_sentence(out, line[place], place)
+}
+
 /// Appends the sentence on a line that is `Word`, of which these are the words.
 pub(crate) fn put_word_sentence(
     alloc: Global,
@@ -112,7 +161,7 @@ pub(crate) fn put_word_sentence(
     ensures { OnOk result (out.new.items ≡ out.old.items ++ word_sentence line.now) }
 {
     match first_bad(line) {
-        Some(place) => put_byte_sentence(out, line[place], place),
+        Some(place) => put_bad_sentence(out, line, place),
         None => put_form_sentence(alloc, out, line, words),
     }
 }

@@ -2,7 +2,7 @@
 ghost use Rattle.std.specs.Prelude.{◌≡◌, ◌≤◌, ◌++◌, ◌||◌, [], OnOk, length};
 ghost use Rattle.std.specs.List.{list_all};
 ghost use Rattle.script_lines.specs.Coins.{is_coin, are_coins};
-ghost use Rattle.script_words.specs.Pairs.{limits_of, is_key, is_pair, paired, keys_wanted, behind_key, pair_wanted, is_fault, valued, range_wanted, limits_wanted, value_wanted, rival_word, has_key, distinct};
+ghost use Rattle.script_words.specs.Pairs.{limits_of, is_key, is_pair, paired, keys_wanted, behind_key, pair_wanted, is_fault, valued, range_wanted, meaning_of, limits_wanted, value_wanted, rival_word, has_key, distinct};
 
 use crate::column::put_field;
 use crate::text::{Text, same};
@@ -157,13 +157,47 @@ pub(crate) fn put_range(out: &mut Vec<u8>, least: u32, most: u32) -> Result<(), 
     Ok(())
 }
 
-/// Appends the range of a key's numbers, or the keys where there is none.
-fn put_limits(out: &mut Vec<u8>, limits: Option<(u32, u32)>) -> Result<(), OutOfMemory>
-    ensures { OnOk result (out.new.items ≡ out.old.items ++ limits_wanted limits) }
+/// What the number behind a key is.
+#[tactic(auto, unfolding(crate::specs::Pairs::meaning_of))]
+fn meaning_of(key: &[u8]) -> &'static [u8]
+    ensures { result.now ≡ meaning_of key.now }
+{
+    if same(key, b"speed") {
+        b" (S100, S200, S400).\n"
+    } else if same(key, b"link") {
+        b" (1: its link is active).\n"
+    } else if same(key, b"contender") {
+        b" (1: it may become isochronous resource manager).\n"
+    } else if same(key, b"force") {
+        b" (1: it waits to become root).\n"
+    } else if same(key, b"power") {
+        b" (its power class).\n"
+    } else if same(key, b"gap") {
+        b" (its gap count).\n"
+    } else if same(key, b"hold") {
+        b" (turns that it holds a bus reset).\n"
+    } else if same(key, b"short") {
+        b" (turns of a short wait in a contention).\n"
+    } else if same(key, b"long") {
+        b" (turns of a long wait in a contention).\n"
+    } else {
+        b" (its coins are drawn from it).\n"
+    }
+}
+
+/// Appends the range of a key's numbers and what they are, or the keys where there is none.
+fn put_limits(out: &mut Vec<u8>, key: &[u8], limits: Option<(u32, u32)>) -> Result<(), OutOfMemory>
+    ensures { OnOk result (out.new.items ≡ out.old.items ++ limits_wanted key.now limits) }
 {
     match limits {
         None => out.extend_from_slice(KEYS),
-        Some((least, most)) => put_range(out, least, most),
+        Some((least, most)) => {
+            out.extend_from_slice(key)?;
+            put_field(out, b": a number from ", u64::from(least))?;
+            put_field(out, b" to ", u64::from(most))?;
+            out.extend_from_slice(meaning_of(key))?;
+            Ok(())
+        }
     }
 }
 
@@ -179,7 +213,7 @@ pub(crate) fn put_value_wanted(
     if same(key, b"coins") {
         return out.extend_from_slice(b"1 to 64 coins, each 0 or 1.\n");
     }
-    put_limits(out, limits_of(times, key))
+    put_limits(out, key, limits_of(times, key))
 }
 
 /// The key that may not stand beside this one.

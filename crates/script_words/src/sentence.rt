@@ -1,13 +1,14 @@
 //! What was found and what was wanted where a script is refused, in a sentence.
-ghost use Rattle.std.specs.Prelude.{◌≡◌, ◌≤◌, ◌<◌, ◌+◌, ◌-◌, ◌++◌, ◌^◌, take, length, slice_index_or, [], OnOk, IfOk, IfSome};
+ghost use Rattle.std.specs.Prelude.{◌≡◌, ◌≤◌, ◌<◌, ◌+◌, ◌-◌, ◌++◌, ◌^◌, take, drop, length, slice_index_or, [], OnOk, IfOk, IfSome};
 ghost use Rattle.std.specs.Str.Lines.{strip_carriage_return};
 ghost use Rattle.script_lines.specs.Words.{words_of};
 ghost use Rattle.script_words.specs.Column.{found};
-ghost use Rattle.script_words.specs.Before.{feed_lines};
+ghost use Rattle.script_words.specs.Before.{names_in, feed_lines};
 ghost use Rattle.script_words.specs.LineFault.{IsLineFault, IsFaultAt};
-ghost use Rattle.script_words.specs.Sentence.{name_place, no_node_sentence, port_place, ports_wanted, no_port_at, late_wanted, bus_wanted, whole_sentence, sentence_of, sentence_in, sentence};
+ghost use Rattle.script_words.specs.Sentence.{name_place, names_wanted, told_later, no_node_at, no_node_sentence, free_wanted, in_use_sentence, port_place, ports_wanted, no_port_at, late_wanted, bus_wanted, whole_sentence, sentence_of, sentence_in, sentence};
 
 use crate::before::{is_port, ports_of, put_names, without_return};
+use crate::cables::{CableEnd, far_end};
 use crate::column::{put_field, put_found};
 use crate::line_sentence::{put_twice_sentence, put_value_sentence, put_word_sentence};
 use crate::misfit::put_range_sentence;
@@ -30,22 +31,63 @@ fn name_place(alloc: Global, lines: &[Text], words: &[Text]) -> Result<usize, Ou
     }
 }
 
+/// Appends the names that these lines declare.
+fn put_names_wanted(alloc: Global, out: &mut Vec<u8>, lines: &[Text]) -> Result<(), OutOfMemory>
+    ensures { OnOk result (out.new.items
+        ≡ out.old.items ++ names_wanted (names_in lines.now)) }
+{
+    let mut names = Vec::new(alloc);
+    put_names(alloc, &mut names, lines)?;
+    if names.is_empty() {
+        return out.extend_from_slice(b"a name of a node, but no line before declares one.");
+    }
+    out.extend_from_slice(b"a name of a node:")?;
+    out.extend_from_slice(&names)?;
+    out.extend_from_slice(b".")?;
+    Ok(())
+}
+
+/// Whether a line behind declares a name, with so many ports.
+fn told_later(ports: Option<u32>) -> &'static [u8]
+    ensures { result.now ≡ told_later ports }
+{
+    match ports {
+        None => b"\n",
+        Some(_) => b" A later line declares it.\n",
+    }
+}
+
+fn put_no_node_at(
+    alloc: Global,
+    out: &mut Vec<u8>,
+    around: &Around,
+    line: &[u8],
+    words: &[Text],
+    place: usize,
+) -> Result<(), OutOfMemory>
+    requires { place ≤ 3 }
+    ensures { OnOk result (out.new.items ≡ out.old.items
+        ++ no_node_at around.now.before.now around.now.behind.now line.now words.now place) }
+{
+    let later = ports_of(alloc, around.behind, word_at(words, place))?;
+    put_found(out, line, words, place)?;
+    put_names_wanted(alloc, out, around.before)?;
+    out.extend_from_slice(told_later(later))?;
+    Ok(())
+}
+
 fn put_no_node(
     alloc: Global,
     out: &mut Vec<u8>,
-    lines: &[Text],
+    around: &Around,
     line: &[u8],
     words: &[Text],
 ) -> Result<(), OutOfMemory>
-    ensures { OnOk result (out.new.items
-        ≡ out.old.items ++ no_node_sentence lines.now line.now words.now) }
+    ensures { OnOk result (out.new.items ≡ out.old.items
+        ++ no_node_sentence around.now.before.now around.now.behind.now line.now words.now) }
 {
-    let place = name_place(alloc, lines, words)?;
-    put_found(out, line, words, place)?;
-    out.extend_from_slice(b"a name of a node:")?;
-    put_names(alloc, out, lines)?;
-    out.extend_from_slice(b".\n")?;
-    Ok(())
+    let place = name_place(alloc, around.before, words)?;
+    put_no_node_at(alloc, out, around, line, words, place)
 }
 
 /// The place of the first port of a line that its node doesn't have.
@@ -159,9 +201,7 @@ fn whole_sentence(kind: Kind) -> &'static [u8]
     ensures { result.now ≡ whole_sentence kind }
 {
     match kind {
-        Kind::InUse => {
-            b"Found a cable in one of the two ports, wanted both free: another port, or a pull before.\n"
-        }
+        Kind::InUse => b"Found a cable in one of the two ports, wanted both free.\n",
         Kind::TooManyTurns => {
             b"Found more than 2000000 turns in all, wanted fewer: each settle and plan has its turns, and so has the end.\n"
         }
@@ -170,12 +210,68 @@ fn whole_sentence(kind: Kind) -> &'static [u8]
     }
 }
 
-/// Appends the sentence on a fault of a line with these words, behind these lines.
+/// Appends where the cable in a port leads.
+#[tactic(auto, unfolding(crate::specs::Sentence::free_wanted))]
+fn put_free_wanted(out: &mut Vec<u8>, far: &CableEnd) -> Result<(), OutOfMemory>
+    ensures { OnOk result (out.new.items ≡ out.old.items ++ free_wanted far.now) }
+{
+    let free = b"a free port: another, or a pull before. The cable in it leads to port ";
+    put_field(out, free, u64::from(far.port))?;
+    out.extend_from_slice(b" of ")?;
+    out.extend_from_slice(far.name)?;
+    out.extend_from_slice(b".\n")?;
+    Ok(())
+}
+
+/// Appends that the port at a place is in use, whose cable leads to this end.
+fn put_in_use_at(
+    out: &mut Vec<u8>,
+    line: &[u8],
+    words: &[Text],
+    place: usize,
+    far: &CableEnd,
+) -> Result<(), OutOfMemory>
+    requires { place ≤ 4 }
+    ensures { OnOk result (out.new.items
+        ≡ out.old.items ++ (found line.now words.now place ++ free_wanted far.now)) }
+{
+    put_found(out, line, words, place)?;
+    put_free_wanted(out, far)
+}
+
+/// Appends which port of a `plug` is in use, and where its cable leads.
+fn put_in_use(
+    alloc: Global,
+    out: &mut Vec<u8>,
+    lines: &[Text],
+    line: &[u8],
+    words: &[Text],
+) -> Result<(), OutOfMemory>
+    ensures { OnOk result (out.new.items
+        ≡ out.old.items ++ in_use_sentence lines.now line.now words.now) }
+{
+    if let Some(far) = far_end(alloc, lines, &CableEnd::at(words, 1))? {
+        return put_in_use_at(out, line, words, 2, &far);
+    }
+    if let Some(far) = far_end(alloc, lines, &CableEnd::at(words, 3))? {
+        return put_in_use_at(out, line, words, 4, &far);
+    }
+    out.extend_from_slice(whole_sentence(Kind::InUse))
+}
+
+/// The lines before a line of a script, and those behind it.
+#[derive(Drop)]
+struct Around<'p, 'a> {
+    before: &'p [Text<'a>],
+    behind: &'p [Text<'a>],
+}
+
+/// Appends the sentence on a fault of a line with these words, among these lines.
 fn put_words_sentence(
     alloc: Global,
     out: &mut Vec<u8>,
     said: Opening,
-    lines: &[Text],
+    around: &Around,
     line: &[u8],
     words: &[Text],
     kind: Kind,
@@ -185,7 +281,8 @@ fn put_words_sentence(
     requires are { words.now ≡ words_of line.now }
     ensures { OnOk result (out.new.items
         ≡ out.old.items
-        ++ sentence_of said.delay said.times lines.now line.now words.now kind) }
+        ++ sentence_of said.delay said.times around.now.before.now around.now.behind.now
+        line.now words.now kind) }
 {
     match kind {
         Kind::Word => put_word_sentence(alloc, out, line, words),
@@ -194,15 +291,15 @@ fn put_words_sentence(
         Kind::Range => put_range_sentence(alloc, out, said, line, words),
         Kind::Twice => put_twice_sentence(out, line, words),
         Kind::Late => put_at(out, line, words, 0, late_wanted(words)),
-        Kind::NoNode => put_no_node(alloc, out, lines, line, words),
-        Kind::NoPort => put_no_port(alloc, out, lines, line, words),
+        Kind::NoNode => put_no_node(alloc, out, around, line, words),
+        Kind::NoPort => put_no_port(alloc, out, around.before, line, words),
         Kind::TooManyNodes => put_at(out, line, words, 0, bus_wanted(kind)),
         Kind::SameNode => put_at(out, line, words, 3, bus_wanted(kind)),
         Kind::NotPlugged => put_at(out, line, words, 2, bus_wanted(kind)),
         Kind::NotSettled => put_at(out, line, words, 1, bus_wanted(kind)),
         Kind::NoManager => put_at(out, line, words, 1, bus_wanted(kind)),
         Kind::NotManager => put_at(out, line, words, 1, bus_wanted(kind)),
-        Kind::InUse => out.extend_from_slice(whole_sentence(kind)),
+        Kind::InUse => put_in_use(alloc, out, around.before, line, words),
         Kind::TooManyTurns => out.extend_from_slice(whole_sentence(kind)),
         Kind::TooManyMaps => out.extend_from_slice(whole_sentence(kind)),
     }
@@ -213,7 +310,7 @@ fn put_line_sentence(
     alloc: Global,
     out: &mut Vec<u8>,
     said: Opening,
-    lines: &[Text],
+    around: &Around,
     line: &[u8],
     kind: Kind,
 ) -> Result<(), OutOfMemory>
@@ -221,10 +318,11 @@ fn put_line_sentence(
     requires few { said.delay ≤ 16 }
     ensures { OnOk result (out.new.items
         ≡ out.old.items
-        ++ sentence_of said.delay said.times lines.now line.now (words_of line.now) kind) }
+        ++ sentence_of said.delay said.times around.now.before.now around.now.behind.now
+        line.now (words_of line.now) kind) }
 {
     let words = words_of(alloc, line)?;
-    put_words_sentence(alloc, out, said, lines, line, words.as_slice(), kind)
+    put_words_sentence(alloc, out, said, around, line, words.as_slice(), kind)
 }
 
 /// The line of this number, from 0; no bytes behind the last.
@@ -256,6 +354,17 @@ fn first_lines<'p, 'a>(lines: &'p [Text<'a>], count: usize) -> &'p [Text<'a>]
         &lines[..count]
     } else {
         lines
+    }
+}
+
+/// The lines behind the first, where so many are the first.
+fn later_lines<'p, 'a>(lines: &'p [Text<'a>], count: usize) -> &'p [Text<'a>]
+    ensures { result.now ≡ drop count lines.now }
+{
+    if count < lines.len() {
+        &lines[count..]
+    } else {
+        &lines[lines.len()..]
     }
 }
 
@@ -321,14 +430,11 @@ impl<'a> CutScript<'a> {
         let lines = self.lines.as_slice();
         let number = fault.line.saturating_sub(1) as usize;
         let line = without_return(whole_line(lines, number));
-        put_line_sentence(
-            alloc,
-            out,
-            self.said,
-            first_lines(lines, number),
-            line,
-            fault.kind,
-        )
+        let around = Around {
+            before: first_lines(lines, number),
+            behind: later_lines(lines, fault.line as usize),
+        };
+        put_line_sentence(alloc, out, self.said, &around, line, fault.kind)
     }
 }
 
