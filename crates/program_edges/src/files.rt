@@ -1,6 +1,6 @@
 //! The files that words name.
-ghost use Rattle.std.specs.Prelude.{◌↔◌, IsOk, IsTrue};
-ghost use Rattle.program_edges.specs.Files.{AreFiles, NamesFile};
+ghost use Rattle.std.specs.Prelude.{◌≡◌, ◌↔◌, codes, IsOk, IsTrue};
+ghost use Rattle.program_edges.specs.Files.{AreFiles, AreTwoFiles, NamesFile};
 
 use crate::words::WordsFault;
 
@@ -11,15 +11,41 @@ pub enum FileCount {
     None,
     /// One, or standard input.
     One,
+    /// Two, of which one may be standard input.
+    Two,
     /// Any number, or standard input.
     Many,
+}
+
+/// Whether a word stands for standard input.
+pub(crate) fn is_input(word: &str) -> bool
+    ensures { IsTrue result ↔ (word.now ≡ codes "-") }
+{
+    word == "-"
 }
 
 /// Whether a word may name a file: `-`, which is standard input, or one that doesn't begin with `-`.
 fn names_file(word: &str) -> bool
     ensures { IsTrue result ↔ NamesFile word.now }
 {
-    word == "-" || word.as_bytes().first() != Some(&b'-')
+    is_input(word) || word.as_bytes().first() != Some(&b'-')
+}
+
+/// Judges the words behind a form of two files, each of which may name one.
+fn judge_two<'a>(form: &'a str, files: &'a [String]) -> Result<(), WordsFault<'a>>
+    ensures { IsOk result ↔ AreTwoFiles files.now }
+{
+    match files {
+        [a, b] if is_input(a.as_str()) && is_input(b.as_str()) => {
+            Err(WordsFault::InputTwice { form })
+        }
+        [_, _] => Ok(()),
+        [] | [_] => Err(WordsFault::Lacks {
+            form,
+            words: "OLD and NEW",
+        }),
+        _ => Err(WordsFault::TakesTwoFiles { form }),
+    }
 }
 
 /// Judges the words behind a form that takes so many files. It is `Ok` exactly where each of them may
@@ -38,6 +64,7 @@ pub(crate) fn judge_files<'a>(
     match count {
         FileCount::None if !files.is_empty() => Err(WordsFault::TakesNoFile { form }),
         FileCount::One if files.len() > 1 => Err(WordsFault::TakesOneFile { form }),
+        FileCount::Two => judge_two(form, files),
         _ => Ok(()),
     }
 }

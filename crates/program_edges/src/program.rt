@@ -1,6 +1,6 @@
 //! What a program does with its words: it answers a form over files, or over standard input.
 
-use crate::files::{FileCount, judge_files};
+use crate::files::{FileCount, is_input, judge_files};
 use crate::words::{WordsFault, words_of};
 use std::fs;
 use std::io::{self, Read};
@@ -61,6 +61,18 @@ pub trait Program {
         name: &str,
         input: R,
     ) -> u8;
+
+    /// Answers a call of a form that takes two files, which messages call by these names, and answers the exit
+    /// status. A program without such a form needs none.
+    fn answer_two<R: Read + Drop, Q: Read + Drop>(
+        _rt: &HostRuntime,
+        _call: &Call<'_, Self::Form>,
+        _names: (&str, &str),
+        _first: R,
+        _second: Q,
+    ) -> u8 {
+        NO_FORM
+    }
 }
 
 /// The call that words ask for. The form's own words are as many of the first ones as are a form.
@@ -80,29 +92,66 @@ fn call_of<P: Program>(words: &[String]) -> Result<Call<'_, P::Form>, WordsFault
     Err(P::fault_of(words))
 }
 
-/// Answers a call over a file, or over standard input where it is `-`.
-fn answer_file<P: Program>(rt: &HostRuntime, call: &Call<'_, P::Form>, file: &str) -> u8 {
-    if file == "-" {
-        return P::answer(rt, call, "standard input", rt.stdin());
-    }
-    match fs::open(rt, file) {
-        Ok(input) => P::answer(rt, call, file, input),
-        Err(error) => {
-            let program = P::name();
-            // A standard error that can't be written changes no status.
-            let _ = eprintln!(rt; "{program}: {file}: {error}");
-            READ_FAULT
-        }
+/// Says why a file couldn't be opened, and answers the exit status. A standard error that can't be written
+/// changes no status.
+fn unopened<P: Program>(rt: &HostRuntime, file: &str, error: io::Error) -> u8 {
+    let program = P::name();
+    let _ = eprintln!(rt; "{program}: {file}: {error}");
+    READ_FAULT
+}
+
+/// The name by which messages call a file.
+fn name_of(file: &str) -> &str {
+    if is_input(file) {
+        "standard input"
+    } else {
+        file
     }
 }
 
-/// Answers a call over its files, or over standard input where there are none. Of several files each answer
-/// stands below a line with the file's name, and the status is the greatest of theirs. Nothing is read any
-/// more once standard output can't be written.
-fn answer_call<P: Program>(rt: &HostRuntime, call: &Call<'_, P::Form>) -> u8 {
-    if call.files.is_empty() {
-        return P::answer(rt, call, "standard input", rt.stdin());
+/// Answers a call over a file, or over standard input where it is `-`.
+fn answer_file<P: Program>(rt: &HostRuntime, call: &Call<'_, P::Form>, file: &str) -> u8 {
+    let name = name_of(file);
+    if is_input(file) {
+        return P::answer(rt, call, name, rt.stdin());
     }
+    match fs::open(rt, file) {
+        Ok(input) => P::answer(rt, call, name, input),
+        Err(error) => unopened::<P>(rt, file, error),
+    }
+}
+
+/// Answers a call over two files, of which the first is open.
+fn answer_second<P: Program, R: Read + Drop>(
+    rt: &HostRuntime,
+    call: &Call<'_, P::Form>,
+    files: (&str, &str),
+    first: R,
+) -> u8 {
+    let names = (name_of(files.0), name_of(files.1));
+    if is_input(files.1) {
+        return P::answer_two(rt, call, names, first, rt.stdin());
+    }
+    match fs::open(rt, files.1) {
+        Ok(second) => P::answer_two(rt, call, names, first, second),
+        Err(error) => unopened::<P>(rt, files.1, error),
+    }
+}
+
+/// Answers a call over two files, of which one may be standard input.
+fn answer_files<P: Program>(rt: &HostRuntime, call: &Call<'_, P::Form>, files: (&str, &str)) -> u8 {
+    if is_input(files.0) {
+        return answer_second::<P, _>(rt, call, files, rt.stdin());
+    }
+    match fs::open(rt, files.0) {
+        Ok(first) => answer_second::<P, _>(rt, call, files, first),
+        Err(error) => unopened::<P>(rt, files.0, error),
+    }
+}
+
+/// Answers a call over each of its files. Of several each answer stands below a line with the file's name, and
+/// the status is the greatest of theirs. Nothing is read any more once standard output can't be written.
+fn answer_each<P: Program>(rt: &HostRuntime, call: &Call<'_, P::Form>) -> u8 {
     let mut greatest = VALID;
     for file in call.files {
         let name = file.as_str();
@@ -116,6 +165,17 @@ fn answer_call<P: Program>(rt: &HostRuntime, call: &Call<'_, P::Form>) -> u8 {
         greatest = greatest.max(status);
     }
     greatest
+}
+
+/// Answers a call over its files, or over standard input where there are none.
+fn answer_call<P: Program>(rt: &HostRuntime, call: &Call<'_, P::Form>) -> u8 {
+    match (P::files_of(&call.form), call.files) {
+        (FileCount::Two, [first, second]) => {
+            answer_files::<P>(rt, call, (first.as_str(), second.as_str()))
+        }
+        (_, []) => P::answer(rt, call, "standard input", rt.stdin()),
+        _ => answer_each::<P>(rt, call),
+    }
 }
 
 /// Whether a line of the program's help tells of this form.

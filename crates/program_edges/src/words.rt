@@ -34,6 +34,14 @@ pub enum WordsFault<'a> {
     TakesOneFile {
         form: &'a str,
     },
+    /// A form of two inputs has more words behind it.
+    TakesTwoFiles {
+        form: &'a str,
+    },
+    /// A form of two inputs has standard input for both.
+    InputTwice {
+        form: &'a str,
+    },
     /// A form lacks words, which are named as the usage names them.
     Lacks {
         form: &'a str,
@@ -60,6 +68,13 @@ impl Display for WordsFault<'_> {
             }
             WordsFault::TakesNoFile { form } => write!(f, "{form} takes no file"),
             WordsFault::TakesOneFile { form } => write!(f, "{form} takes one file at most"),
+            WordsFault::TakesTwoFiles { form } => write!(f, "{form} takes two files"),
+            WordsFault::InputTwice { form } => {
+                write!(
+                    f,
+                    "{form}: standard input stands for one of the files at most"
+                )
+            }
             WordsFault::Lacks { form, words } => write!(f, "{form} wants {words} behind it"),
             WordsFault::Misfit { form, word, wanted } => write!(f, "{form}: {word} isn't {wanted}"),
         }
