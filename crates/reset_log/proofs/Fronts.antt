@@ -14,11 +14,10 @@ use Rattle.reset_log.specs.Log.{Parted, onto_first, parted, open_lines, lines_of
 use Rattle.reset_log.specs.Cause.{StoppedWriting}
 use Rattle.reset_log.specs.Answered.{IsExact, IsComplete}
 use Rattle.reset_log.specs.Wrote.{Wrote, WroteFront, WroteFrontOf}
-use Rattle.reset_log.specs.codings.Going.{Stands, BreaksOff, BreaksText, Broke, ShowsLines, ShowsAll, Reads}
+use Rattle.reset_log.specs.codings.Going.{Holds, Stands, ShowsLine, Begun, BreaksOff, BreaksText, Broke, ShowsLines, ShowsAll, Reads}
 use Rattle.reset_log.specs.Texts.{totals}
 use Rattle.reset_log.proofs.InOrder.{one_more, told_once, told_first}
-use Rattle.reset_log.proofs.Going.{ends_line}
-use Rattle.reset_log.proofs.Wrote.{front_then, front_more, front_whole}
+use Rattle.reset_log.proofs.Wrote.{wrote_then, front_then, front_more, front_whole}
 use Rattle.reset_log.proofs.Standing.{by_front}
 use Rattle.reset_log.proofs.Reading.{consumes_then, all_came, front_of_none, some_open}
 use Rattle.reset_log.proofs.OneText.{same_line, one_lines}
@@ -55,25 +54,76 @@ front_lines (x ∷ xs) ys =
 
 -- ---- a front of lines
 
-pub broke_among : {K : Type 0} {w : K → Option (List ℕ)} {f : K → ℕ} {t : K → ℕ → Type 0} (standard : Standard) (lines more all : List (List ℕ)) (old new : K) →
-    Broke w f t standard lines old new → all ≡ lines ++ more → Broke w f t standard all old new
-broke_among standard lines more all old new b e = record {
+begun_among : (standard : Standard) (lines more all : List (List ℕ)) (text : List ℕ) →
+    Begun standard lines text → all ≡ lines ++ more → Begun standard all text
+begun_among standard lines more all text b e = record {
   first = b.first;
   others = b.others ++ more;
   lines_are = e ∙ ap (λ (ls : List (List ℕ)). ls ++ more) b.lines_are ∙ append_assoc b.first b.others more;
-  text = b.text;
   bad = b.bad;
   known = b.known;
   shown = b.shown;
+}
+
+pub begun_more : (standard : Standard) (xs ys text : List ℕ) → Begun standard (parted xs).lines text →
+    Begun standard (parted (xs ++ ys)).lines text
+begun_more standard xs ys text b =
+    let h = front_lines xs ys in
+    begun_among standard (parted xs).lines h.0 (parted (xs ++ ys)).lines text b h.1
+
+-- all whole lines
+pub begun_all : (r : LogReader) (done text : List ℕ) → Holds r done text →
+    Begun r.standard (parted done).lines text
+begun_all r done text h = record {
+  first = (parted done).lines;
+  others = [];
+  lines_are = sym (append-nil (parted done).lines);
+  bad = r.bad;
+  known = noted r.notes;
+  shown = h.shown;
+}
+
+-- of bytes that were taken so far
+pub begun_so_far : (standard : Standard) (r : LogReader) (done bytes took rest text out : List ℕ) →
+    Holds r (done ++ took) (text ++ out) → bytes ≡ took ++ rest → r.standard ≡ standard →
+    Begun standard (parted (done ++ bytes)).lines (text ++ out)
+begun_so_far standard r done bytes took rest text out h e same =
+    subst (λ (s : Standard). Begun s (parted (done ++ bytes)).lines (text ++ out)) same
+    (subst (λ (l : List ℕ). Begun r.standard (parted l).lines (text ++ out))
+    (append_assoc done took rest ∙ ap (λ (l : List ℕ). done ++ l) (sym e))
+    (begun_more r.standard (done ++ took) rest (text ++ out) (begun_all r (done ++ took) (text ++ out) h)))
+
+-- more was gathered and written
+pub stands_on : {K : Type 0} {w : K → Option (List ℕ)} {f : K → ℕ} {t : K → ℕ → Type 0} (old new : LogReader) (done piece out : List ℕ) (start was is : K) →
+    (st : Stands w f t old done start was) → Holds new (done ++ piece) (st.text ++ out) →
+    Wrote w f t was is out → Stands w f t new (done ++ piece) start is
+stands_on old new done piece out start was is st h wrote = record {
+  text = st.text ++ out;
+  holds = h;
+  wrote = wrote_then start was is st.text out st.wrote wrote;
+}
+
+-- nothing was gathered yet
+pub holds_none : (r : LogReader) (done text out : List ℕ) → out ≡ [] → Holds r done text →
+    Holds r done (text ++ out)
+holds_none r done text out e h = subst (λ (l : List ℕ). Holds r done l) (sym (ap (λ (l : List ℕ). text ++ l) e ∙ append-nil text)) h
+
+broke_among : {K : Type 0} {w : K → Option (List ℕ)} {f : K → ℕ} {t : K → ℕ → Type 0} (standard : Standard) (lines more all : List (List ℕ)) (old new : K) →
+    Broke w f t standard lines old new → all ≡ lines ++ more → Broke w f t standard all old new
+broke_among standard lines more all old new b e = record {
+  text = b.text;
+  begun = begun_among standard lines more all b.text b.begun e;
   wrote = b.wrote;
 }
 
-pub broke_more : {K : Type 0} {w : K → Option (List ℕ)} {f : K → ℕ} {t : K → ℕ → Type 0} (standard : Standard) (xs ys : List ℕ) (old new : K) →
+broke_more : {K : Type 0} {w : K → Option (List ℕ)} {f : K → ℕ} {t : K → ℕ → Type 0} (standard : Standard) (xs ys : List ℕ) (old new : K) →
     Broke w f t standard (parted xs).lines old new →
     Broke w f t standard (parted (xs ++ ys)).lines old new
-broke_more standard xs ys old new b =
-    let h = front_lines xs ys in
-    broke_among standard (parted xs).lines h.0 (parted (xs ++ ys)).lines old new b h.1
+broke_more standard xs ys old new b = record {
+  text = b.text;
+  begun = begun_more standard xs ys b.text b.begun;
+  wrote = b.wrote;
+}
 
 -- of a whole log
 pub broke_log : {K : Type 0} {w : K → Option (List ℕ)} {f : K → ℕ} {t : K → ℕ → Type 0} (standard : Standard) (xs ys : List ℕ) (old new : K) →
@@ -83,17 +133,31 @@ broke_log standard xs ys old new b =
     broke_among standard (parted (xs ++ ys)).lines (open_lines (parted (xs ++ ys)).open_line) (lines_of (xs ++ ys)) old new (broke_more standard xs ys old new b) refl
 
 -- the whole lines were shown
-pub stood : {K : Type 0} {w : K → Option (List ℕ)} {f : K → ℕ} {t : K → ℕ → Type 0} (r : LogReader) (done : List ℕ) (start was : K) →
+stood : {K : Type 0} {w : K → Option (List ℕ)} {f : K → ℕ} {t : K → ℕ → Type 0} (r : LogReader) (done : List ℕ) (start was : K) →
     Stands w f t r done start was → Broke w f t r.standard (parted done).lines start was
 stood r done start was st = record {
-  first = (parted done).lines;
-  others = [];
-  lines_are = sym (append-nil (parted done).lines);
   text = st.text;
-  bad = r.bad;
-  known = (noted r.notes);
-  shown = st.shown;
+  begun = begun_all r done st.text st.holds;
   wrote = front_whole start was st.text st.wrote;
+}
+
+-- what was gathered of lines was written, or its front
+pub broke_whole : {K : Type 0} {w : K → Option (List ℕ)} {f : K → ℕ} {t : K → ℕ → Type 0} (standard : Standard) (lines : List (List ℕ)) (text more : List ℕ) (start was is : K) →
+    Wrote w f t start was text → Begun standard lines (text ++ more) → Wrote w f t was is more →
+    Broke w f t standard lines start is
+broke_whole standard lines text more start was is wrote begun whole = record {
+  text = text ++ more;
+  begun = begun;
+  wrote = front_whole start is (text ++ more) (wrote_then start was is text more wrote whole);
+}
+
+pub broke_front : {K : Type 0} {w : K → Option (List ℕ)} {f : K → ℕ} {t : K → ℕ → Type 0} (standard : Standard) (lines : List (List ℕ)) (text more : List ℕ) (start was is : K) →
+    Wrote w f t start was text → Begun standard lines (text ++ more) → WroteFront w f t was is more →
+    Broke w f t standard lines start is
+broke_front standard lines text more start was is wrote begun part = record {
+  text = text ++ more;
+  begun = begun;
+  wrote = front_then start was is text more wrote part;
 }
 
 -- the next line wasn't shown whole
@@ -101,39 +165,40 @@ part_more : {K : Type 0} {w : K → Option (List ℕ)} {f : K → ℕ} {t : K �
     AreShown standard 1 nothing lines text bad known →
     IsLineShown standard (1 + length lines) known line more here next → Wrote w f t start was text →
     WroteFront w f t was is more → Broke w f t standard (lines ++ line ∷ []) start is
-part_more standard lines line text bad known next more here start was is shown one wrote part = record {
-  first = lines ++ line ∷ [];
-  others = [];
-  lines_are = sym (append-nil (lines ++ line ∷ []));
-  text = text ++ more;
-  bad = bad || here;
-  known = next;
-  shown = one_more (IsLineShown standard) 1 nothing known next lines line text more bad here shown one;
-  wrote = front_then start was is text more wrote part;
-}
+part_more standard lines line text bad known next more here start was is shown one wrote part =
+    broke_front standard (lines ++ line ∷ []) text more start was is wrote
+    (record {
+      first = lines ++ line ∷ [];
+      others = [];
+      lines_are = sym (append-nil (lines ++ line ∷ []));
+      bad = bad || here;
+      known = next;
+      shown = one_more (IsLineShown standard) 1 nothing known next lines line text more bad here shown one;
+    })
+    part
 
-pub broke_off : {K : Type 0} {w : K → Option (List ℕ)} {f : K → ℕ} {t : K → ℕ → Type 0} (old mid : LogReader) (done : List ℕ) (start was is : K) →
-    Stands w f t old done start was → BreaksOff w f t mid was is → mid.standard ≡ old.standard →
-    (noted mid.notes) ≡ (noted old.notes) → mid.line.items ≡ old.line.items → mid.number ≡ old.number →
+broke_off : {K : Type 0} {w : K → Option (List ℕ)} {f : K → ℕ} {t : K → ℕ → Type 0} (old : LogReader) (done : List ℕ) (start was is : K) →
+    Stands w f t old done start was → BreaksOff w f t old was is →
     Broke w f t old.standard ((parted done).lines ++ (parted done).open_line ∷ []) start is
-broke_off {K = K} {w = w} {f = f} {t = t} old mid done start was is st (inl e) es ec el en =
+broke_off {K = K} {w = w} {f = f} {t = t} old done start was is st (inl e) =
     subst (λ (o : K). Broke w f t old.standard ((parted done).lines ++ (parted done).open_line ∷ []) start o) (sym e)
     (broke_among old.standard (parted done).lines ((parted done).open_line ∷ []) _ start was (stood old done start was st) refl)
-broke_off old mid done start was is st (inr p) es ec el en =
-    let place : mid.number ≡ 1 + length (parted done).lines = omega (arith, en, st.number_is) in
+broke_off old done start was is st (inr p) =
+    let place : old.number ≡ 1 + length (parted done).lines = omega (arith, st.holds.number_is) in
     let one : IsLineShown old.standard (1 + length (parted done).lines) (noted old.notes) (parted done).open_line p.text p.here p.known =
-    by_front old.standard mid.number _ (noted old.notes) (noted mid.notes) p.known mid.line.items (parted done).open_line p.text p.here place ec (el ∙ st.line_is)
-    (subst (λ (s : Standard). IsLineShown s mid.number (noted mid.notes) mid.line.items p.text p.here p.known) es p.shown) in
-    part_more old.standard (parted done).lines (parted done).open_line st.text old.bad (noted old.notes) p.known p.text p.here start was is st.shown one st.wrote p.wrote
+    by_front old.standard old.number _ (noted old.notes) (noted old.notes) p.known old.line.items (parted done).open_line p.text p.here place refl st.holds.line_is p.shown in
+    part_more old.standard (parted done).lines (parted done).open_line st.text old.bad (noted old.notes) p.known p.text p.here start was is st.holds.shown one st.wrote p.wrote
 
--- at a line feed
-pub broke_line : {K : Type 0} {w : K → Option (List ℕ)} {f : K → ℕ} {t : K → ℕ → Type 0} (old mid : LogReader) (done : List ℕ) (start was is : K) →
-    Stands w f t old done start was → BreaksOff w f t mid was is → mid.standard ≡ old.standard →
-    (noted mid.notes) ≡ (noted old.notes) → mid.line.items ≡ old.line.items → mid.number ≡ old.number →
-    Broke w f t old.standard (parted (done ++ 10 ∷ [])).lines start is
-broke_line {w = w} {f = f} {t = t} old mid done start was is st off es ec el en =
-    subst (λ (p : Parted). Broke w f t old.standard p.lines start is) (sym (ends_line done))
-    (broke_off old mid done start was is st off es ec el en)
+-- what is shown of the line that was kept wasn't written whole
+pub broke_line : {K : Type 0} {w : K → Option (List ℕ)} {f : K → ℕ} {t : K → ℕ → Type 0} (old new : LogReader) (gathered : List ℕ) (was is : K) →
+    ShowsLine old new [] gathered → WroteFront w f t was is gathered → BreaksOff w f t old was is
+broke_line {w = w} {f = f} {t = t} old new gathered was is sh part = inr (record {
+  text = sh.text;
+  here = sh.here;
+  known = noted new.notes;
+  shown = sh.shown;
+  wrote = subst (λ (l : List ℕ). WroteFront w f t was is l) sh.gathered part;
+})
 
 -- at the end
 pub broke_last : {K : Type 0} {w : K → Option (List ℕ)} {f : K → ℕ} {t : K → ℕ → Type 0} (old : LogReader) (done : List ℕ) (start was is : K) →
@@ -141,8 +206,8 @@ pub broke_last : {K : Type 0} {w : K → Option (List ℕ)} {f : K → ℕ} {t :
     Broke w f t old.standard (lines_of done) start is
 broke_last {w = w} {f = f} {t = t} old done start was is st off some =
     subst (λ (ls : List (List ℕ)). Broke w f t old.standard ls start is)
-    (sym (some_open done (λ e. some (ap (λ (l : List ℕ). length l) (st.line_is ∙ front_of_none 65536 (parted done).open_line e)))))
-    (broke_off old old done start was is st off refl refl refl refl)
+    (sym (some_open done (λ e. some (ap (λ (l : List ℕ). length l) (st.holds.line_is ∙ front_of_none 65536 (parted done).open_line e)))))
+    (broke_off old done start was is st off)
 
 -- bytes up to one of them, it, and what is behind it
 pub split_at : (bytes : List ℕ) (at : ℕ) → at < length bytes →
@@ -153,28 +218,14 @@ split_at (b ∷ bytes) (suc at) h =
     let next : suc at + 1 ≡ suc (at + 1) = omega arith in
     rw next (ap (λ (l : List ℕ). b ∷ l) (split_at bytes at (omega (arith, h))))
 
--- among bytes
-pub broke_within : {K : Type 0} {w : K → Option (List ℕ)} {f : K → ℕ} {t : K → ℕ → Type 0} (standard : Standard) (done bytes : List ℕ) (at : ℕ) (start is : K) →
-    Broke w f t standard (parted ((done ++ take at bytes) ++ slice_index bytes at ∷ [])).lines start is →
-    at < length bytes → Broke w f t standard (parted (done ++ bytes)).lines start is
-broke_within {w = w} {f = f} {t = t} standard done bytes at start is b few =
-    subst (λ (l : List ℕ). Broke w f t standard (parted l).lines start is) (sym joined)
-    (broke_more standard ((done ++ take at bytes) ++ slice_index bytes at ∷ []) (drop (at + 1) bytes) start is b)
-  where
-    joined : done ++ bytes ≡ ((done ++ take at bytes) ++ slice_index bytes at ∷ []) ++ drop (at + 1) bytes
-    joined =
-        ap (λ (l : List ℕ). done ++ l) (split_at bytes at few)
-        ∙ sym (append_assoc done (take at bytes ++ slice_index bytes at ∷ []) (drop (at + 1) bytes))
-        ∙ ap (λ (l : List ℕ). l ++ drop (at + 1) bytes) (sym (append_assoc done (take at bytes) (slice_index bytes at ∷ [])))
-
 -- a front of lines is a front of the text of all
 pub front_of : {K : Type 0} {w : K → Option (List ℕ)} {f : K → ℕ} {t : K → ℕ → Type 0} (standard : Standard) (lines : List (List ℕ)) (old new : K) →
     Broke w f t standard lines old new → WroteFrontOf w f t (IsLogShown standard lines) old new
 front_of standard lines old new b = λ text bad is.
-    let all : AreShown standard 1 nothing (b.first ++ b.others) is.told bad is.known = subst (λ (ls : List (List ℕ)). AreShown standard 1 nothing ls is.told bad is.known) b.lines_are is.shown in
-    let first = told_first (IsLineShown standard) 1 nothing is.known b.first b.others is.told bad all in
+    let all : AreShown standard 1 nothing (b.begun.first ++ b.begun.others) is.told bad is.known = subst (λ (ls : List (List ℕ)). AreShown standard 1 nothing ls is.told bad is.known) b.begun.lines_are is.shown in
+    let first = told_first (IsLineShown standard) 1 nothing is.known b.begun.first b.begun.others is.told bad all in
     let same =
-    told_once (IsLineShown standard) (λ n ks line e g h k p q. same_line standard n ks line e g h k p q) 1 nothing b.first first.0 b.text first.2 b.bad first.3 b.known first.4 b.shown
+    told_once (IsLineShown standard) (λ n ks line e g h k p q. same_line standard n ks line e g h k p q) 1 nothing b.begun.first first.0 b.text first.2 b.begun.bad first.3 b.begun.known first.4 b.begun.shown
     in
     front_more old new b.text (first.1 ++ totals is.known) text
     (is.text_is
@@ -234,7 +285,7 @@ pub front_piece : {K : Type 0} {w : K → Option (List ℕ)} {f : K → ℕ} {t 
     ((done : List ℕ) (start : K) → length done + length piece ≤ 9223372036854775807 → Stands w f t r done start is → Broke w f t r.standard (parted (done ++ piece)).lines start will) →
     IfSome first (λ log. WroteFrontOf w f t (IsLogShown standard (lines_of log)) was will)
 front_piece {w = w} {f = f} {t = t} r standard first now next was is will a b piece h came told fits part =
-    let room : length h.done + length piece ≤ 9223372036854775807 = omega (arith, h.stands.taken_is, fits, h.small) in
+    let room : length h.done + length piece ≤ 9223372036854775807 = omega (arith, h.stands.holds.taken_is, fits, h.small) in
     log_left first next (h.done ++ piece) (λ log. WroteFrontOf w f t (IsLogShown standard (lines_of log)) was will)
     (consumes_then first now next h.done piece h.told h.came came) (told ∙ h.told)
     (λ left.

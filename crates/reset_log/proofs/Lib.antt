@@ -13,6 +13,7 @@ pub mod Standing
 pub mod Reading
 pub mod Answered
 pub mod Fronts
+mod Unmarked
 pub mod Lemmas
 pub mod SomePacket
 pub mod SomeText

@@ -45,11 +45,11 @@ pub ended : {K : Type 0} {w : K → Option (List ℕ)} {f : K → ℕ} {t : K �
     ShowsLines w f t old old.standard (lines_of done) start was
 ended old done start was st e =
     let none : old.line.items ≡ [] = no_items old.line.items e in
-    let unopened : (parted done).open_line ≡ [] = empty_front 65536 (parted done).open_line (omega arith) (sym st.line_is ∙ none) in
+    let unopened : (parted done).open_line ≡ [] = empty_front 65536 (parted done).open_line (omega arith) (sym st.holds.line_is ∙ none) in
     record {
       text = st.text;
       shown =
-          subst (λ (ls : List (List ℕ)). AreShown old.standard 1 nothing ls st.text old.bad (noted old.notes)) (sym (no_open done unopened)) st.shown;
+          subst (λ (ls : List (List ℕ)). AreShown old.standard 1 nothing ls st.text old.bad (noted old.notes)) (sym (no_open done unopened)) st.holds.shown;
       wrote = st.wrote;
     }
   where
@@ -57,20 +57,20 @@ ended old done start was st e =
     no_items [] h = refl
     no_items (x ∷ xs) h = absurd (omega (arith, h))
 
-pub ended_line : {K : Type 0} {w : K → Option (List ℕ)} {f : K → ℕ} {t : K → ℕ → Type 0} (old new : LogReader) (done : List ℕ) (start was is : K) →
-    Stands w f t old done start was → ShowsLine w f t old new was is → (length old.line.items ≡ 0 → ⊥) →
-    ShowsLines w f t new old.standard (lines_of done) start is
-ended_line old new done start was is st sh some =
-    let opened : (parted done).open_line ≡ [] → ⊥ = λ e. some (ap (λ (l : List ℕ). length l) (st.line_is ∙ front_of_none 65536 (parted done).open_line e)) in
+pub ended_line : {K : Type 0} {w : K → Option (List ℕ)} {f : K → ℕ} {t : K → ℕ → Type 0} (old new : LogReader) (done gathered : List ℕ) (start was is : K) →
+    Stands w f t old done start was → (sh : ShowsLine old new [] gathered) → Wrote w f t was is gathered →
+    (length old.line.items ≡ 0 → ⊥) → ShowsLines w f t new old.standard (lines_of done) start is
+ended_line {w = w} {f = f} {t = t} old new done gathered start was is st sh wrote some =
+    let opened : (parted done).open_line ≡ [] → ⊥ = λ e. some (ap (λ (l : List ℕ). length l) (st.holds.line_is ∙ front_of_none 65536 (parted done).open_line e)) in
     let shown : IsLineShown old.standard (1 + length (parted done).lines) (noted old.notes) (parted done).open_line sh.text sh.here (noted new.notes) =
-    by_front old.standard old.number _ (noted old.notes) (noted old.notes) (noted new.notes) old.line.items (parted done).open_line sh.text sh.here (omega (arith, st.number_is)) refl st.line_is sh.shown in
+    by_front old.standard old.number _ (noted old.notes) (noted old.notes) (noted new.notes) old.line.items (parted done).open_line sh.text sh.here (omega (arith, st.holds.number_is)) refl st.holds.line_is sh.shown in
     record {
       text = st.text ++ sh.text;
       shown =
           subst (λ (b : Bool). AreShown old.standard 1 nothing (lines_of done) (st.text ++ sh.text) b (noted new.notes)) (sym sh.bad)
           (subst (λ (ls : List (List ℕ)). AreShown old.standard 1 nothing ls (st.text ++ sh.text) (old.bad || sh.here) (noted new.notes)) (sym (some_open done opened))
-          (one_more (IsLineShown old.standard) 1 nothing (noted old.notes) (noted new.notes) (parted done).lines (parted done).open_line st.text sh.text old.bad sh.here st.shown shown));
-      wrote = wrote_then start was is st.text sh.text st.wrote sh.wrote;
+          (one_more (IsLineShown old.standard) 1 nothing (noted old.notes) (noted new.notes) (parted done).lines (parted done).open_line st.text sh.text old.bad sh.here st.holds.shown shown));
+      wrote = wrote_then start was is st.text sh.text st.wrote (subst (λ (l : List ℕ). Wrote w f t was is l) sh.gathered wrote);
     }
 
 -- all lines, and behind them what was counted
@@ -103,10 +103,12 @@ pub at_start : {K : Type 0} {w : K → Option (List ℕ)} {f : K → ℕ} {t : K
 unfolding parted
 at_start r a new = record {
   text = [];
-  shown = (refl, new.bad_is, new.noted_is);
-  line_is = new.line_is;
-  number_is = new.number_is;
-  taken_is = new.taken_is;
+  holds = record {
+    shown = (refl, new.bad_is, new.noted_is);
+    line_is = new.line_is;
+    number_is = new.number_is;
+    taken_is = new.taken_is;
+  };
   wrote = wrote_nothing a;
 }
 
@@ -136,7 +138,7 @@ pub reads_on : {K : Type 0} {w : K → Option (List ℕ)} {f : K → ℕ} {t : K
     ((done : List ℕ) (start : K) → length done + length piece ≤ 9223372036854775807 → Stands w f t r done start is → Stands w f t s (done ++ piece) start will) →
     s.standard ≡ r.standard → b ≤ c → f is ≤ f will → Reads w f t s standard first next was will a c
 reads_on r s standard first now next was is will a b c piece h came told fits taken same later wrote =
-    let size = h.stands.taken_is in
+    let size = h.stands.holds.taken_is in
     let room : length h.done + length piece ≤ 9223372036854775807 = omega (arith, size, fits, h.small) in
     record {
       done = h.done ++ piece;
@@ -156,9 +158,9 @@ pub less_room : {K : Type 0} {w : K → Option (List ℕ)} {f : K → ℕ} {t : 
     ((done : List ℕ) (start : K) → length done + length piece ≤ 9223372036854775807 → Stands w f t r done start is → Stands w f t s (done ++ piece) start will) →
     9223372036854775807 - s.taken < 9223372036854775807 - r.taken
 less_room r s standard first now was is will a b piece h some fits taken =
-    let room : length h.done + length piece ≤ 9223372036854775807 = omega (arith, h.stands.taken_is, fits, h.small) in
+    let room : length h.done + length piece ≤ 9223372036854775807 = omega (arith, h.stands.holds.taken_is, fits, h.small) in
     let on = taken h.done was room h.stands in
-    omega (arith, on.taken_is, h.stands.taken_is, length-append h.done piece, some, fits)
+    omega (arith, on.holds.taken_is, h.stands.holds.taken_is, length-append h.done piece, some, fits)
 
 -- ---- at the end
 

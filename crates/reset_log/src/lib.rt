@@ -16,6 +16,7 @@ mod line;
 mod list;
 mod listing;
 mod log;
+mod marks;
 mod notes;
 mod number;
 mod said;

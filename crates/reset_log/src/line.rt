@@ -6,6 +6,7 @@ ghost use Rattle.reset_log.specs.declared.line.Origin.{Origin};
 
 use crate::list::list_of;
 use crate::listing::listing;
+use crate::marks::may_be_shown;
 use crate::number::number_of;
 use crate::said::{LogText, said};
 use crate::time::time_of;
@@ -225,7 +226,7 @@ fn event(
 }
 
 /// The first bytes of a line, `most` of them at most.
-fn front(line: &[u8], most: usize) -> &[u8]
+pub(crate) fn front(line: &[u8], most: usize) -> &[u8]
     ensures { result.now ≡ take most line.now }
 {
     if line.len() > most {
@@ -241,7 +242,11 @@ fn front(line: &[u8], most: usize) -> &[u8]
 pub fn line_of(alloc: Global, line: &[u8]) -> Result<LogLine, AllocError>
     ensures { IfOk result (λ found. found ≡ line_of line.now) }
 {
-    let words = words_of(alloc, front(line, 65536))?;
+    let kept = front(line, 65536);
+    if !may_be_shown(kept) {
+        return Ok(LogLine::Other);
+    }
+    let words = words_of(alloc, kept)?;
     match named(&words) {
         Some((origin, time, behind)) => event(alloc, origin, time, behind),
         None if is_lost(&words) => Ok(LogLine::Lost),

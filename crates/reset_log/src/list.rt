@@ -70,10 +70,10 @@ fn unclosed(text: &[u8]) -> Option<&[u8]>
 }
 
 /// A text and the words up to the next field, each behind a blank.
-fn spaced(alloc: Global, open: &Word, words: &[Word]) -> Result<Vec<u8>, AllocError>
-    ensures { IfOk result (λ text. text.items ≡ spaced open.now (to_field words.now)) }
+fn spaced(alloc: Global, start: &Word, words: &[Word]) -> Result<Vec<u8>, AllocError>
+    ensures { IfOk result (λ text. text.items ≡ spaced start.now (to_field words.now)) }
 {
-    let mut text = Vec::from_slice(alloc, open.as_bytes())?;
+    let mut text = Vec::from_slice(alloc, start.as_bytes())?;
     let mut rest = words;
     while let [word, behind @ ..] = rest {
         if word.is_of_field() {
@@ -150,8 +150,8 @@ pub(crate) fn list_of(
     ensures { IfOk result (λ list. list ≡ list_of first.now words.now) }
 {
     match first.behind(b"{") {
-        Some(open) => {
-            let text = spaced(alloc, &open, words)?;
+        Some(start) => {
+            let text = spaced(alloc, &start, words)?;
             within(alloc, text.as_slice())
         }
         None => between_blanks(alloc, first, words),

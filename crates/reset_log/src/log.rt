@@ -1,23 +1,25 @@
 //! Showing a log as it comes.
-ghost use Rattle.std.specs.Prelude.{◌≡◌, ◌≢◌, ◌↔◌, ◌<◌, ◌≤◌, ◌+◌, ◌++◌, ◌∷◌, [], ℕ, Bool, List, length, OnOk, OnErr, IfOk, IfErr, IfSome, IsErr, IsErrOf, alloc_error};
+ghost use Rattle.std.specs.Prelude.{◌≡◌, ◌≢◌, ◌↔◌, ◌<◌, ◌≤◌, ◌+◌, ◌++◌, ◌∷◌, [], ℕ, Bool, List, length, OnOk, OnErr, IfOk, IfErr, IfSome, IfNone, IsErr, IsErrOf};
 ghost use Rattle.std.specs.Io.KnownBytes.{IsAtEnd, Consumes};
 ghost use Rattle.io_edges.specs.Faults.{Rose};
 ghost use Rattle.io_edges.specs.Told.{IfTold, TookOver};
-ghost use Rattle.reset_log.specs.codings.Going.{IsNew, Stands, ShowsLine, KeepsByte, BreaksOff, BreaksText, Broke, ShowsLines, ShowsAll};
+ghost use Rattle.reset_log.specs.codings.Going.{IsNew, Holds, Stands, ShowsLine, KeepsBytes, IsOneLine, Begun, BreaksText, Broke, ShowsLines, ShowsAll};
 ghost use Rattle.reset_log.specs.Cause.{StoppedWriting};
 ghost use Rattle.reset_log.specs.Log.{parted, lines_of, IsLogShown, AreWritten, AreBegun};
-ghost use Rattle.reset_log.specs.Wrote.{Wrote, WroteFrontOf};
+ghost use Rattle.reset_log.specs.Wrote.{Wrote, WroteFront, WroteFrontOf};
 ghost use Rattle.reset_log.specs.Texts.{totals};
 ghost use Rattle.reset_log.specs.Notes.{noted};
 ghost use Rattle.reset_log.specs.Answered.{IsExact, IsComplete, IsFront, IsSure};
 
 use crate::heads::totals_text;
+use crate::line::front;
 use crate::notes::Notes;
 use crate::shown::show_line;
 use crate::stop::LogStop;
 use io_edges::{Sink, Source, write_whole};
+use memchr::memchr;
 use self_id::Standard;
-use std::alloc::Global;
+use std::alloc::{AllocError, Global};
 
 /// The most bytes of a log: as many come in 292,000 years at a megabyte a second.
 pub const MAX_LOG: usize = 9_223_372_036_854_775_807;
@@ -26,7 +28,7 @@ pub const MAX_LOG: usize = 9_223_372_036_854_775_807;
 const MAX_LINE: usize = 65536;
 
 /// The most bytes of one read.
-const PIECE: usize = 4096;
+const PIECE: usize = 65536;
 
 /// A reader of a log. It keeps the line that isn't whole yet, and what is noted of the log.
 #[derive(Debug, Drop)]
@@ -37,6 +39,33 @@ pub(crate) struct LogReader {
     number: u64,
     taken: usize,
     bad: bool,
+}
+
+/// Writes the whole of a text.
+fn put<K: Sink>(sink: &mut K, text: &[u8]) -> Result<(), LogStop>
+    ensures ok { OnOk result (Wrote K.written K.faults K.surely_takes
+        sink.old sink.new text.now) }
+    ensures part { OnErr result (WroteFront K.written K.faults K.surely_takes
+        sink.old sink.new text.now) }
+    ensures stops { IfErr result (StoppedWriting (K.faults sink.old) (K.faults sink.new)) }
+    ensures later { K.faults sink.old ≤ K.faults sink.new }
+{
+    match write_whole(sink, text) {
+        Ok(()) => Ok(()),
+        Err(_) => Err(LogStop::WriteFault),
+    }
+}
+
+/// What stands before the first line feed of a text, and what stands behind it.
+fn cut(text: &[u8]) -> Option<(&[u8], &[u8])>
+    ensures cut { IfSome result (λ parts. text.now ≡ parts.0.now ++ 10 ∷ parts.1.now) }
+    ensures first { IfSome result (λ parts. IsOneLine parts.0.now) }
+    ensures whole { IfNone result (IsOneLine text.now) }
+{
+    match memchr(b'\n', text) {
+        Some(end) => Some((&text[..end], &text[end + 1..])),
+        None => None,
+    }
 }
 
 impl LogReader {
@@ -55,14 +84,10 @@ impl LogReader {
         }
     }
 
-    /// Shows the line that is kept, and begins the next one.
-    fn show<K: Sink>(&mut self, alloc: Global, sink: &mut K) -> Result<(), LogStop>
-        ensures ok { OnOk result (ShowsLine K.written K.faults K.surely_takes
-            self.old self.new sink.old sink.new) }
-        ensures part { OnErr result (BreaksOff K.written K.faults K.surely_takes
-            self.old sink.old sink.new) }
-        ensures stops { IfErr result (StoppedWriting (K.faults sink.old) (K.faults sink.new)) }
-        ensures later { K.faults sink.old ≤ K.faults sink.new }
+    /// Shows the line that is kept, behind what was gathered, and begins the next one.
+    fn show(&mut self, alloc: Global, out: &mut Vec<u8>) -> Result<(), AllocError>
+        ensures ok { OnOk result (ShowsLine self.old self.new out.old.items out.new.items) }
+        ensures part { OnErr result (out.new.items ≡ out.old.items) }
     {
         let shown = show_line(
             alloc,
@@ -71,51 +96,61 @@ impl LogReader {
             self.number,
             &self.line,
         )?;
-        if write_whole(sink, &shown.text).is_err() {
-            return Err(LogStop::WriteFault);
-        }
+        out.extend_from_slice(&shown.text)?;
         self.bad = self.bad || shown.bad;
         self.number = self.number.saturating_add(1);
         self.line.clear();
         Ok(())
     }
 
-    /// Keeps a byte of the line, as far as there is room.
-    fn keep(&mut self, byte: u8) -> Result<(), LogStop>
-        ensures ok { OnOk result (KeepsByte self.old self.new byte) }
-        ensures stops { IfErr result (λ stop. stop ≡ LogStop.Memory alloc_error) }
+    /// Keeps bytes of the line, as far as there is room.
+    fn keep(&mut self, bytes: &[u8]) -> Result<(), AllocError>
+        ensures { OnOk result (KeepsBytes self.old self.new bytes.now) }
     {
-        if self.line.len() < MAX_LINE {
-            self.line.push(byte)?;
-            return Ok(());
-        }
+        let room = MAX_LINE.saturating_sub(self.line.len());
+        self.line.extend_from_slice(front(bytes, room))?;
+        self.taken = self.taken.saturating_add(bytes.len());
         Ok(())
     }
 
-    /// Takes a byte, and shows the line that it ends.
-    fn take_byte<K: Sink>(&mut self, alloc: Global, byte: u8, sink: &mut K) -> Result<(), LogStop>
-        ensures ok { OnOk result ((done : List ℕ) (start : K) → length done < 9223372036854775807 →
-            Stands K.written K.faults K.surely_takes self.old done start sink.old →
-            Stands K.written K.faults K.surely_takes
-            self.new (done ++ byte ∷ []) start sink.new) }
-        ensures part { OnErr result ((done : List ℕ) (start : K) → length done < 9223372036854775807 →
-            Stands K.written K.faults K.surely_takes self.old done start sink.old →
-            Broke K.written K.faults K.surely_takes
-            self.old.standard (parted (done ++ byte ∷ [])).lines start sink.new) }
-        ensures stops { IfErr result (StoppedWriting (K.faults sink.old) (K.faults sink.new)) }
+    /// Takes the last bytes of a line and its line feed, and shows the line behind what was gathered.
+    fn end_line(&mut self, alloc: Global, bytes: &[u8], out: &mut Vec<u8>) -> Result<(), AllocError>
+        ensures ok { OnOk result ((done text : List ℕ) → IsOneLine bytes.now →
+            length done + length bytes.now < 9223372036854775807 →
+            Holds self.old done (text ++ out.old.items) →
+            Holds self.new (done ++ (bytes.now ++ 10 ∷ [])) (text ++ out.new.items)) }
+        ensures part { OnErr result (out.new.items ≡ out.old.items) }
         ensures same { OnOk result (self.new.standard ≡ self.old.standard) }
-        ensures later { K.faults sink.old ≤ K.faults sink.new }
     {
+        self.keep(bytes)?;
         self.taken = self.taken.saturating_add(1);
-        if byte == b'\n' {
-            self.show(alloc, sink)?;
-            return Ok(());
-        }
-        self.keep(byte)?;
+        self.show(alloc, out)?;
         Ok(())
     }
 
-    /// Takes bytes, and shows the lines that they end.
+    /// Takes bytes, and gathers what is shown of the lines that they end.
+    fn gather(&mut self, alloc: Global, bytes: &[u8], out: &mut Vec<u8>) -> Result<(), AllocError>
+        ensures ok { OnOk result ((done text : List ℕ) →
+            length done + length bytes.now ≤ 9223372036854775807 →
+            Holds self.old done (text ++ out.old.items) →
+            Holds self.new (done ++ bytes.now) (text ++ out.new.items)) }
+        ensures begun { (done text : List ℕ) →
+            length done + length bytes.now ≤ 9223372036854775807 →
+            Holds self.old done (text ++ out.old.items) →
+            Begun self.old.standard (parted (done ++ bytes.now)).lines (text ++ out.new.items) }
+        ensures same { OnOk result (self.new.standard ≡ self.old.standard) }
+    {
+        let mut rest = bytes;
+        while let Some((line, behind)) = cut(rest) {
+            self.end_line(alloc, line, out)?;
+            rest = behind;
+        }
+        self.keep(rest)?;
+        Ok(())
+    }
+
+    /// Takes bytes, and shows the lines that they end: by one write, also where there was no memory for
+    /// what is shown of a line among them.
     fn take<K: Sink>(&mut self, alloc: Global, bytes: &[u8], sink: &mut K) -> Result<(), LogStop>
         ensures ok { OnOk result ((done : List ℕ) (start : K) →
             length done + length bytes.now ≤ 9223372036854775807 →
@@ -130,9 +165,10 @@ impl LogReader {
         ensures same { OnOk result (self.new.standard ≡ self.old.standard) }
         ensures later { K.faults sink.old ≤ K.faults sink.new }
     {
-        for byte in bytes {
-            self.take_byte(alloc, *byte, sink)?;
-        }
+        let mut out = Vec::new(alloc);
+        let gathered = self.gather(alloc, bytes, &mut out);
+        put(sink, &out)?;
+        gathered?;
         Ok(())
     }
 
@@ -152,7 +188,9 @@ impl LogReader {
         if self.line.is_empty() {
             return Ok(());
         }
-        self.show(alloc, sink)?;
+        let mut out = Vec::new(alloc);
+        self.show(alloc, &mut out)?;
+        put(sink, &out)?;
         Ok(())
     }
 
@@ -166,9 +204,7 @@ impl LogReader {
         ensures later { K.faults sink.old ≤ K.faults sink.new }
     {
         let text = totals_text(alloc, &self.notes)?;
-        if write_whole(sink, &text).is_err() {
-            return Err(LogStop::WriteFault);
-        }
+        put(sink, &text)?;
         Ok(())
     }
 

@@ -6,7 +6,7 @@ use crate::word::Word;
 use std::alloc::{AllocError, Global};
 
 /// Whether a character parts words.
-fn is_blank(c: u8) -> bool
+pub(crate) fn is_blank(c: u8) -> bool
     ensures { result ≡ is_blank c }
 {
     c == b' ' || c == b'\t' || c == b'\r'

@@ -18,42 +18,57 @@ pub record IsNew (r : LogReader) : Type 0 where
   pub taken_is : r.taken ≡ 0
   pub bad_is : r.bad ≡ false
 
--- it was given these bytes, and what is shown of their whole lines was written
+-- it was given these bytes, and this is what is shown of their whole lines
+pub record Holds (r : LogReader) (done text : List ℕ) : Type 0 where
+  pub shown : AreShown r.standard 1 nothing (parted done).lines text r.bad (noted r.notes)
+  pub line_is : r.line.items ≡ take 65536 (parted done).open_line
+  pub number_is : r.number ≡ length (parted done).lines + 1
+  pub taken_is : r.taken ≡ length done
+
+-- the same, and what is shown of them was written
 pub record Stands {K : Type 0} (written : K → Option (List ℕ)) (faults : K → ℕ)
     (surely_takes : K → ℕ → Type 0) (r : LogReader) (done : List ℕ) (old new : K) : Type 0
   where
     pub text : List ℕ
-    pub shown : AreShown r.standard 1 nothing (parted done).lines text r.bad (noted r.notes)
-    pub line_is : r.line.items ≡ take 65536 (parted done).open_line
-    pub number_is : r.number ≡ length (parted done).lines + 1
-    pub taken_is : r.taken ≡ length done
+    pub holds : Holds r done text
     pub wrote : Wrote written faults surely_takes old new text
 
--- the line that was kept was shown
-pub record ShowsLine {K : Type 0} (written : K → Option (List ℕ)) (faults : K → ℕ)
-    (surely_takes : K → ℕ → Type 0) (old new : LogReader) (was is : K) : Type 0
-  where
-    pub text : List ℕ
-    pub here : Bool
-    pub shown :
-        IsLineShown old.standard old.number (noted old.notes) old.line.items text here (noted new.notes)
-    pub bad : new.bad ≡ old.bad || here
-    pub wrote : Wrote written faults surely_takes was is text
-    pub standard : new.standard ≡ old.standard
-    pub line_is : new.line.items ≡ []
-    pub number_is : old.number < 2 ^ 63 → new.number ≡ old.number + 1
-    pub taken_is : new.taken ≡ old.taken
+-- what is shown of the line that was kept stands behind what was gathered
+pub record ShowsLine (old new : LogReader) (was is : List ℕ) : Type 0 where
+  pub text : List ℕ
+  pub here : Bool
+  pub shown :
+      IsLineShown old.standard old.number (noted old.notes) old.line.items text here (noted new.notes)
+  pub gathered : is ≡ was ++ text
+  pub bad : new.bad ≡ old.bad || here
+  pub standard : new.standard ≡ old.standard
+  pub line_is : new.line.items ≡ []
+  pub number_is : old.number < 2 ^ 63 → new.number ≡ old.number + 1
+  pub taken_is : new.taken ≡ old.taken
 
--- a byte of a line was kept
-pub record KeepsByte (old new : LogReader) (byte : ℕ) : Type 0 where
+-- bytes of a line were kept
+pub record KeepsBytes (old new : LogReader) (bytes : List ℕ) : Type 0 where
   pub line_is :
       (line : List ℕ) → old.line.items ≡ take 65536 line →
-      new.line.items ≡ take 65536 (line ++ byte ∷ [])
+      new.line.items ≡ take 65536 (line ++ bytes)
   pub standard : new.standard ≡ old.standard
   pub notes : noted new.notes ≡ noted old.notes
   pub number_is : new.number ≡ old.number
-  pub taken_is : new.taken ≡ old.taken
+  pub taken_is : old.taken + length bytes < 2 ^ 64 → new.taken ≡ old.taken + length bytes
   pub bad : new.bad ≡ old.bad
+
+-- no line feed stands in it
+abbrev pub IsOneLine : List ℕ → Type 0
+IsOneLine bytes = parted bytes ≡ record { lines = []; open_line = bytes }
+
+-- this is what is shown of the first of these lines
+pub record Begun (standard : Standard) (lines : List (List ℕ)) (text : List ℕ) : Type 0 where
+  pub first : List (List ℕ)
+  pub others : List (List ℕ)
+  pub lines_are : lines ≡ first ++ others
+  pub bad : Bool
+  pub known : Noted
+  pub shown : AreShown standard 1 nothing first text bad known
 
 -- the front of what is shown of the line that was kept was written
 pub record ShowsPart {K : Type 0} (written : K → Option (List ℕ)) (faults : K → ℕ)
@@ -82,13 +97,8 @@ pub record Broke {K : Type 0} (written : K → Option (List ℕ)) (faults : K �
     (surely_takes : K → ℕ → Type 0) (standard : Standard) (lines : List (List ℕ)) (old new : K) :
     Type 0
   where
-    pub first : List (List ℕ)
-    pub others : List (List ℕ)
-    pub lines_are : lines ≡ first ++ others
     pub text : List ℕ
-    pub bad : Bool
-    pub known : Noted
-    pub shown : AreShown standard 1 nothing first text bad known
+    pub begun : Begun standard lines text
     pub wrote : WroteFront written faults surely_takes old new text
 
 -- these lines were shown

@@ -1,0 +1,13 @@
+use Rattle.std.proofs.Common.{◌≡◌, ◌+◌, ◌≤◌, ℕ, List, ◌++◌, length}
+use Rattle.reset_log.specs.codings.Going.{Holds}
+use Rattle.reset_log.proofs.log.LogReader.gather.Given as goal
+
+abbrev pub invariant-loop-line : goal.invariant-loop-line
+invariant-loop-line l =
+    (took : List ℕ) × (l.bytes ≡ took ++ l.rest)
+    × ((done text : List ℕ) → length done + length l.bytes ≤ 9223372036854775807 → Holds l.initial.self done (text ++ l.initial.out.items) →
+    Holds l.self (done ++ took) (text ++ l.out.items))
+    × (l.self.standard ≡ l.initial.self.standard)
+
+abbrev pub decreases-loop-line : goal.decreases-loop-line
+decreases-loop-line l = length l.rest
