@@ -2,7 +2,7 @@
 _busconf() {
   local forms
   case ${1##*/} in
-  busview) forms="packets tree dot json trace waves explain capture script flawed resets nosy --help --version" ;;
+  busview) forms="packets tree dot json trace waves explain capture script flawed resets nosy diff --help --version" ;;
   *) forms="run advice read read95 maps rom make --help --version" ;;
   esac
   COMPREPLY=()
@@ -10,7 +10,7 @@ _busconf() {
     mapfile -t COMPREPLY < <(compgen -W "$forms" -- "${COMP_WORDS[1]}")
   elif [ "$COMP_CWORD" -eq 2 ]; then
     case ${1##*/}:${COMP_WORDS[1]} in
-    busview:packets | busview:tree | busview:dot | busview:json | busview:resets | busview:nosy)
+    busview:packets | busview:tree | busview:dot | busview:json | busview:resets | busview:nosy | busview:diff)
       mapfile -t COMPREPLY < <(compgen -W "--1995" -- "${COMP_WORDS[2]}")
       ;;
     busview:flawed)

@@ -10,10 +10,10 @@ use Rattle.world_laws.specs.TreeText.{TextsTellTrees}
 use Rattle.bus_cli.specs.declared.form.Form.TheVariants.{Capture}
 use Rattle.bus_cli.specs.declared.form.CaptureForm.TheVariants.{Read}
 use Rattle.bus_cli.specs.Form.{Asks}
-use Rattle.bus_cli.specs.Capture.{IsCaptureOf, Spells}
+use Rattle.capture_reading.specs.Capture.{IsCaptureOf, Spells}
 use Rattle.bus_cli.specs.Cabled.{TellsCabling, AnswersCabling, AreEmitted}
 use Rattle.bus_cli.specs.Answer.{AnswersRead, Answers}
-use Rattle.bus_cli.specs.OneReading.{NoCaptureHasTwoTrees}
+use Rattle.capture_reading.specs.OneReading.{NoCaptureHasTwoTrees}
 use Rattle.bus_cli.specs.Streams.{IsWritten}
 
 -- what some cabling emits spells the tree that it shows

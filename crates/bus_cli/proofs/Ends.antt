@@ -18,8 +18,8 @@ use Rattle.script_told.specs.ScriptEvents.{ScriptsAreRuns}
 use Rattle.script_told.specs.EachPlan.{EachPlanComesOut}
 use Rattle.script_bus.specs.EachConfig.{EachConfigComesOut}
 use Rattle.script_bus.specs.EachWaiting.{EachWaitingNodeBecomesRoot}
-use Rattle.bus_cli.specs.declared.fault.CaptureFault.{CaptureFault}
-use Rattle.bus_cli.specs.declared.fault.CaptureStop.{CaptureStop}
+use Rattle.capture_reading.specs.declared.fault.CaptureFault.{CaptureFault}
+use Rattle.capture_reading.specs.declared.fault.CaptureStop.{CaptureStop}
 use Rattle.bus_cli.specs.declared.answer.Answer.{Answer}
 use Rattle.bus_cli.specs.declared.answer.Answer.TheVariants.{Valid, Refused}
 use Rattle.bus_cli.specs.declared.form.Form.{Form}
@@ -27,8 +27,8 @@ use Rattle.bus_cli.specs.declared.form.Form.TheVariants.{Capture, Make, OfItself
 use Rattle.bus_cli.specs.declared.form.CaptureForm.{CaptureForm}
 use Rattle.bus_cli.specs.declared.form.CaptureForm.TheVariants.{Read, Read95, Maps}
 use Rattle.bus_cli.specs.Form.{Asks, AsksNoInput, IsForm, standard_of}
-use Rattle.bus_cli.specs.Capture.{Spells, CaptureRefused}
-use Rattle.bus_cli.specs.Line.{fault_line}
+use Rattle.capture_reading.specs.Capture.{Spells, CaptureRefused}
+use Rattle.capture_reading.specs.Line.{fault_line}
 use Rattle.bus_cli.specs.codings.Reading.{Reads, Shows, status_with, text_with}
 use Rattle.bus_cli.specs.Answer.{PrintsRun, AnswersForm, AnswersMake, AnswersOfItself, Answers}
 use Rattle.bus_cli.specs.OneAnswer.{NoInputHasTwoAnswers}

@@ -17,14 +17,14 @@ use Rattle.topology_stack.specs.OneAnswer.{EachListHasATreeOrAFault}
 use Rattle.topology_stack.specs.Refused.{Refused}
 use Rattle.self_id.specs.declared.standard.Standard.TheVariants.{Ieee2000}
 use Rattle.topology_stack.specs.Tree.{Tree, IsBusTreeOf, emits}
-use Rattle.bus_cli.specs.Capture.{IsCaptureOf, Spells, CaptureRefused}
-use Rattle.bus_cli.specs.Stop.{of_tree, IfFault, IfMemory}
-use Rattle.bus_cli.specs.declared.fault.CaptureStop.{CaptureStop}
-use Rattle.bus_cli.specs.declared.fault.CaptureStop.TheVariants.{Fault, Memory}
+use Rattle.capture_reading.specs.Capture.{IsCaptureOf, Spells, CaptureRefused}
+use Rattle.capture_reading.specs.Stop.{of_tree, IfFault, IfMemory}
+use Rattle.capture_reading.specs.declared.fault.CaptureStop.{CaptureStop}
+use Rattle.capture_reading.specs.declared.fault.CaptureStop.TheVariants.{Fault, Memory}
 use Rattle.bus_cli.specs.codings.Reading.{Reads, SparesMemory}
 use Rattle.bus_cli.specs.codings.Late.{Late, IsListOf}
 use Rattle.bus_cli.specs.codings.Pieces.{Pieces, HoldsExactly, bad_after}
-use Rattle.bus_cli.proofs.Reading.{is_capture}
+use Rattle.capture_reading.proofs.Lemmas.{is_capture}
 
 -- ---- lists of whole quadlets and whole pairs
 

@@ -1,6 +1,4 @@
 pub mod Gathering
-pub mod Reading
-pub mod OneReading
 pub mod Forms
 pub mod OneAnswer
 pub mod Answering

@@ -32,10 +32,11 @@ use Rattle.bus_cli.specs.declared.help.TheConstants.{HELP}
 use Rattle.bus_cli.specs.declared.form.Form.{Form}
 use Rattle.bus_cli.specs.declared.form.Form.TheVariants.{Capture, Rom, Run, Advice, Make, OfItself}
 use Rattle.bus_cli.specs.declared.form.CaptureForm.TheVariants.{Read, Read95, Maps}
-use Rattle.bus_cli.specs.declared.fault.CaptureFault.{CaptureFault}
+use Rattle.capture_reading.specs.declared.fault.CaptureFault.{CaptureFault}
 use Rattle.bus_cli.specs.Form.{Asks, IsForm}
-use Rattle.bus_cli.specs.Line.{fault_line, rom_line, script_line}
-use Rattle.bus_cli.specs.OneReading.{EachCaptureHasATreeOrAFault, NoCaptureHasTwoTrees, NoCaptureHasATreeAndAFault, NoCaptureHasTwoFaults}
+use Rattle.capture_reading.specs.Line.{fault_line}
+use Rattle.bus_cli.specs.Line.{rom_line, script_line}
+use Rattle.capture_reading.specs.OneReading.{EachCaptureHasATreeOrAFault, NoCaptureHasTwoTrees, NoCaptureHasATreeAndAFault, NoCaptureHasTwoFaults}
 use Rattle.bus_cli.specs.Answer.{ValidOrRefused, IsCaptureLine, AnswersRead, AnswersMaps, TellsRom, RomRefused, TextOfRom, AnswersRom, PrintsRun, AnswersRun, AnswersAdvice, AnswersMake, AnswersForm, Answers}
 use Rattle.bus_cli.specs.OneAnswer.{EachInputHasAnAnswer, NoInputHasTwoAnswers, ToldTextsArePrinted}
 use Rattle.bus_cli.proofs.Forms.{one_form, form_or_none}

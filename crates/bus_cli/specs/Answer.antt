@@ -17,12 +17,13 @@ use Rattle.config_rom.specs.OneReading.{IsRomOf, HasGoodBlocks}
 use Rattle.bus_cli.specs.declared.form.Form.{Form}
 use Rattle.bus_cli.specs.declared.form.Form.TheVariants.{Capture, Rom, Run, Advice, Make, OfItself}
 use Rattle.bus_cli.specs.declared.form.CaptureForm.TheVariants.{Read, Read95, Maps}
-use Rattle.bus_cli.specs.declared.fault.CaptureFault.{CaptureFault}
+use Rattle.capture_reading.specs.declared.fault.CaptureFault.{CaptureFault}
 use Rattle.bus_cli.specs.declared.help.TheConstants.{HELP}
 use Rattle.bus_cli.specs.Form.{Asks, IsForm}
-use Rattle.bus_cli.specs.Capture.{Spells, CaptureRefused}
+use Rattle.capture_reading.specs.Capture.{Spells, CaptureRefused}
 use Rattle.bus_cli.specs.Cabled.{EachListIsEmitted}
-use Rattle.bus_cli.specs.Line.{fault_line, rom_line, script_line}
+use Rattle.capture_reading.specs.Line.{fault_line}
+use Rattle.bus_cli.specs.Line.{rom_line, script_line}
 use Rattle.script_lines.specs.declared.kind.ScriptFault.{ScriptFault}
 use Rattle.script_text.specs.Maps.{IsMapsText}
 use Rattle.script_text.specs.Summary.{summary}

@@ -8,7 +8,7 @@ use Rattle.world_laws.specs.TreeText.{AreAlikeButHidden}
 use Rattle.world_laws.specs.WiringSlots.{ListsAreEmitted}
 use Rattle.script_told.specs.Reached.{world_of}
 use Rattle.script_told.specs.Run.{Entry, ScriptRun}
-use Rattle.bus_cli.specs.Capture.{IsCaptureOf}
+use Rattle.capture_reading.specs.Capture.{IsCaptureOf}
 
 -- The bytes are the packets that the nodes of some cabling emit, the text is that of the tree that
 -- this cabling shows, and no cabling that emits them shows another. The text tells that tree: a bus

@@ -1,10 +1,7 @@
 pub mod Answer
-pub mod Capture
 pub mod Cabled
 pub mod Form
 pub mod Line
 pub mod OneAnswer
-pub mod OneReading
-pub mod Stop
 pub mod Streams
 pub mod codings

@@ -6,10 +6,9 @@ ghost use Rattle.io_edges.specs.Told.{AreLeft, IfTold, TookOver};
 ghost use Rattle.bus_cli.specs.Form.{standard_of};
 ghost use Rattle.bus_cli.specs.codings.Reading.{Reads, SparesMemory};
 
-use crate::capture::read_capture;
-use crate::fault::CaptureStop;
 use crate::form::CaptureForm;
 use crate::reader::CaptureReader;
+use capture_reading::{CaptureStop, read_capture};
 use io_edges::{ReadStop, Source, read_all, read_pieces};
 use std::alloc::Global;
 use topology_stack::BusTree;

@@ -1,10 +1,9 @@
-//! Laws of captures and of answers.
+//! Laws of answers.
 ghost use Rattle.bus_cli.specs.OneAnswer.{EachInputHasAnAnswer, NoInputHasTwoAnswers};
 ghost use Rattle.bus_cli.specs.OneAnswer.{ToldTextsArePrinted};
-ghost use Rattle.bus_cli.specs.OneReading.{EachCaptureHasATreeOrAFault, NoCaptureHasTwoTrees, NoCaptureHasATreeAndAFault, NoCaptureHasTwoFaults};
 
+use capture_reading::one_reading;
 use config_rom::{one_list, one_rom, roms_have_texts};
-use quad_lanes::{capture_is_read_back, good_pairs_are_a_capture};
 use script_advice::{advices_leave_no_loop, scripts_have_one_advice};
 use script_bus::{
     each_config_comes_out, each_plan_comes_out, each_script_has_a_run, each_script_has_an_advice,
@@ -15,22 +14,7 @@ use script_text::maps_have_texts;
 use script_told::{
     reports_are_settled, script_worlds_are_reached, scripts_are_runs, scripts_tell_one_thing,
 };
-use topology_stack::{one_answer as one_list_answer, one_tree};
 use world_laws::wirings_are_slots;
-
-/// A law: by either standard each capture spells a tree or has a fault, none spells two trees, none
-/// spells a tree and has a fault, and none has two faults.
-pub fn one_reading()
-    ensures some { EachCaptureHasATreeOrAFault }
-    ensures tree { NoCaptureHasTwoTrees }
-    ensures apart { NoCaptureHasATreeAndAFault }
-    ensures fault { NoCaptureHasTwoFaults }
-{
-    capture_is_read_back();
-    good_pairs_are_a_capture();
-    one_tree();
-    one_list_answer();
-}
 
 /// A law: the text that a script tells is what its run prints, report by report and line by line, and
 /// the lists of its bus are those of cables.

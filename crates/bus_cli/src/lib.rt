@@ -2,8 +2,6 @@
 #![tactic(auto)]
 
 mod answer;
-mod capture;
-mod fault;
 mod form;
 mod help;
 mod input;
@@ -16,12 +14,13 @@ mod script;
 mod status;
 mod top;
 
-pub use capture::read_capture;
-pub use fault::{CaptureFault, CaptureStop};
+pub use capture_reading::{
+    CaptureFault, CaptureStop, FaultLine, fault_line, one_reading, read_capture,
+};
 pub use form::{CaptureForm, Form, USAGE};
 pub use help::HELP;
 pub use input::MAX_INPUT;
-pub use laws::{one_answer, one_reading};
-pub use line::{FaultLine, fault_line, rom_line, script_line};
+pub use laws::one_answer;
+pub use line::{rom_line, script_line};
 pub use status::{NO_FORM, NO_MEMORY, READ_FAULT, REFUSED, TOO_LONG, VALID, WRITE_FAULT};
 pub use top::bus_main;

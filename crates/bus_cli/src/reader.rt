@@ -2,15 +2,15 @@
 ghost use Rattle.std.specs.Prelude.{◌≡◌, ◌↔◌, ◌+◌, ◌<◌, ◌≤◌, ◌^◌, ℕ, List, [], ◌∷◌, ◌++◌, length, take, IfOk, IfSome, IsSome};
 ghost use Rattle.self_id.specs.declared.standard.Standard.TheVariants.{Ieee2000};
 ghost use Rattle.topology_stack.specs.Tree.{Tree};
-ghost use Rattle.bus_cli.specs.Capture.{Spells, CaptureRefused};
-ghost use Rattle.bus_cli.specs.Stop.{IfFault, IfMemory};
+ghost use Rattle.capture_reading.specs.Capture.{Spells, CaptureRefused};
+ghost use Rattle.capture_reading.specs.Stop.{IfFault, IfMemory};
 ghost use Rattle.quad_lanes.specs.Pairs.{quads_of};
 ghost use Rattle.bus_cli.specs.codings.Late.{IsListOf};
 ghost use Rattle.bus_cli.specs.codings.Pieces.{Holds, HoldsExactly, bad_after};
 
-use crate::fault::{CaptureFault, CaptureStop};
 use crate::late::LateReader;
 use arrayvec::ArrayVec;
+use capture_reading::{CaptureFault, CaptureStop};
 use io_edges::Taker;
 use quad_lanes::good_pairs_are_a_capture;
 use std::alloc::Global;

@@ -19,9 +19,9 @@ use Rattle.script_told.specs.EachReport.{ReportsAreSettled}
 use Rattle.script_told.proofs.Lemmas.{IsEnd, each-done}
 use Rattle.script_bus.specs.Listed.{list_in, list_at, list_of}
 use Rattle.script_run.specs.Listed.{at_line, listed_at, IsListed}
-use Rattle.bus_cli.specs.Capture.{IsCaptureOf, Spells}
+use Rattle.capture_reading.specs.Capture.{IsCaptureOf, Spells}
 use Rattle.bus_cli.specs.Answer.{AnswersRead}
-use Rattle.bus_cli.specs.OneReading.{NoCaptureHasTwoTrees, NoCaptureHasATreeAndAFault}
+use Rattle.capture_reading.specs.OneReading.{NoCaptureHasTwoTrees, NoCaptureHasATreeAndAFault}
 use Rattle.bus_view.specs.Captured.{ListsFit, IsShownByTheReport, CapturesAreOfReports}
 use Rattle.bus_view.proofs.Printed.{has-last, last-prints}
 

@@ -8,8 +8,9 @@ use Rattle.self_id.specs.Node.{Node}
 use Rattle.topology_stack.specs.Tree.{Tree, walk}
 use Rattle.bus_manager.specs.Hops.{IsHops}
 use Rattle.bus_manager.proofs.Lemmas.{is_hops, small}
-use Rattle.bus_cli.specs.OneReading.{EachCaptureHasATreeOrAFault}
-use Rattle.bus_cli.specs.Line.{fault_line, script_line}
+use Rattle.capture_reading.specs.OneReading.{EachCaptureHasATreeOrAFault}
+use Rattle.capture_reading.specs.Line.{fault_line}
+use Rattle.bus_cli.specs.Line.{script_line}
 use Rattle.script_made.specs.Made.{made_script}
 use Rattle.script_told.specs.Script.{Told, script_lines}
 use Rattle.script_told.specs.Run.{ScriptRun, IsRun, printed, unless_stopped, told_by}

@@ -3,8 +3,8 @@ use Rattle.std.specs.Prelude.{ℕ, Option, Some, None, List, codes}
 use Rattle.std.proofs.Common.{refl}
 use Rattle.self_id.specs.declared.fault.GroupFault.TheVariants.{NotSelfId, WrongId, BadOrder, Cut, TwoParents}
 use Rattle.topology_stack.specs.declared.fault.TreeFault.TheVariants.{Group, Empty, TooFewChildren, TreesLeft, AfterRoot, NoRoot, TooMany}
-use Rattle.bus_cli.specs.declared.fault.CaptureFault.TheVariants.{BadLength, BadInverse, Tree}
-use Rattle.bus_cli.specs.Line.{fault_line}
+use Rattle.capture_reading.specs.declared.fault.CaptureFault.TheVariants.{BadLength, BadInverse, Tree}
+use Rattle.capture_reading.specs.Line.{fault_line}
 use Rattle.bus_view.specs.Json.{fault_value, FaultsTellTheirLines}
 
 pub tells : FaultsTellTheirLines

@@ -8,9 +8,10 @@ use Rattle.quad_lanes.specs.Pairs.{firsts, quads_of}
 use Rattle.phy_packet.specs.declared.packet.PhyPacket.{PhyPacket}
 use Rattle.self_id.specs.declared.standard.Standard.{Standard}
 use Rattle.topology_stack.specs.Tree.{Tree}
-use Rattle.bus_cli.specs.declared.fault.CaptureFault.{CaptureFault}
-use Rattle.bus_cli.specs.Capture.{Spells, CaptureRefused}
-use Rattle.bus_cli.specs.Line.{fault_line, script_line}
+use Rattle.capture_reading.specs.declared.fault.CaptureFault.{CaptureFault}
+use Rattle.capture_reading.specs.Capture.{Spells, CaptureRefused}
+use Rattle.capture_reading.specs.Line.{fault_line}
+use Rattle.bus_cli.specs.Line.{script_line}
 use Rattle.script_lines.specs.declared.kind.ScriptFault.{ScriptFault}
 use Rattle.script_words.specs.Before.{feed_lines}
 use Rattle.script_made.specs.Made.{made_script}

@@ -13,7 +13,7 @@ use Rattle.script_told.specs.PrintedTree.{IsPieceOf}
 use Rattle.script_told.specs.Script.{running}
 use Rattle.script_told.specs.Run.{Entry, ScriptRun, IsRun}
 use Rattle.script_run.specs.Listed.{IsListed}
-use Rattle.bus_cli.specs.Capture.{Spells}
+use Rattle.capture_reading.specs.Capture.{Spells}
 use Rattle.bus_cli.specs.Line.{script_line}
 use Rattle.bus_cli.specs.Answer.{ValidOrRefused, AnswersRead}
 

@@ -8,7 +8,7 @@ ghost use Rattle.bus_view.specs.Answer.{IsFault, IsCaptureView, IsTraceView, IsW
 ghost use Rattle.bus_view.specs.Explained.{explanation_in, explanation, line_said, AreSaid, IsBehind, IsExplained};
 ghost use Rattle.script_words.specs.Before.{feed_lines};
 ghost use Rattle.bus_view.specs.codings.Reading.{IsRead, IsHeld};
-ghost use Rattle.bus_cli.specs.Line.{fault_line};
+ghost use Rattle.capture_reading.specs.Line.{fault_line};
 
 use crate::form::{CaptureView, ViewForm};
 use crate::help::VIEW_HELP;
@@ -16,10 +16,9 @@ use crate::pairs::capture_of;
 use crate::refusal::fault_json;
 use crate::sentence::note_of;
 use about::{About, about_text};
-use bus_cli::{
-    CaptureFault, CaptureStop, MAX_INPUT, REFUSED, VALID, fault_line, read_capture, script_line,
-};
+use bus_cli::{MAX_INPUT, REFUSED, VALID, script_line};
 use bus_json::bus_line;
+use capture_reading::{CaptureFault, CaptureStop, fault_line, read_capture};
 use io_edges::{ReadStop, Source, read_all};
 use quad_lanes::quads_of;
 use script_made::make_script;

@@ -143,4 +143,5 @@ pub const VIEW_USAGE: &str = "usage: busview packets [--1995] [CAPTURE ..]\n    
     busview trace [SCRIPT]\n       busview waves [SCRIPT]\n       \
     busview explain [SCRIPT]\n       busview capture NAME [SCRIPT]\n       \
     busview script N SEED\n       busview flawed KIND N SEED [--1995]\n       \
-    busview resets [--1995] [LOG ..]\n       busview nosy [--1995] [DUMP ..]";
+    busview resets [--1995] [LOG ..]\n       busview nosy [--1995] [DUMP ..]\n       \
+    busview diff [--1995] OLD NEW";

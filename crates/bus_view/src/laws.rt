@@ -4,8 +4,8 @@ ghost use Rattle.bus_view.specs.Json.{FaultsTellTheirLines};
 ghost use Rattle.bus_view.specs.Summed.{MakeSumsUpTheScript};
 ghost use Rattle.bus_view.specs.OneAnswer.{EachInputHasAView, NoInputHasTwoViews};
 
-use bus_cli::one_reading;
 use cable_world::acts_keep;
+use capture_reading::one_reading;
 use nosy_dump::dumps_have_one_text;
 use reset_log::logs_have_one_text;
 use script_bus::each_script_has_a_run;

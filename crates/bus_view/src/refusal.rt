@@ -3,8 +3,8 @@ ghost use Rattle.std.specs.Prelude.{◌≡◌, IfOk};
 ghost use Rattle.bus_json.specs.Text.{json_line};
 ghost use Rattle.bus_view.specs.Json.{fault_value};
 
-use bus_cli::CaptureFault;
 use bus_json::{Counts, refusal_line};
+use capture_reading::CaptureFault;
 use self_id::GroupFault;
 use std::alloc::Global;
 use topology_stack::{OutOfMemory, TreeFault};

@@ -2,8 +2,8 @@
 ghost use Rattle.std.specs.Prelude.{◌≡◌, ◌++◌, IfOk, OnOk};
 ghost use Rattle.bus_view.specs.Sentence.{before_at, sentence, group_place, tree_place, place, note};
 
-use bus_cli::{CaptureFault, fault_line};
 use capture_hint::put_hint;
+use capture_reading::{CaptureFault, fault_line};
 use phy_packet::PhyPacket;
 use self_id::{GroupFault, Standard};
 use std::alloc::Global;

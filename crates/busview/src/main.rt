@@ -1,11 +1,15 @@
 //! The program: the top call over files or standard input, and standard output.
 #![tactic(auto)]
 
+mod diff;
 mod flawed;
 mod say;
 mod words;
 
+use bus_cli::NO_FORM;
 use bus_view::{CaptureView, VIEW_HELP, VIEW_USAGE, ViewForm, view_main};
+use diff::diff;
+use diff_form::diff_standard;
 use flawed::flawed;
 use flawed_form::FlawedForm;
 use io_edges::{ReadSource, WriteSink};
@@ -13,6 +17,7 @@ use program_edges::{
     Call, FileCount, FrontSink, FrontSource, PipeWriter, Program, WordsFault, run,
 };
 use say::{explain, say_hints};
+use self_id::Standard;
 use std::io::{Read, Write};
 use std::process::ExitCode;
 
@@ -23,6 +28,9 @@ enum Form {
     View(ViewForm),
     /// `flawed`: a relation answers it, not one text, so it stands beside the top call.
     Flawed(FlawedForm),
+    /// `diff`: what differs between two captures by a standard. It has two inputs, so it stands beside the top
+    /// call.
+    Diff(Standard),
 }
 
 struct Busview;
@@ -81,6 +89,9 @@ impl Program for Busview {
         if let Some(form) = FlawedForm::of_words(words) {
             return Some(Form::Flawed(form));
         }
+        if let Some(standard) = diff_standard(words) {
+            return Some(Form::Diff(standard));
+        }
         Some(Form::View(ViewForm::of_words(words)?))
     }
 
@@ -94,6 +105,7 @@ impl Program for Busview {
                 | ViewForm::Resets(_)
                 | ViewForm::Nosy(_),
             ) => FileCount::Many,
+            Form::Diff(_) => FileCount::Two,
             Form::View(_) => FileCount::One,
         }
     }
@@ -106,6 +118,25 @@ impl Program for Busview {
         match &call.form {
             Form::View(form) => view(rt, call.words, form, name, input),
             Form::Flawed(form) => flawed(rt, *form),
+            // A call with other than two files isn't answered.
+            Form::Diff(_) => NO_FORM,
+        }
+    }
+
+    fn answer_two<R: Read + Drop, Q: Read + Drop>(
+        rt: &HostRuntime,
+        call: &Call<'_, Form>,
+        names: (&str, &str),
+        old: R,
+        new: Q,
+    ) -> u8 {
+        match (&call.form, call.files) {
+            (Form::Diff(standard), [old_file, new_file]) => {
+                let files = (old_file.as_str(), new_file.as_str());
+                diff(rt, *standard, files, names, old, new)
+            }
+            // No other form takes two files.
+            _ => NO_FORM,
         }
     }
 }

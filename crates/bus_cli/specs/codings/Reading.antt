@@ -11,9 +11,9 @@ use Rattle.bus_cli.specs.declared.form.Form.{Form}
 use Rattle.bus_cli.specs.declared.form.Form.TheVariants.{Capture, Rom, Run, Advice, Make, OfItself}
 use Rattle.bus_cli.specs.declared.form.CaptureForm.{CaptureForm}
 use Rattle.bus_cli.specs.declared.form.CaptureForm.TheVariants.{Read, Read95, Maps}
-use Rattle.bus_cli.specs.declared.fault.CaptureStop.{CaptureStop}
-use Rattle.bus_cli.specs.declared.fault.CaptureStop.TheVariants.{Fault, Memory}
-use Rattle.bus_cli.specs.Capture.{Spells, CaptureRefused}
+use Rattle.capture_reading.specs.declared.fault.CaptureStop.{CaptureStop}
+use Rattle.capture_reading.specs.declared.fault.CaptureStop.TheVariants.{Fault, Memory}
+use Rattle.capture_reading.specs.Capture.{Spells, CaptureRefused}
 
 -- the input is read with this form
 abbrev pub IsRead : Form → Type 0

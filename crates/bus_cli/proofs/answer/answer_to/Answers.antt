@@ -1,6 +1,6 @@
 use Rattle.std.proofs.Common.{Result, subst}
 use Rattle.topology_stack.specs.Tree.{Tree}
-use Rattle.bus_cli.specs.declared.fault.CaptureStop.{CaptureStop}
+use Rattle.capture_reading.specs.declared.fault.CaptureStop.{CaptureStop}
 use Rattle.bus_cli.specs.Form.{standard_of}
 use Rattle.bus_cli.specs.codings.Reading.{Reads}
 use Rattle.bus_cli.proofs.Ends.{shown, stopped}

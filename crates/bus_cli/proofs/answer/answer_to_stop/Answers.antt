@@ -1,5 +1,5 @@
 use Rattle.std.proofs.Common.{Err, subst}
-use Rattle.bus_cli.specs.declared.fault.CaptureStop.{CaptureStop}
+use Rattle.capture_reading.specs.declared.fault.CaptureStop.{CaptureStop}
 use Rattle.bus_cli.specs.Form.{standard_of}
 use Rattle.bus_cli.specs.codings.Reading.{Reads}
 use Rattle.bus_cli.proofs.Ends.{capture_refused}

@@ -1,0 +1,4 @@
+pub mod Capture
+pub mod Line
+pub mod OneReading
+pub mod Stop
