@@ -13,7 +13,6 @@ PROVED(busconf_speed_rows);
 PROVED(busconf_speed_map);
 PROVED(busconf_rom_check);
 PROVED(busconf_rom_fault_text);
-PROVED(busconf_crc16);
 
 enum busconf_status busconf_read(const uint32_t *quads, size_t count, uint32_t standard, struct busconf_node *nodes,
                                  size_t room, struct busconf_bus *bus, struct busconf_fault *fault) {
@@ -76,8 +75,4 @@ enum busconf_status busconf_rom_check(const uint8_t *bytes, size_t count, struct
 enum busconf_status busconf_rom_fault_text(const struct busconf_rom_fault *fault, char *place, size_t room,
                                            size_t *needed) {
   return proved_busconf_rom_fault_text(fault, PLACE(place, room), room, needed);
-}
-
-uint16_t busconf_crc16(const uint32_t *quads, size_t count) {
-  return proved_busconf_crc16(FROM(quads, count), count);
 }

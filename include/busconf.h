@@ -233,12 +233,13 @@ enum busconf_status busconf_speed_map(const uint32_t *quads, size_t count, uint3
 
 /* ---- Reading a list as it comes
  *
- * A reader, by IEEE 1394a-2000, is a place of the caller's, of fixed size, which only these three calls write. It is
- * initialised once and again after each bus reset, given one quadlet after the other, and asked at any time.
+ * A reader is a place of the caller's, of fixed size, which only busconf_reader_init and busconf_reader_push write. It is
+ * initialised once and again after each bus reset, given one quadlet after the other, and asked at any time, by either
+ * standard. None of these calls takes memory, so an interrupt handler may make them.
  */
 
-/* It keeps one quadlet more than any bus tree emits, which is 63 groups of three. */
-#define BUSCONF_READER_QUADS 190u
+/* It keeps one quadlet more than any bus tree emits, which is 63 groups of four. */
+#define BUSCONF_READER_QUADS 253u
 
 struct busconf_reader {
   uint32_t count;
@@ -251,13 +252,21 @@ void busconf_reader_init(struct busconf_reader *reader);
 /* Gives a reader the next quadlet. */
 void busconf_reader_push(struct busconf_reader *reader, uint32_t quad);
 
-/* Tells what the list is that a reader was given.
- * BUSCONF_OK: a bus tree emits it, and busconf_read reads it from reader->quads.
+/* Tells what the list is that a reader was given, by IEEE 1394a-2000.
+ * BUSCONF_OK: a bus tree emits it, and busconf_reader_bus tells it.
  * BUSCONF_REFUSED: `fault` is its fault, and stays that however the list goes on.
  * BUSCONF_INCOMPLETE: `fault` is its fault if it ends here: BUSCONF_FAULT_EMPTY, BUSCONF_FAULT_NO_ROOT or
- * BUSCONF_FAULT_CUT.
- * It takes no memory. */
+ * BUSCONF_FAULT_CUT. */
 enum busconf_status busconf_reader_state(const struct busconf_reader *reader, struct busconf_fault *fault);
+
+/* Tells the bus of the list that a reader was given, by `standard`, BUSCONF_IEEE1995 or BUSCONF_IEEE2000.
+ * BUSCONF_OK: `bus` is the bus and nodes[0] to nodes[bus->nodes - 1] its nodes, by ID.
+ * BUSCONF_TOO_SHORT: `bus` is the bus, but it has more nodes than the `room` at `nodes`.
+ * A bus has BUSCONF_MAX_NODES nodes at most. BUSCONF_REFUSED and BUSCONF_INCOMPLETE as for busconf_reader_state.
+ * BUSCONF_NO_STANDARD. */
+enum busconf_status busconf_reader_bus(const struct busconf_reader *reader, uint32_t standard,
+                                       struct busconf_node *nodes, size_t room, struct busconf_bus *bus,
+                                       struct busconf_fault *fault);
 
 /* ---- PHY packets */
 

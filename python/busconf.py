@@ -154,7 +154,7 @@ class GrantKind(IntEnum):
 ID_NONE = 63
 MAX_NODES = 63
 MAX_SLOTS = 27
-READER_QUADS = 190
+READER_QUADS = 253
 
 
 # ---- records, as C has them
@@ -411,12 +411,16 @@ def _refused(fault: _Fault, sentence: Callable[..., int], words: tuple[Any, ...]
 # ---- lists and captures
 
 
+def _bus_of(bus: _Bus, nodes: Any) -> Bus:
+    return Bus(tuple(map(_node_of, nodes[: bus.nodes])), bus.root, _id_of(bus.manager))
+
+
 def _read(call: Callable[..., int], sentence: Callable[..., int], words: tuple[Any, ...]) -> Bus:
     nodes, bus, fault = (_Node * MAX_NODES)(), _Bus(), _Fault()
     status = _answer(call(*words, nodes, SIZE(MAX_NODES), ctypes.byref(bus), ctypes.byref(fault)))
     if status == Status.REFUSED:
         raise _refused(fault, sentence, words)
-    return Bus(tuple(map(_node_of, nodes[: bus.nodes])), bus.root, _id_of(bus.manager))
+    return _bus_of(bus, nodes)
 
 
 def _id_of(number: int) -> int | None:
@@ -495,7 +499,7 @@ def speed_rows(quads: Iterable[int], standard: int = Standard.IEEE2000) -> bytes
 
 
 class Reader:
-    """Reads a list, by IEEE 1394a-2000, that comes quadlet by quadlet."""
+    """Reads a list that comes quadlet by quadlet."""
 
     def __init__(self) -> None:
         self._reader = _Reader()
@@ -512,15 +516,23 @@ class Reader:
         _library.busconf_reader_push(ctypes.byref(self._reader), U32(quad))
 
     def state(self) -> tuple[Status, Fault | None]:
-        """OK where a bus sends the list so far; REFUSED with the fault that the list keeps however it goes on;
-        INCOMPLETE with the fault that it has if it ends here."""
+        """OK where a bus sends the list so far by IEEE 1394a-2000; REFUSED with the fault that the list keeps however it
+        goes on; INCOMPLETE with the fault that it has if it ends here."""
         fault = _Fault()
         status = _answer(_library.busconf_reader_state(ctypes.byref(self._reader), ctypes.byref(fault)))
         return status, None if status == Status.OK else _fault_of(fault)
 
+    def bus(self, standard: Standard = Standard.IEEE2000) -> tuple[Status, Bus | Fault]:
+        """By either standard: OK with the bus that sends the list so far, or REFUSED or INCOMPLETE with a fault, as
+        `state` says it."""
+        nodes, bus, fault = (_Node * MAX_NODES)(), _Bus(), _Fault()
+        status = _answer(_library.busconf_reader_bus(ctypes.byref(self._reader), U32(standard), nodes, SIZE(MAX_NODES),
+                                                     ctypes.byref(bus), ctypes.byref(fault)))
+        return status, _bus_of(bus, nodes) if status == Status.OK else _fault_of(fault)
+
     @property
     def quads(self) -> list[int]:
-        """The quadlets that it was given, the first 190 of them."""
+        """The quadlets that it was given, the first 253 of them."""
         return self._reader.quads[: self._reader.count]
 
 

@@ -1,7 +1,7 @@
 #!/usr/bin/env bash
 # `library.sh build FOLDER` makes libbusconf.a and libbusconf.so.0, each whole: the kit's allocation functions are in it,
 # and nothing is exported but the calls of include/busconf.h. The archive has an object for each crate, so that a program
-# that runs no scripts is linked without them. libbusconf.so is a second name of libbusconf.so.0. `library.sh install
+# that runs no scripts is linked without them, and one that makes only calls without memory without allocation functions. libbusconf.so is a second name of libbusconf.so.0. `library.sh install
 # PREFIX` makes both and copies them with the header and busconf.pc below a folder, and `library.sh put FOLDER TO PREFIX`
 # copies those that a folder has, for use below PREFIX. `library.sh pc PREFIX` writes busconf.pc. `library.sh test` makes
 # both in a folder of its own, and compiles and runs what stands on them. `library.sh speed N < CAPTURE` times N calls, and
@@ -9,7 +9,7 @@
 # input. What makes libraries needs the kit's command rt and a C compiler.
 set -euo pipefail
 top=$(cd "$(dirname "${BASH_SOURCE[0]}")/.." && pwd)
-crates=(busconf_c script_c)
+crates=(heapless_c busconf_c script_c)
 . "$top/tools/sources.sh"
 
 # Finds the kit that makes the libraries.
@@ -65,8 +65,8 @@ prove() {
   rm -f "$log"
 }
 
-# Makes a crate's one object, with the kit's allocation functions and what border/ has before its calls, that has no name
-# but its calls'. A proved call that has something before it gets a name of its own.
+# Makes a crate's one object, with what border/ has before its calls, and with the kit's allocation functions unless its
+# calls take no memory. It has no name but its calls'. A proved call that has something before it gets a name of its own.
 object() {
   local made
   (archive "$1")
@@ -74,7 +74,7 @@ object() {
   (
     cd "$made"
     ar x "$top/crates/$1/out/lib$1.a"
-    ar x "$kit/c/liblibc_c.a" heap.pic.o
+    [ "$1" = heapless_c ] || ar x "$kit/c/liblibc_c.a" heap.pic.o
     ld -r -o proved.o ./*.o
     ${CC:-cc} -std=c99 -Wall -Wextra -Werror -pedantic -O2 -fPIC -ffunction-sections -I "$top/include" -c \
       "$top/border/$1.c" -o border.o
@@ -84,6 +84,17 @@ object() {
     objcopy --wildcard --keep-global-symbol='busconf_*' whole.o "$2"
   )
   rm -rf "$made"
+}
+
+# Whether the object of the calls without memory asks for no function but those that a C compiler may call by itself.
+try_heapless() {
+  local made wanted
+  made=$(mktemp -d)
+  (cd "$made" && ar x "$1" heapless_c.o)
+  wanted=$(nm -u "$made/heapless_c.o" | awk '{ print $2 }' | grep -vxE 'memcpy|memmove|memset|memcmp|_GLOBAL_OFFSET_TABLE_' || true)
+  rm -rf "$made"
+  [ -z "$wanted" ] || { echo "library: the calls without memory ask for" $wanted >&2; return 1; }
+  echo "library: the calls without memory ask for no allocation function"
 }
 
 # Makes both libraries in a folder.
@@ -188,6 +199,7 @@ run_tests() {
   exported=$(nm -D --defined-only "$room/libbusconf.so" | awk '{ print $3 }' | grep -v '^busconf_' || true)
   exported+=$(nm -g --defined-only "$room/libbusconf.a" | awk 'NF == 3 { print $3 }' | grep -v '^busconf_' || true)
   [ -z "$exported" ] || { echo "library: exports $exported" >&2; exit 1; }
+  try_heapless "$room/libbusconf.a"
   echo "library: $(stat -c %s "$room/libbusconf.a") bytes of archive, $(stat -c %s "$room/libbusconf.so") of shared object"
 
   try_header

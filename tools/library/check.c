@@ -125,18 +125,54 @@ static void check_rows(const uint32_t *quads, size_t count, uint32_t standard, c
   free(rows);
 }
 
+/* The bus of a reader, told with room for so many nodes, is that of its list. */
+static void check_reader_bus(const struct busconf_reader *reader, uint32_t standard, const struct busconf_bus *bus,
+                             const struct busconf_node *nodes, size_t room) {
+  size_t bytes = room * sizeof *nodes;
+  struct busconf_node *place = (struct busconf_node *)block(bytes, 0xa5);
+  struct busconf_bus told;
+  struct busconf_fault fault;
+  uint32_t status = busconf_reader_bus(reader, standard, place, room, &told, &fault);
+  expect(told.nodes == bus->nodes && told.root == bus->root && told.manager == bus->manager, "the bus of a reader");
+  if (room < bus->nodes) expect(status == BUSCONF_TOO_SHORT && filled(place, 0, bytes, 0xa5), "no room for the nodes");
+  else {
+    size_t used = bus->nodes * sizeof *nodes;
+    expect(status == BUSCONF_OK && memcmp(place, nodes, used) == 0, "the nodes of a reader");
+    expect(filled(place, used, bytes, 0xa5), "what stands behind the nodes of a reader stays");
+  }
+  free(place);
+}
+
+static void check_no_standard(const struct busconf_reader *reader, uint32_t standard) {
+  struct busconf_bus bus = {7, 7, 7};
+  struct busconf_fault fault = {7, 7, 7, 7};
+  uint32_t status = busconf_reader_bus(reader, standard, NULL, 0, &bus, &fault);
+  expect(status == BUSCONF_NO_STANDARD && bus.nodes == 7 && fault.at == 7, "no standard of a reader");
+}
+
 /* A reader that is given the list one by one agrees with busconf_read of what it was given. */
-static void check_reader(const uint32_t *quads, size_t count) {
+static void check_reader(const uint32_t *quads, size_t count, uint32_t standard) {
+  static struct busconf_node nodes[BUSCONF_MAX_NODES];
   struct busconf_reader *reader = (struct busconf_reader *)block(sizeof *reader, 0xa5);
   size_t n;
   int over = 0;
   busconf_reader_init(reader);
   for (n = 0; n <= count; n++) {
-    struct busconf_bus bus;
-    struct busconf_fault told, read;
-    uint32_t state = busconf_reader_state(reader, &told);
-    uint32_t status = read_into(quads, n, BUSCONF_IEEE2000, BUSCONF_MAX_NODES, &bus, &read);
-    expect((state == BUSCONF_OK) == (status == BUSCONF_OK), "the reader says when a list is whole");
+    struct busconf_bus bus, none = {7, 7, 7};
+    struct busconf_fault told, read, of_state;
+    uint32_t state = busconf_reader_bus(reader, standard, NULL, 0, &none, &told);
+    uint32_t status = busconf_read(quads, n, standard, nodes, BUSCONF_MAX_NODES, &bus, &read);
+    if (standard == BUSCONF_IEEE2000) {
+      uint32_t alone = busconf_reader_state(reader, &of_state);
+      expect(alone == (state == BUSCONF_TOO_SHORT ? BUSCONF_OK : state), "the state of a reader");
+      expect(alone == BUSCONF_OK || same_fault(&of_state, &told), "the state's fault");
+    }
+    expect((state == BUSCONF_TOO_SHORT) == (status == BUSCONF_OK), "the reader says when a list is whole");
+    if (status == BUSCONF_OK) {
+      check_reader_bus(reader, standard, &bus, nodes, bus.nodes - 1u);
+      check_reader_bus(reader, standard, &bus, nodes, bus.nodes);
+      check_reader_bus(reader, standard, &bus, nodes, BUSCONF_MAX_NODES);
+    } else expect(none.nodes == 7 && none.root == 7 && none.manager == 7, "no bus is told of a list that has none");
     if (status == BUSCONF_REFUSED) {
       int ends = read.kind == BUSCONF_FAULT_EMPTY || read.kind == BUSCONF_FAULT_NO_ROOT || read.kind == BUSCONF_FAULT_CUT;
       expect(same_fault(&told, &read), "the reader tells the list's fault");
@@ -146,6 +182,7 @@ static void check_reader(const uint32_t *quads, size_t count) {
     over = state == BUSCONF_REFUSED;
     if (n < count) busconf_reader_push(reader, quads[n]);
   }
+  check_no_standard(reader, standard + 1);
   free(reader);
 }
 
@@ -244,7 +281,7 @@ static void check_capture(const char *path, uint32_t standard) {
   }
   expect(read_into(quads, count, 1996, 0, &bus, &fault) == BUSCONF_NO_STANDARD, "no standard");
   check_bytes(quads, count, standard);
-  if (standard == BUSCONF_IEEE2000) check_reader(quads, count);
+  check_reader(quads, count, standard);
   free(quads);
 }
 

@@ -62,7 +62,7 @@ AT(plan, hops, 5);
 AT(plan, gap, 6);
 AT(plan, reach, 7);
 
-SIZE(reader, 764);
+SIZE(reader, 1016);
 AT(reader, count, 0);
 AT(reader, quads, 4);
 

@@ -179,6 +179,10 @@ for quad in quads:
     expect(reader.state()[0] == busconf.Status.INCOMPLETE, "a list that goes on")
     reader.push(quad)
 expect(reader.state() == (busconf.Status.OK, None) and reader.quads == quads, "a list that is whole")
+for standard in busconf.Standard:
+    expect(reader.bus(standard) == (busconf.Status.OK, busconf.read(quads, standard)), "the bus of a whole list")
+reader.push(quads[0])
+expect(reader.bus()[1] == reader.state()[1] and reader.bus()[0] == busconf.Status.REFUSED, "a fault that lasts")
 expect(busconf.hops(quads) == len(bus.nodes) - 1, "hops")
 best = busconf.plan(quads)
 expect(best is None or best.gap == busconf.gap_for(best.hops), "a plan")

@@ -19,6 +19,7 @@ static const uint32_t one[] = {0x807f8050u};
 static const uint8_t one_bytes[] = {0x80, 0x7f, 0x80, 0x50, 0x7f, 0x80, 0x7f, 0xaf};
 
 static void read_nothing(void) {
+  struct busconf_reader reader;
   struct busconf_bus bus;
   struct busconf_fault fault;
   memset(&fault, 7, sizeof fault);
@@ -29,6 +30,10 @@ static void read_nothing(void) {
              && fault.kind == BUSCONF_FAULT_EMPTY, "an empty capture");
   expect(busconf_read(one, 1, BUSCONF_IEEE2000, NULL, 0, &bus, &fault) == BUSCONF_TOO_SHORT && bus.nodes == 1,
          "a list, and no room");
+  busconf_reader_init(&reader);
+  busconf_reader_push(&reader, one[0]);
+  expect(busconf_reader_bus(&reader, BUSCONF_IEEE1995, NULL, 0, &bus, &fault) == BUSCONF_TOO_SHORT && bus.nodes == 1,
+         "a reader, and no room");
   expect(busconf_read_capture(one_bytes, 8, BUSCONF_IEEE2000, NULL, 0, &bus, &fault) == BUSCONF_TOO_SHORT
              && bus.nodes == 1, "a capture, and no room");
 }

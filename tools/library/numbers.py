@@ -26,6 +26,7 @@ for body in enums.values():
     has |= body
 wants = {}
 crate, border, scripts = "crates/busconf_c", "crates/c_border", "crates/script_c"
+records, heapless = "crates/c_records", "crates/heapless_c"
 
 
 def want(prefix, path, pattern):
@@ -33,23 +34,23 @@ def want(prefix, path, pattern):
         wants[prefix + snake(name)] = int(number)
 
 
-want("FAULT_", f"{crate}/specs/Faults.antt", r"_record \(?(\w+).*?\)? =\s+fault_with (\d+)")
-want("PACKET_", f"{crate}/specs/Packets.antt", r"packet_record \((\w+)[^)]*\) =\s+record \(blank (\d+)\)")
+want("FAULT_", f"{records}/specs/Faults.antt", r"_record \(?(\w+).*?\)? =\s+fault_with (\d+)")
+want("PACKET_", f"{heapless}/specs/Packets.antt", r"packet_record \((\w+)[^)]*\) =\s+record \(blank (\d+)\)")
 want("ROM_", f"{crate}/specs/Roms.antt", r"rom_record \((?:Rom)?(\w+).*?\) =\s+rom_fault_with (\d+)")
 want("BLOCK_", f"{crate}/specs/Roms.antt", r"kind_number (\w+) = (\d+)")
 want("CRC_", f"{crate}/specs/Roms.antt", r"block_of b \(?(\w+).*? = block_with b (\d+)")
-want("GRANT_", f"{crate}/specs/Registers.antt", r"grant_record \(?(\w+).* kind = (\d+) }")
+want("GRANT_", f"{heapless}/specs/Registers.antt", r"grant_record \(?(\w+).* kind = (\d+) }")
 want("SCRIPT_", f"{scripts}/specs/Faults.antt", r"^kind_number (\w+) = (\d+)$")
 want("SLOT_", "crates/self_id/specs/Node.antt", r"^status_bits (\w+) = (\d)$")
-for name, number in re.findall(r"^(bad_\w+) pair = fault_with (\d+)", text(f"{crate}/specs/Faults.antt"), re.M):
+for name, number in re.findall(r"^(bad_\w+) pair = fault_with (\d+)", text(f"{records}/specs/Faults.antt"), re.M):
     wants["FAULT_" + name.upper()] = int(number)
-for name, number in re.findall(r"pub const (\w+): \w+ = (\d+);", text(f"{border}/src/status.rt") + text(f"{crate}/src/records.rt")):
+for name, number in re.findall(r"pub const (\w+): \w+ = (\d+);", text(f"{border}/src/status.rt") + text(f"{records}/src/records.rt") + text(f"{heapless}/src/records.rt")):
     wants[name] = int(number)
-for year in re.findall(r"year == (\d+) then Some", text(f"{crate}/specs/Answers.antt")):
+for year in re.findall(r"year == (\d+) then Some", text(f"{records}/specs/Standards.antt")):
     wants[f"IEEE{year}"] = int(year)
-wants["ID_NONE"] = int(re.search(r"^id_or_none None = (\d+)$", text(f"{crate}/specs/Shown.antt"), re.M)[1])
+wants["ID_NONE"] = int(re.search(r"^id_or_none None = (\d+)$", text(f"{records}/specs/Shown.antt"), re.M)[1])
 wants["MAX_NODES"] = int(re.search(r"length \(walk t\) ≤ (\d+)", text("crates/topology_stack/specs/Tree.antt"))[1])
-wants["VERSION"] = int(re.search(r"ensures \{ result ≡ (\d+) \}", text(f"{crate}/src/version.rt"))[1])
+wants["VERSION"] = int(re.search(r"ensures \{ result ≡ (\d+) \}", text(f"{heapless}/src/version.rt"))[1])
 bad = [f"{it}: header {has.get(it)}, contracts {wants.get(it)}" for it in sorted({*has, *wants}) if has.get(it) != wants.get(it)]
 
 # The version is that of the programs. Each family of numbers but the answers has a prefix. Old names lead to names.
@@ -62,7 +63,7 @@ for name, body in enums.items():
 bad += [f"{old} is {now}" for old, now in renamed if old in has or now not in has]
 
 # What the heads of definitions say of the statuses, as `0 valid`, and that each digit behind a status is said there.
-for file in [border, crate, scripts]:
+for file in [border, records, heapless, crate, scripts]:
     for path in sorted(os.listdir(f"{top}/{file}/specs")):
         said = text(f"{file}/specs/{path}")
         head = {int(number): name for line in re.findall(r"^-- Status\w*: (.*)\.$", said, re.M) for number, name in re.findall(r"(\d) ([a-z ]+)", line)}
@@ -76,19 +77,24 @@ in_header = {
     name: [(kind, field, size) for kind, field, size in re.findall(r"^  ([\w ]+) (\w+)(?:\[(\w+)\])?;", body, re.M)]
     for name, body in re.findall(r"^struct busconf_(\w+) \{\n(.*?)^\};", header, re.M | re.S)
 }
-records = {}
-for name, body in re.findall(r"pub struct (\w+)Record \{\n(.*?)^\}", text(f"{crate}/src/records.rt") + text(f"{scripts}/src/record.rt"), re.M | re.S):
+shown = {}
+for name, body in re.findall(r"pub struct (\w+)Record \{\n(.*?)^\}", "".join(text(f"{it}/src/records.rt") for it in (records, heapless, crate)) + text(f"{scripts}/src/record.rt"), re.M | re.S):
     fields = re.findall(r"pub (\w+): \[?(\w+)(?:; (\w+)\])?,", body)
-    records[snake(name).lower()] = [(widths[kind], field, arrays[size] if size else "") for field, kind, size in fields]
-bad += [f"struct {it}: {in_header.get(it)}, crate {records.get(it)}" for it in sorted({*in_header, *records}) if in_header.get(it) != records.get(it)]
+    shown[snake(name).lower()] = [(widths[kind], field, arrays[size] if size else "") for field, kind, size in fields]
+bad += [f"struct {it}: {in_header.get(it)}, crate {shown.get(it)}" for it in sorted({*in_header, *shown}) if in_header.get(it) != shown.get(it)]
 
-# A call that is handed an allocator says in the header that it takes memory, and no other does. The state of a reader is
-# asked with one, and takes none.
+# A call that is handed an allocator says in the header that it takes memory, and no other does. The crate of those that
+# take none names no allocator.
 exports = {}
-for it in [crate, scripts]:
+for it in [heapless, crate, scripts]:
     for file in re.findall(r"^mod (\w+);", text(f"{it}/src/lib.rt"), re.M):
         for name, words in re.findall(r'pub extern "C" fn (\w+)\((.*?)\)\s*(?:->|\n|ensures)', text(f"{it}/src/{file}.rt"), re.S):
-            exports[name] = "alloc: Global" in words and name != "busconf_reader_state"
+            exports[name] = "alloc: Global" in words
+for it in [records, heapless]:
+    for folder, _, files in os.walk(f"{top}/{it}/src"):
+        for file in files:
+            if re.search(r"\bGlobal\b|\balloc\b|\bAlloc\w*|\bVec\b|\bBox\b", text(os.path.relpath(os.path.join(folder, file), top))):
+                bad.append(f"{it}: {file} names an allocator or what takes memory")
 declared = {}
 for said, name in re.findall(r"/\*((?:(?!\*/).)*)\*/\n(?:enum )?\w+ (busconf_\w+)\(", header, re.S):
     declared[name] = "Takes memory." in said
@@ -96,8 +102,8 @@ bad += [f"{it}: only in one of the header and the crates" for it in sorted(set(e
 bad += [f"{it}: whether it takes memory" for it in sorted(set(exports) & set(declared)) if exports[it] != declared[it]]
 
 # What takes a length has something before it, which makes a pointer to something of a null one.
-before = re.findall(r"^PROVED\((\w+)\);", text("border/busconf_c.c") + text("border/script_c.c"), re.M)
+before = re.findall(r"^PROVED\((\w+)\);", "".join(text(f"border/{it}_c.c") for it in ("heapless", "busconf", "script")), re.M)
 lengths = re.findall(r"^(?:enum )?\w+ (busconf_\w+)\([^;]*\bsize_t (?:count|room)\b[^;]*\);", header, re.M)
 bad += [f"{it}: a length without border/, or the other way round" for it in sorted(set(before) ^ set(lengths))]
-print("\n".join(bad) or f"numbers: {len(wants)} numbers, {len(records)} records and {len(exports)} calls of the header are the crates'")
+print("\n".join(bad) or f"numbers: {len(wants)} numbers, {len(shown)} records and {len(exports)} calls of the header are the crates'")
 sys.exit(1 if bad else 0)

@@ -131,7 +131,7 @@ def clauses():
         if ":" in line and not line.startswith("#"):
             name, libraries = line.split(":")
             below[name.split()[0]] = libraries.split()
-    found, left = set(), [*PROGRAMS, "busconf_c", "script_c"]
+    found, left = set(), [*PROGRAMS, "heapless_c", "busconf_c", "script_c"]
     while left:
         crate = left.pop()
         if crate in below and crate not in found:

@@ -1,5 +1,1 @@
-mod Lasting
-mod Places
-mod Slots
-mod Taking
 mod Telling

@@ -1,22 +1,14 @@
 -- What a call answers that reads the list of a bus.
--- Statuses: 0 ok, 1 refused, 2 no memory, 3 too short, 4 no standard.
-use Rattle.std.specs.Prelude.{◌≡◌, ℕ, ◌<◌, ◌==◌, if◌then◌else◌, Option, Some, None, List, length, ◌≢◌, ◌/◌, ◌%◌}
+-- Statuses: 1 refused, 2 no memory, 4 no standard.
+use Rattle.std.specs.Prelude.{◌≡◌, ℕ, Some, None, List, length, ◌≢◌, ◌/◌, ◌%◌}
 use Rattle.quad_lanes.specs.Pairs.{quads_of, firsts, first_bad_pair}
 use Rattle.self_id.specs.declared.standard.Standard.{Standard}
-use Rattle.self_id.specs.declared.standard.Standard.TheVariants.{Ieee1995, Ieee2000}
 use Rattle.topology_stack.specs.declared.fault.TreeFault.{TreeFault}
-use Rattle.topology_stack.specs.Tree.{Tree, walk, IsBusTreeOf, emits}
+use Rattle.topology_stack.specs.Tree.{Tree, IsBusTreeOf, emits}
 use Rattle.topology_stack.specs.Refused.{Refused}
-use Rattle.busconf_c.specs.declared.records.FaultRecord.{FaultRecord}
-use Rattle.busconf_c.specs.declared.records.BusRecord.{BusRecord}
-use Rattle.busconf_c.specs.declared.records.NodeRecord.{NodeRecord}
-use Rattle.busconf_c.specs.Faults.{tree_record, bad_length, bad_inverse}
-use Rattle.busconf_c.specs.Shown.{AreShown, IsBusRecord}
-
--- a standard goes by the year of its number
-abbrev pub standard_of : ℕ → Option Standard
-standard_of year =
-    if year == 1995 then Some Ieee1995 else (if year == 2000 then Some Ieee2000 else None)
+use Rattle.c_records.specs.declared.records.FaultRecord.{FaultRecord}
+use Rattle.c_records.specs.Standards.{standard_of}
+use Rattle.c_records.specs.Faults.{tree_record, bad_length, bad_inverse}
 
 -- the bus tree of the year's standard emits the list
 pub record IsTreeOf (year : ℕ) (quads : List ℕ) (t : Tree) : Type 0 where
@@ -40,14 +32,6 @@ pub data Answers (year : ℕ) (quads : List ℕ) (before after : FaultRecord) (s
   told : (t : Tree) → IsTreeOf year quads t → after ≡ before → Tells t →
       Answers year quads before after status Tells
   stopped : IsStop year quads before after status → Answers year quads before after status Tells
-
--- the nodes of a tree and its bus are shown, or the bus alone where there is no room for the nodes
-pub data TellsNodes (t : Tree) (before after : List NodeRecord) (bus : BusRecord) (status : ℕ)
-    : Type 0 where
-  shown : IsBusRecord t bus → AreShown t before after → status ≡ 0 →
-      TellsNodes t before after bus status
-  too_short : IsBusRecord t bus → length before < length (walk t) → after ≡ before →
-      status ≡ 3 → TellsNodes t before after bus status
 
 -- ---- captures: pairs of quadlets as bytes, each packet's quadlet before its bitwise inverse
 

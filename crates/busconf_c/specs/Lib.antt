@@ -1,11 +1,5 @@
-pub use Rattle.topology_map.specs.Crc
-pub mod Shown
-pub mod Faults
 pub mod Answers
-pub mod Packets
 pub mod Maps
 pub mod Plans
-pub mod Reader
-pub mod Registers
 pub mod Roms
 pub mod Sentences

@@ -10,9 +10,9 @@ use Rattle.topology_stack.specs.declared.fault.TreeFault.{TreeFault}
 use Rattle.topology_stack.specs.declared.fault.TreeFault.TheVariants.{Group, Empty, TooFewChildren, TreesLeft, AfterRoot, NoRoot, TooMany}
 use Rattle.view_text.specs.Sentence.{first_at, second_at, length_sentence, inverse_sentence, tree_sentence}
 use Rattle.c_border.specs.Places.{Tells}
-use Rattle.busconf_c.specs.declared.records.FaultRecord.{FaultRecord}
-use Rattle.busconf_c.specs.Answers.{standard_of}
-use Rattle.busconf_c.specs.Faults.{tree_record}
+use Rattle.c_records.specs.declared.records.FaultRecord.{FaultRecord}
+use Rattle.c_records.specs.Standards.{standard_of}
+use Rattle.c_records.specs.Faults.{tree_record}
 
 -- the fault of a list that a record tells whose kind is 1 to 11
 abbrev pub tree_fault_in : FaultRecord → TreeFault

@@ -1,27 +1,15 @@
 //! Reading a list for C.
-ghost use Rattle.std.specs.Prelude.{◌≡◌, ℕ, Ok, Err, IfOk, IfErr};
+ghost use Rattle.std.specs.Prelude.{◌≡◌, IfOk, IfErr};
 ghost use Rattle.topology_stack.specs.Tree.{Tree, IsBusTreeOf, emits};
 ghost use Rattle.topology_stack.specs.Refused.{Refused};
 ghost use Rattle.topology_stack.specs.Answer.{IfFault};
-ghost use Rattle.busconf_c.specs.Answers.{standard_of, IsTreeOf, IsStop};
+ghost use Rattle.busconf_c.specs.Answers.{IsTreeOf, IsStop};
 
-use crate::fault::tree_record;
-use crate::records::FaultRecord;
 use c_border::{NO_MEMORY, NO_STANDARD, REFUSED};
+use c_records::{FaultRecord, standard_of, tree_record};
 use self_id::Standard;
 use std::alloc::Global;
 use topology_stack::{BusTree, TreeStop, read_tree, read_tree95};
-
-/// The standard of a year.
-pub(crate) fn standard_of(year: u32) -> Option<Standard>
-    ensures { result ≡ standard_of year }
-{
-    match year {
-        1995 => Some(Standard::Ieee1995),
-        2000 => Some(Standard::Ieee2000),
-        _ => None,
-    }
-}
 
 /// The bus tree of a standard that emits a list, or the list's fault.
 fn read_by(alloc: Global, standard: Standard, quads: &[u32]) -> Result<BusTree, TreeStop>

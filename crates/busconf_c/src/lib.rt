@@ -1,19 +1,14 @@
-//! The static library `libbusconf`: the calls of `include/busconf.h`, for programs that aren't
-//! Rattle. Each export calls the crate that it is named for and states its clauses again, over the
-//! records of `records`.
+//! The static library of the calls of `include/busconf.h` that take memory for a bus or a ROM, for
+//! programs that aren't Rattle. Each export calls the crate that it is named for and states its clauses
+//! again, over records of numbers.
 #![tactic(auto)]
 
 mod answer;
-mod crc;
 mod fault;
-mod packet;
 mod read;
-mod reader;
 mod records;
-mod registers;
 mod rom;
 mod rom_text;
 mod sentence;
 mod shown;
 mod tree;
-mod version;

@@ -1,12 +1,12 @@
 //! Reading the list of a bus.
 ghost use Rattle.std.specs.Prelude.{◌≡◌, ◌≢◌, IfOk, IfErr};
-ghost use Rattle.busconf_c.specs.Answers.{Answers, TellsNodes, IsListOf, IsBadCapture, AnswersCapture};
+ghost use Rattle.busconf_c.specs.Answers.{Answers, IsListOf, IsBadCapture, AnswersCapture};
+ghost use Rattle.c_records.specs.Shown.{TellsNodes};
 
 use crate::answer::tree_of;
-use crate::fault::fault_with;
-use crate::records::{BusRecord, FaultRecord, NodeRecord};
 use crate::shown::{bus_record, show_nodes};
 use c_border::{NO_MEMORY, OK, REFUSED, TOO_SHORT};
+use c_records::{BusRecord, FaultRecord, NodeRecord, fault_with};
 use quad_lanes::{PairFault, QuadList, first_bad_pair, firsts, pairs_of};
 use std::alloc::Global;
 use topology_stack::BusTree;

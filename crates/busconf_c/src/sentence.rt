@@ -4,9 +4,8 @@ ghost use Rattle.view_text.specs.Sentence.{first_at, second_at, length_sentence,
 ghost use Rattle.c_border.specs.Places.{IsUntold};
 ghost use Rattle.busconf_c.specs.Sentences.{tree_fault_in, FaultsAreReadBack, quad_before, first_before, IsShown, IsSentence, IsListSentence, IsFirstsSentence, IsCaptureSentence, TellsSentence};
 
-use crate::answer::standard_of;
-use crate::records::FaultRecord;
 use c_border::{NO_MEMORY, NO_STANDARD, REFUSED, tell_bytes};
+use c_records::{FaultRecord, standard_of};
 use phy_packet::{PhyPacket, decode};
 use quad_lanes::quads_of;
 use self_id::{GroupFault, Standard};

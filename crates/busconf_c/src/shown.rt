@@ -1,46 +1,12 @@
 //! A bus tree as records.
 ghost use Rattle.std.specs.Prelude.{◌≡◌, ℕ, ◌<◌, ◌≤◌, length, slice_index_or};
 ghost use Rattle.topology_stack.specs.Tree.{walk};
-ghost use Rattle.busconf_c.specs.Shown.{id_or_none, slot_record, no_slot, IsSlotOf, IsNodeRecord, IsBusRecord, AreShown};
+ghost use Rattle.c_records.specs.Shown.{no_slot, IsSlotOf, IsNodeRecord, IsBusRecord, AreShown};
 
-use crate::records::{BusRecord, MAX_SLOTS, NodeRecord, SlotRecord};
-use self_id::PortStatus;
-use topology_stack::{BusTree, elect};
-
-/// The number that names no node: 63 means all of them.
-const NO_NODE: u8 = 63;
-
-/// A slot that a node doesn't have.
-const NO_SLOT: SlotRecord = SlotRecord {
-    status: 0,
-    peer: NO_NODE,
+use c_records::{
+    BusRecord, MAX_SLOTS, NO_SLOT, NodeRecord, SlotRecord, id_or_none, said, slot_record,
 };
-
-/// An ID, or the number that names no node.
-fn id_or_none(id: Option<u8>) -> u8
-    ensures { result ≡ id_or_none id }
-{
-    match id {
-        Some(id) => id,
-        None => NO_NODE,
-    }
-}
-
-/// The record of a slot with what stands at its other end.
-fn slot_record(status: PortStatus, peer: Option<u8>) -> SlotRecord
-    ensures { result ≡ slot_record status peer }
-{
-    let status = match status {
-        PortStatus::Absent => 0,
-        PortStatus::Unplugged => 1,
-        PortStatus::Up => 2,
-        PortStatus::Down => 3,
-    };
-    SlotRecord {
-        status,
-        peer: id_or_none(peer),
-    }
-}
+use topology_stack::{BusTree, elect};
 
 /// The records of the slots of the node with this ID.
 fn slot_records(tree: &BusTree, id: u8) -> [SlotRecord; MAX_SLOTS]
@@ -60,19 +26,7 @@ fn node_record(tree: &BusTree, id: u8) -> NodeRecord
     requires { id < length (walk tree.now) }
     ensures { IsNodeRecord tree.now id result }
 {
-    let node = tree.node(id);
-    let attrs = node.attrs;
-    NodeRecord {
-        id,
-        link: u8::from(attrs.link),
-        gap: attrs.gap,
-        speed: attrs.speed,
-        contender: u8::from(attrs.contender),
-        power: attrs.power,
-        initiated: u8::from(attrs.initiated),
-        slot_count: node.ports.as_slice().len() as u8,
-        slots: slot_records(tree, id),
-    }
+    said(id, tree.node(id), slot_records(tree, id))
 }
 
 /// Writes the records of all nodes by ID, and leaves what stands behind them.

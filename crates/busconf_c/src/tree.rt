@@ -1,9 +1,8 @@
 //! What is told of a bus tree.
-ghost use Rattle.std.specs.Prelude.{◌≡◌, ◌≢◌, ◌<◌, length, IfOk};
+ghost use Rattle.std.specs.Prelude.{◌≡◌, ◌≢◌, length, IfOk};
 ghost use Rattle.topology_stack.specs.Tree.{walk, emits};
 ghost use Rattle.topology_map.specs.Map.{IsMap};
 ghost use Rattle.speed_map.specs.Rows.{AreRows};
-ghost use Rattle.bus_manager.specs.Gap.{gap_of};
 ghost use Rattle.bus_manager.specs.Hops.{IsHops};
 ghost use Rattle.busconf_c.specs.Answers.{Answers};
 ghost use Rattle.c_border.specs.Places.{Tells, TellsOk};
@@ -11,8 +10,9 @@ ghost use Rattle.busconf_c.specs.Maps.{IsSpeedMap};
 ghost use Rattle.busconf_c.specs.Plans.{TellsPlan};
 
 use crate::answer::tree_of;
-use crate::records::{FaultRecord, PlanRecord};
+use crate::records::PlanRecord;
 use c_border::{NO_CANDIDATE, NO_MEMORY, OK, tell_bytes, tell_quads};
+use c_records::FaultRecord;
 use quad_lanes::{OutOfMemory, QuadList};
 use std::alloc::Global;
 use topology_stack::BusTree;
@@ -37,15 +37,6 @@ pub extern "C" fn busconf_hops(
         }
         Err(status) => status,
     }
-}
-
-/// The gap count for so many hops.
-#[unsafe(no_mangle)]
-pub extern "C" fn busconf_gap_for(hops: u8) -> u8
-    ensures value { result ≡ gap_of hops }
-    ensures fits { result < 64 }
-{
-    bus_manager::gap_for(hops)
 }
 
 /// The record of the root that suits a bus best.

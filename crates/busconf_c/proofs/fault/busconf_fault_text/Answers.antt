@@ -1,5 +1,5 @@
 use Rattle.std.proofs.Common.{◌≡◌, ℕ, List, subst}
-use Rattle.busconf_c.specs.Faults.{line_of}
+use Rattle.c_records.specs.Faults.{line_of}
 use Rattle.c_border.specs.Places.{Tells}
 use Rattle.busconf_c.proofs.fault.busconf_fault_text.Goals as goal
 

@@ -1,6 +1,7 @@
 use Rattle.std.proofs.Common.{ℕ, List, subst}
-use Rattle.busconf_c.specs.declared.records.FaultRecord.{FaultRecord}
-use Rattle.busconf_c.specs.Answers.{Answers, TellsNodes, of_list, bad}
+use Rattle.c_records.specs.declared.records.FaultRecord.{FaultRecord}
+use Rattle.busconf_c.specs.Answers.{Answers, of_list, bad}
+use Rattle.c_records.specs.Shown.{TellsNodes}
 use Rattle.busconf_c.proofs.read.busconf_read_capture.Goals as goal
 
 pub returns-in-Ok-clause-answer : goal.returns-in-Ok-clause-answer

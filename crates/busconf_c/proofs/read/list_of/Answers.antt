@@ -3,7 +3,7 @@ use Rattle.std.specs.Prelude.{Some}
 use Rattle.quad_lanes.specs.Pairs.{quads_of, first_bad_pair}
 use Rattle.quad_lanes.specs.declared.pairs.PairFault.{PairFault}
 use Rattle.quad_lanes.specs.declared.pairs.PairFault.TheVariants.{Length}
-use Rattle.busconf_c.specs.Faults.{fault_with}
+use Rattle.c_records.specs.Faults.{fault_with}
 use Rattle.busconf_c.specs.Answers.{length_is_bad, pair_is_bad}
 use Rattle.busconf_c.proofs.read.list_of.Goals as goal
 

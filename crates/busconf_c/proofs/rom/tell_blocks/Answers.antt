@@ -4,7 +4,7 @@ use Rattle.config_rom.specs.declared.block.BlockKind.TheVariants.{Directory}
 use Rattle.config_rom.specs.declared.crc.CrcState.TheVariants.{Good}
 use Rattle.busconf_c.specs.declared.records.BlockRecord.{BlockRecord}
 use Rattle.busconf_c.specs.Roms.{block_record}
-use Rattle.busconf_c.proofs.Places.{put_next}
+use Rattle.c_records.proofs.Lemmas.{put_next}
 use Rattle.busconf_c.proofs.rom.tell_blocks.Goals as goal
 
 next : (l : List Block) (place old : List BlockRecord) (i : ℕ) (d : Block) (r : BlockRecord) →

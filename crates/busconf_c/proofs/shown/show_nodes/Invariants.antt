@@ -1,6 +1,6 @@
 use Rattle.std.proofs.Common.{◌≡◌, ℕ, ◌<◌, ◌≤◌, get_or}
-use Rattle.busconf_c.specs.Shown.{IsNodeRecord}
-use Rattle.busconf_c.specs.declared.records.NodeRecord.{NodeRecord}
+use Rattle.c_records.specs.Shown.{IsNodeRecord}
+use Rattle.c_records.specs.declared.records.NodeRecord.{NodeRecord}
 use Rattle.busconf_c.proofs.shown.show_nodes.Given as goal
 
 abbrev pub invariant-loop-id : goal.invariant-loop-id

@@ -3,9 +3,9 @@ use Rattle.std.proofs.lemmas.Bool.{leb-true, leb-false}
 use Rattle.self_id.specs.declared.node.PortStatus.{PortStatus}
 use Rattle.self_id.specs.declared.node.PortStatus.TheVariants.{Absent}
 use Rattle.self_id.specs.Node.{Node}
-use Rattle.busconf_c.specs.Shown.{slot_record, no_slot, IsSlotOf}
-use Rattle.busconf_c.proofs.Places.{written, replicated}
-use Rattle.busconf_c.proofs.Slots.{slot_of, slot_past}
+use Rattle.c_records.specs.Shown.{slot_record, no_slot, IsSlotOf}
+use Rattle.c_records.proofs.Lemmas.{written, replicated}
+use Rattle.c_records.proofs.Lemmas.{slot_of, slot_past}
 use Rattle.busconf_c.proofs.shown.slot_records.Goals as goal
 
 pub loop-slot-init : goal.loop-slot-init

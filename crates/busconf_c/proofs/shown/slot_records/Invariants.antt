@@ -1,6 +1,6 @@
 use Rattle.std.proofs.Common.{◌≡◌, ℕ, ◌<◌, ◌≤◌, length, get_or}
-use Rattle.busconf_c.specs.Shown.{no_slot, IsSlotOf}
-use Rattle.busconf_c.specs.declared.records.SlotRecord.{SlotRecord}
+use Rattle.c_records.specs.Shown.{no_slot, IsSlotOf}
+use Rattle.c_records.specs.declared.records.SlotRecord.{SlotRecord}
 use Rattle.busconf_c.proofs.shown.slot_records.Given as goal
 
 abbrev pub invariant-loop-slot : goal.invariant-loop-slot

@@ -1,0 +1,15 @@
+/* The calls of the crate heapless_c that take a length. */
+#include "border.h"
+
+PROVED(busconf_reader_bus);
+PROVED(busconf_crc16);
+
+enum busconf_status busconf_reader_bus(const struct busconf_reader *reader, uint32_t standard,
+                                       struct busconf_node *nodes, size_t room, struct busconf_bus *bus,
+                                       struct busconf_fault *fault) {
+  return proved_busconf_reader_bus(reader, standard, PLACE(nodes, room), room, bus, fault);
+}
+
+uint16_t busconf_crc16(const uint32_t *quads, size_t count) {
+  return proved_busconf_crc16(FROM(quads, count), count);
+}

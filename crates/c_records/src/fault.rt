@@ -1,0 +1,47 @@
+//! A fault as a record.
+ghost use Rattle.std.specs.Prelude.{◌≡◌};
+ghost use Rattle.c_records.specs.Faults.{group_record, tree_record, fault_with};
+
+use crate::records::FaultRecord;
+use self_id::GroupFault;
+use topology_stack::TreeFault;
+
+/// The record of a kind at a place, with what was found and wanted.
+pub fn fault_with(kind: u8, at: usize, found: u8, wanted: u8) -> FaultRecord
+    ensures { result ≡ fault_with kind at found wanted }
+{
+    FaultRecord {
+        at,
+        kind,
+        found,
+        wanted,
+    }
+}
+
+/// The record of a group's fault.
+fn group_record(fault: GroupFault) -> FaultRecord
+    ensures { result ≡ group_record fault }
+{
+    match fault {
+        GroupFault::NotSelfId { at } => fault_with(1, at, 0, 0),
+        GroupFault::WrongId { at, found, wanted } => fault_with(2, at, found, wanted),
+        GroupFault::BadOrder { at } => fault_with(3, at, 0, 0),
+        GroupFault::Cut { at } => fault_with(4, at, 0, 0),
+        GroupFault::TwoParents { at } => fault_with(5, at, 0, 0),
+    }
+}
+
+/// The record of a list's fault.
+pub fn tree_record(fault: TreeFault) -> FaultRecord
+    ensures { result ≡ tree_record fault }
+{
+    match fault {
+        TreeFault::Group(fault) => group_record(fault),
+        TreeFault::Empty => fault_with(6, 0, 0, 0),
+        TreeFault::TooFewChildren { at, found, wanted } => fault_with(7, at, found, wanted),
+        TreeFault::TreesLeft { at, found, wanted } => fault_with(8, at, found, wanted),
+        TreeFault::AfterRoot { at } => fault_with(9, at, 0, 0),
+        TreeFault::NoRoot { at } => fault_with(10, at, 0, 0),
+        TreeFault::TooMany { at } => fault_with(11, at, 0, 0),
+    }
+}

@@ -1,0 +1,5 @@
+mod Joined
+mod Lasting
+mod Placed
+mod Taking
+mod Walking
