@@ -9,7 +9,7 @@ use Rattle.script_lines.specs.Number.{number_of}
 use Rattle.bus_cli.specs.declared.form.Form.{Form}
 use Rattle.bus_cli.specs.declared.form.Form.TheVariants.{Capture, Rom, Run, Advice, Make, OfItself}
 use Rattle.bus_cli.specs.declared.form.CaptureForm.TheVariants.{Read, Read95, Maps}
-use Rattle.bus_cli.specs.Form.{AreWordsOf, AreMakeWords, Asks, IsForm, AsksMake, AsksNoInput}
+use Rattle.bus_cli.specs.Form.{AreWordsOf, AreMakeWords, Asks, IsForm, AsksNoInput}
 use Rattle.bus_cli.specs.codings.Reading.{IsRead, AsksFewNodes}
 
 -- ---- the form of words, found by trying them all
@@ -42,7 +42,7 @@ form_of (word ∷ []) = of_word word
 form_of (word ∷ next ∷ []) = None
 form_of (word ∷ nodes ∷ seed ∷ words) = of_make (number_of nodes) (number_of seed)
 
-both_true : (x y : Bool) → cond x y false ≡ true → (x ≡ true) × (y ≡ true)
+pub both_true : (x y : Bool) → cond x y false ≡ true → (x ≡ true) × (y ≡ true)
 both_true true y e = (refl, e)
 both_true false y e = absurd cc
 

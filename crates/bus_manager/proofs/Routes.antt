@@ -7,8 +7,10 @@ use Rattle.self_id.specs.Node.{ups}
 use Rattle.topology_stack.specs.Tree.{Label, Tree, branch, Slots, no_more, absent, unplugged, up, down, statuses, walk, walk_below, IsPart, AreParts, IsWhole, IsBusTree}
 use Rattle.topology_stack.specs.Far.{slot_ends, ends_from, ends_below, ends}
 use Rattle.speed_map.specs.Path.{Joined, IsNew, IsPath as IsNodePath}
-use Rattle.speed_map.proofs.Lemmas.{length-walk, some_node, slice_get-left, slice_get-right, last, length-ends_from, length-ends_below, joined_within, one_path}
+use Rattle.speed_map.proofs.Lemmas.{last, length-ends_from, length-ends_below, joined_within, one_path}
 use Rattle.bus_manager.specs.Hops.{SomeChild, GoesDown, Turns, IsPath, IsPathBelow, HopsAreOfNodePaths}
+use Rattle.topology_stack.proofs.Lemmas.{length-walk, some_node}
+use Rattle.quad_lanes.proofs.Lemmas.{slice_get-left, slice_get-right}
 
 abbrev Ends : Type 0
 Ends = List (Option ℕ)

@@ -89,16 +89,6 @@ never_long (Some bytes) P r is h = λ few. absurd (apart (subst (λ (q : Result 
     apart : TooLong ≡ Memory alloc_error → ⊥
     apart e = cc
 
--- of two things the one that isn't another status
-pub or_else : (A : Type 0) (n m : ℕ) → (n ≡ m → ⊥) → (n ≡ m) ⊎ A → A
-or_else A n m apart (inl e) = absurd (apart e)
-or_else A n m apart (inr a) = a
-
--- some bytes are those that are left, told or not
-pub some_left : (left : Option (List ℕ)) → (bytes : List ℕ) × IfSome left (λ told. bytes ≡ told)
-some_left None = ([], tt)
-some_left (Some bytes) = (bytes, refl)
-
 -- where the words ask for a form, the answer is one of it
 pub of_form : (words : List (String Global)) (form : ViewForm) → Asks words form →
     (bytes : List ℕ) (status : ℕ) (text : List ℕ) → Answers words bytes status text →

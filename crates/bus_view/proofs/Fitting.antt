@@ -1,58 +1,29 @@
 -- The quadlets of a bus tree's list fit their 32 bits.
-use Rattle.std.proofs.Common.{◌≡◌, ℕ, zero, suc, ◌+◌, ◌*◌, ◌/◌, ◌%◌, ◌^◌, ◌<◌, ◌≤◌, ◌==◌, Bool, true, false, IsTrue, List, [], ◌∷◌, ◌++◌, length, take, drop, refl, sym, ap, subst, ◌∙◌, arith, length-drop}
-use Rattle.std.specs.Prelude.{All, Some, slice_get, ◌||◌}
-use Rattle.std.proofs.lemmas.Nat.{pow-add}
+use Rattle.std.proofs.Common.{◌≡◌, ℕ, zero, suc, ◌+◌, ◌*◌, ◌/◌, ◌%◌, ◌^◌, ◌<◌, ◌≤◌, ◌==◌, Bool, true, false, IsTrue, List, [], ◌∷◌, length, take, drop, refl, sym, subst, arith, length-drop}
+use Rattle.std.specs.Prelude.{All, Some, slice_get}
 use Rattle.std.proofs.lemmas.Bool.{eqb-true}
 use Rattle.std.proofs.lemmas.List.{length-take-le}
 use Rattle.std.proofs.lemmas.List.Elements.{All-append, All-cons, All-nil}
-use Rattle.phy_packet.specs.Layout.{bit}
 use Rattle.phy_packet.specs.Packet.{quad_of}
 use Rattle.phy_packet.proofs.Lemmas.{bit_fits}
-use Rattle.self_id.specs.declared.node.PortStatus.{PortStatus}
-use Rattle.self_id.specs.declared.node.PortStatus.TheVariants.{Absent, Unplugged, Up, Down}
 use Rattle.self_id.specs.declared.standard.Standard.TheVariants.{Ieee2000}
-use Rattle.self_id.specs.Node.{Node, FitBits, IsNode, IsOf, is_width_of, kept_a_bits, kept_b_bits, status_bits}
-use Rattle.self_id.specs.Group.{field, fields, zero_packet, eight_packet, first_packet, five_packet, group}
-use Rattle.self_id.proofs.Lemmas.{group3, group11, group16}
-use Rattle.topology_stack.specs.Tree.{Tree, walk, AreOf, IsBusTreeOf, groups, emits}
+use Rattle.self_id.specs.Node.{Node, FitBits, IsNode, IsOf, is_width_of, kept_a_bits, kept_b_bits}
+use Rattle.self_id.specs.Group.{fields, zero_packet, eight_packet, first_packet, five_packet, group}
+use Rattle.self_id.proofs.Lemmas.{group3, group11, group16, field_below, fields_small}
+use Rattle.topology_stack.specs.Tree.{walk, AreOf, groups}
 use Rattle.topology_stack.proofs.Lemmas.{are_nodes}
 use Rattle.bus_view.specs.Captured.{ListsFit}
 
 abbrev Fits : ℕ → Type 0
 Fits q = q < 2 ^ 32
 
--- ---- the fields of a packet
-
-status-below : (p : PortStatus) → status_bits p < 4
-status-below Absent = omega arith
-status-below Unplugged = omega arith
-status-below Up = omega arith
-status-below Down = omega arith
-
-field-below : (ps : List PortStatus) (k : ℕ) → field ps k < 4
-field-below [] k = omega arith
-field-below (p ∷ ps) zero = status-below p
-field-below (p ∷ ps) (suc k) = field-below ps k
-
-wider : (k : ℕ) → 2 ^ (2 * suc k) ≡ 4 * 2 ^ (2 * k)
-wider k = ap (λ (e : ℕ). 2 ^ e) (let f : 2 * suc k ≡ 2 + 2 * k = omega arith in f) ∙ pow-add 2 2 (2 * k)
-
-fields-below : (ps : List PortStatus) → fields ps < 2 ^ (2 * length ps)
-fields-below [] = omega arith
-fields-below (p ∷ ps) =
-    let w : 2 ^ (2 * length (p ∷ ps)) ≡ 4 * 2 ^ (2 * length ps) = wider (length ps) in
-    rw w (grind (arith, status-below p, fields-below ps))
-
-fields-small : (k : ℕ) (ps : List PortStatus) → length ps ≡ k → fields ps < 2 ^ (2 * k)
-fields-small k ps e = subst (λ (j : ℕ). fields ps < 2 ^ (2 * j)) e (fields-below ps)
-
 -- ---- the packets
 
 zero-fits : (n : Node) (id : ℕ) (m : Bool) → FitBits n.attrs → id < 64 → Fits (quad_of (zero_packet n id m))
 zero-fits n id m fits lt =
-    let a = field-below n.ports 0 in
-    let b = field-below n.ports 1 in
-    let c = field-below n.ports 2 in
+    let a = field_below n.ports 0 in
+    let b = field_below n.ports 1 in
+    let c = field_below n.ports 2 in
     let l = bit_fits n.attrs.link in
     let d = bit_fits n.attrs.contender in
     let i = bit_fits n.attrs.initiated in
@@ -79,7 +50,7 @@ first-fits : (n : Node) (id : ℕ) (m : Bool) → id < 64 → n.kept_a < 8 → 1
     Fits (quad_of (first_packet n id m))
 first-fits n id m lt small wide =
     eight-fits n id 0 n.kept_a m lt (omega arith) small
-    (fields-small 8 (take 8 (drop 3 n.ports)) (length-take-le 8 (drop 3 n.ports) (omega (arith, length-drop 3 n.ports, wide))))
+    (fields_small 8 (take 8 (drop 3 n.ports)) (length-take-le 8 (drop 3 n.ports) (omega (arith, length-drop 3 n.ports, wide))))
 
 group-fits : (n : Node) (id : ℕ) → IsNode n → IsOf Ieee2000 n → id < 64 → All Fits (group n id)
 group-fits n id is of lt = go (length n.ports == 3) (length n.ports == 11) (length n.ports == 16) refl refl refl
@@ -107,7 +78,7 @@ group-fits n id is of lt = go (length n.ports == 3) (length n.ports == 11) (leng
         subst (All Fits) (sym (group16 n id w))
         (All-cons Fits zero (first ∷ five ∷ []) (zero-fits n id true is.form.attrs lt)
         (All-cons Fits first (five ∷ []) (first-fits n id true lt a (omega (arith, w)))
-        (All-cons Fits five [] (five-fits n id lt b (fields-small 5 (drop 11 n.ports) (omega (arith, length-drop 11 n.ports, w)))) (All-nil Fits))))
+        (All-cons Fits five [] (five-fits n id lt b (fields_small 5 (drop 11 n.ports) (omega (arith, length-drop 11 n.ports, w)))) (All-nil Fits))))
     go false false false x y z = absurd (none of)
       where
         none : IsTrue (is_width_of Ieee2000 (length n.ports)) → ⊥

@@ -1,112 +1,22 @@
--- Each quadlet shows a packet.
-use Rattle.std.proofs.Common.{◌≡◌, ◌<◌, ◌^◌, ◌/◌, ◌%◌, ◌==◌, ◌||◌, ℕ, Bool, true, false, List, [], ◌∷◌, refl, eqb-true, arith}
-use Rattle.std.specs.Prelude.{All, IsTrue, if◌then◌else◌}
-use Rattle.std.proofs.lemmas.Bool.{eqb-false}
-use Rattle.std.proofs.lemmas.List.Elements.{All-nil, All-cons, All-head, All-tail}
-use Rattle.quad_lanes.specs.Pairs.{big_endian, quads_of, firsts}
-use Rattle.phy_packet.specs.Packet.{Shows}
+-- The quadlets of a capture show packets.
+use Rattle.std.proofs.Common.{◌<◌, ◌^◌, ℕ, List, [], ◌∷◌}
+use Rattle.std.specs.Prelude.{All}
+use Rattle.std.proofs.lemmas.List.Elements.{All-head, All-tail, recursion_from_All}
+use Rattle.quad_lanes.specs.Pairs.{quads_of, firsts}
+use Rattle.quad_lanes.proofs.Lemmas.{fit_firsts}
 use Rattle.phy_packet.specs.declared.packet.PhyPacket.{PhyPacket}
-use Rattle.phy_packet.specs.declared.packet.PhyPacket.TheVariants.{Extended, Other}
-use Rattle.phy_packet.proofs.Lemmas.{config_of, link_on_of, self_zero_of, self_more_of, bit-eqb, bit_fits, shows-self_zero, shows-self_more}
 use Rattle.view_text.specs.Pairs.{AreShown}
-
-shows-config : (q : ℕ) → q / 2 ^ 30 ≡ 0 → IsTrue ((q / 2 ^ 23 % 2 == 1) || (q / 2 ^ 22 % 2 == 1)) →
-    Shows q (config_of q)
-shows-config q top some = record {
-  valid = record { fit = (omega arith, (omega arith, (bit_fits _, (bit_fits _, (omega arith, (omega arith, tt)))))); apart = some };
-  quad_is = rw (bit-eqb (q / 2 ^ 23 % 2) (omega arith), bit-eqb (q / 2 ^ 22 % 2) (omega arith)) (omega arith);
-}
-
-shows-extended : (q : ℕ) → q / 2 ^ 30 ≡ 0 → q / 2 ^ 23 % 2 ≡ 0 → q / 2 ^ 22 % 2 ≡ 0 → q < 2 ^ 32 →
-    Shows q (Extended q)
-shows-extended q top high low fits = record {
-  valid = record { fit = (omega arith, tt); apart = (top, omega arith) };
-  quad_is = omega arith;
-}
-
-shows-link_on : (q : ℕ) → q / 2 ^ 30 ≡ 1 → Shows q (link_on_of q)
-shows-link_on q top = record {
-  valid = record { fit = (omega arith, (omega arith, (omega arith, tt))); apart = tt };
-  quad_is = omega arith;
-}
-
-shows-other : (q : ℕ) → q / 2 ^ 30 ≡ 3 → q < 2 ^ 32 → Shows q (Other q)
-shows-other q top fits = record { valid = record { fit = (omega arith, tt); apart = top }; quad_is = omega arith }
-
--- ---- by the tests
-
-some-zero : (q : ℕ) → q / 2 ^ 30 ≡ 0 → q < 2 ^ 32 → (a b : Bool) → (q / 2 ^ 23 % 2 == 1) ≡ a →
-    (q / 2 ^ 22 % 2 == 1) ≡ b →
-    Shows q (if a || b then config_of q else Extended q)
-some-zero q top fits true b h l = shows-config q top (rw h refl)
-some-zero q top fits false true h l = shows-config q top (rw (h, l) refl)
-some-zero q top fits false false h l =
-    let high : q / 2 ^ 23 % 2 ≡ 1 → ⊥ = eqb-false _ _ h in
-    let low : q / 2 ^ 22 % 2 ≡ 1 → ⊥ = eqb-false _ _ l in
-    shows-extended q top (omega arith) (omega arith) fits
-
-some-self : (q : ℕ) → q / 2 ^ 30 ≡ 2 → (a : Bool) → (q / 2 ^ 23 % 2 == 0) ≡ a →
-    Shows q (if a then self_zero_of q else self_more_of q)
-some-self q top true h = shows-self_zero q top (eqb-true _ _ h)
-some-self q top false h = let ne : q / 2 ^ 23 % 2 ≡ 0 → ⊥ = eqb-false _ _ h in shows-self_more q top (omega arith)
-
-some-top :
-    (q : ℕ) → q < 2 ^ 32 → (a b c : Bool) → (q / 2 ^ 30 == 0) ≡ a → (q / 2 ^ 30 == 1) ≡ b → (q / 2 ^ 30 == 2) ≡ c →
-    Shows q (if a then (if (q / 2 ^ 23 % 2 == 1) || (q / 2 ^ 22 % 2 == 1) then config_of q else Extended q)
-    else (if b then link_on_of q else (if c then (if q / 2 ^ 23 % 2 == 0 then self_zero_of q else self_more_of q) else Other q)))
-some-top q fits true b c x y z = some-zero q (eqb-true _ _ x) fits (q / 2 ^ 23 % 2 == 1) (q / 2 ^ 22 % 2 == 1) refl refl
-some-top q fits false true c x y z = shows-link_on q (eqb-true _ _ y)
-some-top q fits false false true x y z = some-self q (eqb-true _ _ z) (q / 2 ^ 23 % 2 == 0) refl
-some-top q fits false false false x y z =
-    let a : q / 2 ^ 30 ≡ 0 → ⊥ = eqb-false _ _ x in
-    let b : q / 2 ^ 30 ≡ 1 → ⊥ = eqb-false _ _ y in
-    let c : q / 2 ^ 30 ≡ 2 → ⊥ = eqb-false _ _ z in
-    shows-other q (omega arith) fits
-
--- the packet that a quadlet shows
-abbrev packet_by : ℕ → PhyPacket
-packet_by q =
-    if q / 2 ^ 30 == 0 then (if (q / 2 ^ 23 % 2 == 1) || (q / 2 ^ 22 % 2 == 1) then config_of q else Extended q)
-    else (if q / 2 ^ 30 == 1 then link_on_of q
-    else (if q / 2 ^ 30 == 2 then (if q / 2 ^ 23 % 2 == 0 then self_zero_of q else self_more_of q) else Other q))
-
-some-packet : (q : ℕ) → q < 2 ^ 32 → Shows q (packet_by q)
-some-packet q fits = some-top q fits (q / 2 ^ 30 == 0) (q / 2 ^ 30 == 1) (q / 2 ^ 30 == 2) refl refl refl
-
--- ---- the packets of bytes
+use Rattle.view_text.proofs.Lemmas.{some-packet}
 
 some-packets : (quads : List ℕ) → All (λ q. q < 2 ^ 32) quads →
     (packets : List PhyPacket) × AreShown quads packets
 some-packets [] h = ([], tt)
 some-packets (q ∷ quads) h =
+    let packet = some-packet q (All-head (λ x. x < 2 ^ 32) q quads h) in
     let rest = some-packets quads (All-tail (λ x. x < 2 ^ 32) q quads h) in
-    (packet_by q ∷ rest.0, (some-packet q (All-head (λ x. x < 2 ^ 32) q quads h), rest.1))
-
--- the quadlets of bytes fit
-quads-fit : (bytes : List ℕ) → All (λ b. b < 256) bytes → All (λ q. q < 2 ^ 32) (quads_of bytes)
-quads-fit (a ∷ b ∷ c ∷ d ∷ bytes) h =
-    let one = All-head (λ x. x < 256) a (b ∷ c ∷ d ∷ bytes) h in
-    let t = All-tail (λ x. x < 256) a (b ∷ c ∷ d ∷ bytes) h in
-    let two = All-head (λ x. x < 256) b (c ∷ d ∷ bytes) t in
-    let u = All-tail (λ x. x < 256) b (c ∷ d ∷ bytes) t in
-    let three = All-head (λ x. x < 256) c (d ∷ bytes) u in
-    let v = All-tail (λ x. x < 256) c (d ∷ bytes) u in
-    let four = All-head (λ x. x < 256) d bytes v in
-    let fits : big_endian a b c d < 2 ^ 32 = omega (arith, one, two, three, four) in
-    All-cons (λ x. x < 2 ^ 32) (big_endian a b c d) (quads_of bytes) fits (quads-fit bytes (All-tail (λ x. x < 256) d bytes v))
-quads-fit [] h = All-nil (λ x. x < 2 ^ 32)
-quads-fit (a ∷ []) h = All-nil (λ x. x < 2 ^ 32)
-quads-fit (a ∷ b ∷ []) h = All-nil (λ x. x < 2 ^ 32)
-quads-fit (a ∷ b ∷ c ∷ []) h = All-nil (λ x. x < 2 ^ 32)
-
-firsts-fit : (quads : List ℕ) → All (λ q. q < 2 ^ 32) quads → All (λ q. q < 2 ^ 32) (firsts quads)
-firsts-fit (a ∷ b ∷ quads) h =
-    let t = All-tail (λ x. x < 2 ^ 32) a (b ∷ quads) h in
-    All-cons (λ x. x < 2 ^ 32) a (firsts quads) (All-head (λ x. x < 2 ^ 32) a (b ∷ quads) h)
-    (firsts-fit quads (All-tail (λ x. x < 2 ^ 32) b quads t))
-firsts-fit [] h = All-nil (λ x. x < 2 ^ 32)
-firsts-fit (a ∷ []) h = All-nil (λ x. x < 2 ^ 32)
+    (packet.0 ∷ rest.0, (packet.1, rest.1))
 
 pub packets-of-bytes : (bytes : List ℕ) → All (λ b. b < 256) bytes →
     (packets : List PhyPacket) × AreShown (firsts (quads_of bytes)) packets
-packets-of-bytes bytes h = some-packets (firsts (quads_of bytes)) (firsts-fit (quads_of bytes) (quads-fit bytes h))
+packets-of-bytes bytes h =
+    some-packets (firsts (quads_of bytes)) (fit_firsts bytes (recursion_from_All (λ b. b < 256) bytes h))

@@ -1,13 +1,8 @@
 -- All words and bytes have an answer.
-use Rattle.std.proofs.Common.{◌≡◌, ◌<◌, ◌-◌, ◌+◌, ◌⊎◌, inl, inr, ℕ, List, [], Ok, Err, length, refl, sym, ap, arith}
+use Rattle.std.proofs.Common.{◌≡◌, ◌<◌, ◌-◌, ◌+◌, ◌⊎◌, inl, inr, ℕ, List, [], Ok, Err, length, refl, sym, ap}
 use Rattle.std.specs.Prelude.{All, codes}
-use Rattle.std.proofs.lemmas.Option.{slice_get_cases}
 use Rattle.quad_lanes.specs.Pairs.{quads_of}
 use Rattle.self_id.specs.declared.standard.Standard.{Standard}
-use Rattle.self_id.specs.Node.{Node}
-use Rattle.topology_stack.specs.Tree.{Tree, walk}
-use Rattle.bus_manager.specs.Hops.{IsHops}
-use Rattle.bus_manager.proofs.Lemmas.{is_hops, small}
 use Rattle.capture_reading.specs.OneReading.{EachCaptureHasATreeOrAFault}
 use Rattle.capture_reading.specs.Line.{fault_line}
 use Rattle.bus_cli.specs.Line.{script_line}
@@ -22,7 +17,6 @@ use Rattle.script_trace.specs.OneTrace.{RunsHaveTraces}
 use Rattle.script_waves.specs.Waves.{IsWavesOf}
 use Rattle.script_waves.specs.OneDump.{RunsHaveDumps}
 use Rattle.view_text.specs.Pairs.{pairs_text}
-use Rattle.view_text.specs.Drawing.{IsDrawing, IsRoot, drawing}
 use Rattle.view_text.specs.Graph.{graph}
 use Rattle.bus_json.specs.Text.{json_line}
 use Rattle.bus_json.specs.Bus.{bus_value}
@@ -45,6 +39,7 @@ use Rattle.bus_view.specs.OneAnswer.{EachInputHasAView}
 use Rattle.bus_view.proofs.Said.{some_explained}
 use Rattle.bus_view.proofs.Forms.{form_or_none}
 use Rattle.bus_view.proofs.SomePacket.{packets-of-bytes}
+use Rattle.view_text.proofs.Lemmas.{some-drawing}
 
 abbrev HasSome : (ℕ → List ℕ → Type 0) → Type 0
 HasSome Is = (s : ℕ) × (text : List ℕ) × Is s text
@@ -57,22 +52,6 @@ some-reading some standard bytes fit = elim (some standard bytes fit) [
   | inl t ↦ (spelt t.0, t.1)
   | inr f ↦ (refused f.0, f.1)
 ]
-
-some-root : (t : Tree) → (root : Node) × IsRoot t root
-some-root t = elim (slice_get_cases (walk t) (length (walk t) - 1)).1 [
-  | inl n ↦ (n.0, n.2)
-  | inr none ↦ absurd (omega (arith, none.0, (small t).0))
-]
-
-some-drawing-with : (t : Tree) (hops : ℕ) → IsHops t hops → (text : List ℕ) × IsDrawing t text
-some-drawing-with t hops are =
-    let root = some-root t in (
-      drawing t hops root.0.attrs.gap,
-      record { hops = hops; root = root.0; are_hops = are; is_root = root.1; text_is = refl },
-    )
-
-some-drawing : (t : Tree) → (text : List ℕ) × IsDrawing t text
-some-drawing t = some-drawing-with t _ (is_hops t)
 
 some-text : (view : CaptureView) (standard : Standard) (bytes : List ℕ) (r : Reading) →
     All (λ b. b < 256) bytes → (text : List ℕ) × HasText view standard bytes r text

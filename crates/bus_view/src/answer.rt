@@ -12,7 +12,6 @@ ghost use Rattle.capture_reading.specs.Line.{fault_line};
 
 use crate::form::{CaptureView, ViewForm};
 use crate::help::VIEW_HELP;
-use crate::pairs::capture_of;
 use crate::refusal::fault_json;
 use crate::sentence::note_of;
 use about::{About, about_text};

@@ -6,7 +6,6 @@ mod form;
 mod help;
 mod laws;
 mod logs;
-mod pairs;
 mod refusal;
 mod sentence;
 mod top;

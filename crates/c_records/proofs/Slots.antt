@@ -10,24 +10,13 @@ use Rattle.topology_stack.specs.Far.{Far}
 use Rattle.c_records.specs.declared.records.SlotRecord.{SlotRecord}
 use Rattle.c_records.specs.declared.records.NodeRecord.{NodeRecord}
 use Rattle.c_records.specs.Shown.{slot_record, no_slot, IsSlotOf, said, IsNodeRecord}
+use Rattle.topology_stack.proofs.Lemmas.{one_end}
 
 one_node : (m n : Node) (o : Option Node) → o ≡ Some m → o ≡ Some n → m ≡ n
 one_node m n o a b = cc
 
-one_list : (m n : List (Option ℕ)) (o : Option (List (Option ℕ))) → o ≡ Some m → o ≡ Some n → m ≡ n
-one_list m n o a b = cc
-
-one_end : (a b : Option ℕ) (o : Option (Option ℕ)) → o ≡ Some a → o ≡ Some b → a ≡ b
-one_end a b o x y = cc
-
 apart : (s : PortStatus) (o : Option PortStatus) → o ≡ Some s → o ≡ None → ⊥
 apart s o a b = cc
-
--- one thing stands at the other end of a slot
-far_one : (t : Tree) (id k : ℕ) (a b : Option ℕ) → Far t id k a → Far t id k b → a ≡ b
-far_one t id k a b x y =
-    let same : y.of_node ≡ x.of_node = one_list _ _ _ y.node x.node in
-    one_end a b (slice_get x.of_node k) x.slot_end (subst (λ (l : List (Option ℕ)). slice_get l k ≡ Some b) same y.slot_end)
 
 -- a slot of the node
 pub slot_of : (t : Tree) (id k : ℕ) (n : Node) (far : Option ℕ) (r : SlotRecord) →
@@ -37,7 +26,7 @@ slot_of t id k n far r at inside end is = record {
   shown = λ m status other at_m shows far_m.
       let same : m ≡ n = one_node m n _ at_m at in
       let status_is : get_or n.ports k Absent ≡ status = get_or_from_slice_get n.ports k status Absent (subst (λ (x : Node). slice_get x.ports k ≡ Some status) same shows) in
-      is ∙ ap (λ (s : PortStatus). slot_record s far) status_is ∙ ap (slot_record status) (far_one t id k far other end far_m);
+      is ∙ ap (λ (s : PortStatus). slot_record s far) status_is ∙ ap (slot_record status) (one_end t id k far other end far_m);
   blank = λ m at_m past.
       let same : m ≡ n = one_node m n _ at_m at in
       let past_n : length n.ports ≤ k = subst (λ (x : Node). length x.ports ≤ k) same past in

@@ -2,6 +2,8 @@
 
 -- A component has one outcome at most.
 pub use Rattle.cable_world.proofs.OneOutcome.{one-outcome, same-set}
+-- The attributes that nodes show fit their bits.
+pub use Rattle.cable_world.proofs.Fitting.{attrs-fit, shown-fit}
 -- What an option has.
 pub use Rattle.cable_world.proofs.Options.{none-some, some-and, some-at, some-of, some-same}
 -- Facts of phases, each of which holds phase by phase.
@@ -91,7 +93,7 @@ pub use Rattle.cable_world.proofs.worked.TwoNodes.{nodes, start}
 -- The tables of a world in a turn, entry by entry.
 pub use Rattle.cable_world.proofs.running.AllNodes.{changes-length, get-some, row-of, rows-length, steps-length}
 -- Turns in which nothing happens: nothing arrives, every node ticks idly, and nothing is sent.
-pub use Rattle.cable_world.proofs.running.Still.{all-taken, idle-less}
+pub use Rattle.cable_world.proofs.running.Still.{all-taken, idle-less, still-silent}
 -- A table that a loop writes anew from its head on: the new entries come first, and then the old ones.
 pub use Rattle.cable_world.proofs.running.Mixed.{mixed, mixed-all, mixed-length, mixed-none, take-all}
 -- Signals are put onto a node's wires one after the other.

@@ -28,4 +28,5 @@ pub mod StaysReached
 pub mod StaysLawful
 pub mod QuietTurns
 pub mod OneOutcome
+pub mod Fitting
 pub mod Lemmas

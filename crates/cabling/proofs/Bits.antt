@@ -1,10 +1,10 @@
--- One node put into a set or taken out of it.
+-- One node put into a set or taken out of it, two sets, and sets of small numbers.
 use Rattle.std.proofs.Common.{◌≡◌, ◌≢◌, ℕ, zero, suc, ◌+◌, ◌-◌, ◌*◌, ◌%◌, ◌^◌, ◌<◌, ◌≤◌, ◌⊎◌, inl, inr, ◌↔◌, arith, sym, ◌∙◌, refl, bit_and, bit_or}
 use Rattle.std.specs.Int.{bit_at, bit_not, w64, trailing_zeros}
 use Rattle.std.proofs.lemmas.Bool.{cases_lt}
-use Rattle.std.proofs.lemmas.Nat.{pow_pos, one_shl, or_disjoint, or_lt, and_comm, and-not, and_le_l}
+use Rattle.std.proofs.lemmas.Nat.{pow_pos, one_shl, or_disjoint, or_lt, and_comm, and-not, and_le_l, and_le_r}
 use Rattle.std.proofs.Math.Pow.{pow-lt}
-use Rattle.std.proofs.lemmas.Nat.Bits.{bit_at_set_same, bit_at_set_other, bit_at_clear_same, bit_at_clear_other, bit_at-lt, bit_at_above, bit_at-zero, bit_at_or, bit_at_and, bit_at_not, and_pow, bit_at-trailing_zeros}
+use Rattle.std.proofs.lemmas.Nat.Bits.{bit_at_set_same, bit_at_set_other, bit_at_clear_same, bit_at_clear_other, bit_at-lt, bit_at_above, bit_at-zero, bit_at_or, bit_at_and, bit_at_not, bit_at_ones, and_pow, bit_at-trailing_zeros, same_from_bits}
 use Rattle.cabling.specs.NodeSet.{Holds}
 
 -- a bit is 0 or 1
@@ -133,3 +133,19 @@ more_than old new k small e = let one : 0 < 2 ^ k = pow_pos k in omega arith
 
 pub fewer : (old new k : ℕ) → new + 2 ^ k ≡ old → new < old
 fewer old new k e = let one : 0 < 2 ^ k = pow_pos k in omega arith
+
+-- ---- sets of small numbers
+
+-- a number all of whose bits are below k is below 2 ^ k
+pub small-set : (set k : ℕ) → ((i : ℕ) → Holds set i → i < k) → set < 2 ^ k
+small-set set k within =
+    let same : set ≡ bit_and set (2 ^ k - 1) = same_from_bits set (bit_and set (2 ^ k - 1)) (λ i. bits i) in
+    omega (arith, same, and_le_r set (2 ^ k - 1), pow_pos k)
+  where
+    bits : (i : ℕ) → bit_at set i ≡ bit_at (bit_and set (2 ^ k - 1)) i
+    bits i = elim (cases_lt i k) [
+      | inl less ↦ sym (bit_at_and set (2 ^ k - 1) i ∙ rw (bit_at_ones k i less) (omega (arith, bit_at-lt set i)))
+      | inr more ↦
+          let none : bit_at set i ≡ 0 = clear_bit set i (λ h. omega (arith, within i h, more)) in
+          none ∙ sym (bit_at_and set (2 ^ k - 1) i ∙ rw (none) (omega arith))
+    ]

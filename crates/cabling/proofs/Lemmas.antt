@@ -1,7 +1,7 @@
 -- What crates above use of the proofs of this one, by what it is about.
 
--- One node put into a set or taken out of it.
-pub use Rattle.cabling.proofs.Bits.{below, clear_bit, in_both, inserted-holds, inserted-others, inserted-small, none_of_zero, some_node}
+-- One node put into a set or taken out of it, two sets, and sets of small numbers.
+pub use Rattle.cabling.proofs.Bits.{below, clear_bit, in_both, in_union, inserted-holds, inserted-others, inserted-small, none_of_zero, removed-gone, removed-others, removed-small, small-set, some_node, union-small}
 -- Where no part of a set is looped, a node with at most one cable into the rest can be taken away, and
 -- it needn't be the root.
 pub use Rattle.cabling.proofs.Cascade.{Less, holds_or_not, less_by, less_within, not_gone, two_of, weak_or_all}
@@ -20,7 +20,7 @@ pub use Rattle.cabling.proofs.Once.{In, Once, in_append, in_left, in_right}
 -- One tree at most is seen from a root.
 pub use Rattle.cabling.proofs.OneTree.{one-tree}
 -- What is known where no fault was found, and what the two writes of a call then make.
-pub use Rattle.cabling.proofs.Plugging.{Pluggable, less, other_there, pluggable}
+pub use Rattle.cabling.proofs.Plugging.{Pluggable, can-pull, less, other_there, pluggable}
 -- A cable that lies on no core is pulled: no node comes into a core, or out of one.
 pub use Rattle.cabling.proofs.Pulling.{was-there}
 -- Where ranks fall along each way from a node, the tree seen from it exists.

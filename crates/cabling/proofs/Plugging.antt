@@ -1,12 +1,12 @@
 -- What is known where no fault was found, and what the two writes of a call then make.
-use Rattle.std.proofs.Common.{◌≡◌, ◌≢◌, ◌==◌, ℕ, ◌<◌, Bool, true, false, not, Option, Some, None, length, arith, nat_lt, is_some, refl, if◌then◌else◌, List, get_or, slice_set, sym, subst, ◌∙◌, []}
+use Rattle.std.proofs.Common.{◌≡◌, ◌≢◌, ◌==◌, ℕ, ◌<◌, Bool, true, false, not, Option, Some, None, length, arith, nat_lt, is_some, refl, ap, if◌then◌else◌, List, get_or, slice_set, sym, subst, ◌∙◌, []}
 use Rattle.std.proofs.lemmas.List.{get_or-set_other, get_or_default}
 use Rattle.std.proofs.lemmas.Bool.Decides.{nat_tests}
 use Rattle.cabling.specs.declared.cable.End.{End}
 use Rattle.cabling.specs.declared.cable.CableFault.{CableFault}
 use Rattle.cabling.specs.Wiring.{Wiring, ports_of, far, HasEnd, IsCabling}
 use Rattle.cabling.proofs.Ends.{with_far, wrote_both, added_by_writes, cabling_added, taken_by_writes, cabling_taken, plugged}
-use Rattle.cabling.specs.Change.{Added, TakenOut, has_node, has_port, is_plugged, plug_fault}
+use Rattle.cabling.specs.Change.{Added, TakenOut, has_node, has_port, is_plugged, plug_fault, pull_fault}
 
 pub record Pluggable (c : Wiring) (a b : End) : Type 0 where
   pub has_a : HasEnd c a
@@ -93,3 +93,12 @@ other_port c a b row new is e at =
     let there : HasEnd c b = other_there c a b is e in
     let same : row ≡ ports_of c b.node = at ∙ get_or-set_other c a.node b.node new row (λ same. is.two_nodes a b e (sym same)) ∙ get_or_default c b.node row [] there.node in
     rw same there.port
+
+-- a cable that is plugged in can be pulled
+pub can-pull : (c : Wiring) (a b : End) → far c a ≡ Some b → pull_fault c a ≡ None
+can-pull c a b at =
+    let there : HasEnd c a = plugged c a b at in
+    let node : has_node c a ≡ true = let h = there.node in grind (arith, nat_tests) in
+    let port : has_port c a ≡ true = let h = there.port in grind (arith, nat_tests) in
+    let here : is_plugged c a ≡ true = ap (λ (o : Option End). is_some o) at in
+    rw (node, port, here) refl

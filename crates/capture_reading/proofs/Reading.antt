@@ -1,7 +1,7 @@
 -- What reading a capture finds.
-use Rattle.std.proofs.Common.{◌≡◌, ◌≢◌, ◌↔◌, ℕ, ◌/◌, ◌%◌, ◌^◌, ◌<◌, List, ◌∷◌, length, Result, Err, refl, arith}
-use Rattle.std.specs.List.{All, AllByRecursion}
-use Rattle.std.proofs.lemmas.List.Elements.{All-nil, All-cons, recursion_from_All}
+use Rattle.std.proofs.Common.{◌≡◌, ◌≢◌, ◌↔◌, ℕ, ◌/◌, ◌%◌, ◌<◌, List, length, Result, Err, refl}
+use Rattle.std.specs.List.{All}
+use Rattle.std.proofs.lemmas.List.Elements.{recursion_from_All}
 use Rattle.quad_lanes.specs.Capture.{capture}
 use Rattle.quad_lanes.specs.Pairs.{quads_of, firsts}
 use Rattle.quad_lanes.specs.declared.pairs.PairFault.{PairFault}
@@ -9,12 +9,7 @@ use Rattle.quad_lanes.specs.declared.pairs.PairFault.TheVariants.{Length, Memory
 use Rattle.self_id.specs.declared.standard.Standard.{Standard}
 use Rattle.capture_reading.specs.Capture.{IsCaptureOf, CaptureRefused}
 use Rattle.capture_reading.specs.Stop.{of_pairs, IfFault}
-
--- the packets' quadlets fit 32 bits, since bytes fit eight
-fit_firsts : (bytes : List ℕ) → AllByRecursion (λ b. b < 256) bytes →
-    All (λ q. q < 2 ^ 32) (firsts (quads_of bytes))
-fit_firsts (a ∷ b ∷ c ∷ d ∷ e ∷ f ∷ g ∷ h ∷ bytes) (la, (lb, (lc, (ld, (le, (lf, (lg, (lh, rest)))))))) = All-cons (λ q. q < 2 ^ 32) _ _ (omega arith) (fit_firsts bytes rest)
-fit_firsts _ h = All-nil (λ q. q < 2 ^ 32)
+use Rattle.quad_lanes.proofs.Lemmas.{fit_firsts}
 
 -- bytes that are the capture of the firsts of their pairs
 pub is_capture : (bytes list : List ℕ) → All (λ b. b < 256) bytes → list ≡ firsts (quads_of bytes) →

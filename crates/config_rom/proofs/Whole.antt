@@ -5,7 +5,7 @@ use Rattle.std.specs.List.{All}
 use Rattle.std.proofs.Math.Seq.{drop-cons, take-append_seam, drop-append_seam}
 use Rattle.std.proofs.lemmas.List.{take-append-drop, length-take-le, drop_all, get_or-take, get_or-drop, get_or-set_other, get_or-set_same, length-set}
 use Rattle.std.proofs.lemmas.Bool.{cases_lt}
-use Rattle.std.proofs.lemmas.List.Elements.{All-get_or, All-from_get_or, All-set, All-append, All-cons}
+use Rattle.std.proofs.lemmas.List.Elements.{All-get_or, All-set, All-append, All-cons}
 use Rattle.topology_map.proofs.Lemmas.{joined}
 use Rattle.config_rom.specs.Layout.{info_len_of, root_of, length_at, crc_at, end_of}
 use Rattle.config_rom.specs.Rom.{Parts, first_quad, root_header, rom_quads, IsRom, unsealed, with_crc}
@@ -259,10 +259,6 @@ crc-quads v quads place crc h is behind there fits =
     ∙ ap (λ qs. slice_set qs place (with_crc (slice_index qs place) crc)) same
 
 -- ---- parts that are given
-
-pub all-fit : (quads : List ℕ) → ((i : ℕ) → slice_index quads i < 2 ^ 32) →
-    All (λ q. q < 2 ^ 32) quads
-all-fit quads fit = All-from_get_or (λ q. q < 2 ^ 32) quads 0 (λ i _. fit i)
 
 pub unsealed-rom :
     (info entries rest : List ℕ) (n : ℕ) → 2 ≤ length info → slice_index info 0 ≡ 0x31333934 →

@@ -1,8 +1,8 @@
 -- The kind of a fault that bytes have.
-use Rattle.std.proofs.Common.{◌≡◌, ℕ, ◌%◌, ◌^◌, ◌<◌, List, ◌∷◌, length, false, Option, Some, None, refl, ap, subst, sym, ◌∙◌, arith}
-use Rattle.std.specs.List.{All, AllByRecursion}
+use Rattle.std.proofs.Common.{◌≡◌, ℕ, ◌%◌, ◌<◌, List, length, false, Option, Some, None, refl, ap, subst, sym, ◌∙◌}
+use Rattle.std.specs.List.{All}
 use Rattle.std.specs.Option.{is_some}
-use Rattle.std.proofs.lemmas.List.Elements.{All-nil, All-cons, recursion_from_All}
+use Rattle.std.proofs.lemmas.List.Elements.{recursion_from_All}
 use Rattle.quad_lanes.specs.Capture.{GoodPairsAreACapture}
 use Rattle.quad_lanes.specs.Pairs.{quads_of, firsts, first_bad_pair}
 use Rattle.self_id.specs.declared.fault.GroupFault.TheVariants.{NotSelfId, WrongId, BadOrder, Cut, TwoParents}
@@ -12,6 +12,7 @@ use Rattle.topology_stack.specs.declared.fault.TreeFault.TheVariants.{Group, Emp
 use Rattle.topology_stack.specs.Refused.{Refused}
 use Rattle.topology_stack.specs.Tree.{Tree, IsBusTreeOf, emits}
 use Rattle.flawed_capture.specs.Flaw.{of_tree, HasFlaw, HasListFlaw, IsCaptureOf, IsOfATree}
+use Rattle.quad_lanes.proofs.Lemmas.{fit_firsts}
 
 list_flaw : (standard : Standard) (quads bytes : List ℕ) (f : TreeFault) → IsCaptureOf quads bytes →
     Refused standard quads f → HasListFlaw standard bytes (of_tree f)
@@ -38,12 +39,6 @@ pub tree_of_list : (standard : Standard) (quads bytes : List ℕ) (t : Tree) →
     IsBusTreeOf standard t → emits t ≡ quads → IsOfATree standard bytes
 tree_of_list standard quads bytes t c bus e =
     record { t = t; bus = bus; captured = subst (λ (l : List ℕ). IsCaptureOf l bytes) (sym e) c }
-
--- the packets' quadlets fit 32 bits, since bytes fit eight
-fit_firsts : (bytes : List ℕ) → AllByRecursion (λ b. b < 256) bytes →
-    All (λ q. q < 2 ^ 32) (firsts (quads_of bytes))
-fit_firsts (a ∷ b ∷ c ∷ d ∷ e ∷ f ∷ g ∷ h ∷ bytes) (la, (lb, (lc, (ld, (le, (lf, (lg, (lh, rest)))))))) = All-cons (λ q. q < 2 ^ 32) _ _ (omega arith) (fit_firsts bytes rest)
-fit_firsts _ h = All-nil (λ q. q < 2 ^ 32)
 
 none_is : (o : Option ℕ) → false ≡ is_some o → o ≡ None
 none_is None h = refl

@@ -2,9 +2,8 @@
 ghost use Rattle.std.specs.Prelude.{◌≡◌, ◌<◌, ◌≤◌, length, IfOk};
 ghost use Rattle.flawed_capture.specs.Spoilt.{IsSpoiltList, IsSpoilt};
 
-use crate::bytes::capture_of;
 use crate::flaw::Flaw;
-use quad_lanes::capture_is_read_back;
+use quad_lanes::{capture_is_read_back, capture_of};
 use self_id::Standard;
 use std::alloc::Global;
 use topology_stack::OutOfMemory;

@@ -2,7 +2,6 @@
 //! tries a reader of captures.
 #![tactic(auto)]
 
-mod bytes;
 mod change;
 mod few;
 mod flaw;

@@ -5,11 +5,9 @@ use Rattle.self_id.specs.declared.standard.Standard.{Standard}
 use Rattle.self_id.specs.Node.{Node}
 use Rattle.topology_stack.specs.Tree.{Tree, walk, IsBusTreeOf, emits}
 use Rattle.topology_stack.specs.Elect.{is_candidate, highest_from}
-use Rattle.topology_stack.specs.codings.Links.{Linking}
-use Rattle.topology_stack.specs.codings.Stored.{Stored}
-use Rattle.topology_stack.proofs.Joining.{Joining}
-use Rattle.topology_stack.proofs.Lemmas.{some_node}
-use Rattle.topology_stack.proofs.Linking.{stored}
+use Rattle.topology_stack.specs.Links.{Linking}
+use Rattle.topology_stack.specs.Stored.{Stored}
+use Rattle.topology_stack.proofs.Lemmas.{Joining, some_node, stored}
 use Rattle.c_records.specs.Shown.{id_or_none, IsBusRecord}
 use Rattle.heapless_c.specs.Reading.{IsLinked}
 

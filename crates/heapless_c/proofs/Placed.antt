@@ -4,8 +4,8 @@ use Rattle.std.specs.Prelude.{slice_get}
 use Rattle.self_id.specs.declared.node.PortStatus.TheVariants.{Absent}
 use Rattle.self_id.specs.Node.{Node, downs}
 use Rattle.topology_stack.specs.Tree.{Tree, walk}
-use Rattle.topology_stack.specs.codings.Stored.{ends_of}
-use Rattle.topology_stack.proofs.Ends.{far_is, kids_enough}
+use Rattle.topology_stack.specs.Stored.{ends_of}
+use Rattle.topology_stack.proofs.Lemmas.{far_is, kids_enough}
 use Rattle.c_records.specs.declared.records.SlotRecord.{SlotRecord}
 use Rattle.c_records.specs.Shown.{slot_record, no_slot, IsSlotOf}
 use Rattle.c_records.proofs.Lemmas.{slot_of, slot_past}

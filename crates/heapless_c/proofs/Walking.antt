@@ -7,8 +7,7 @@ use Rattle.self_id.specs.Node.{Node}
 use Rattle.self_id.specs.Group.{group, BeginsWith}
 use Rattle.self_id.proofs.Lemmas.{length-group}
 use Rattle.topology_stack.specs.Tree.{Tree, walk, AreOf, IsBusTreeOf, groups, emits}
-use Rattle.topology_stack.proofs.Lemmas.{are_nodes, one_tree}
-use Rattle.topology_stack.proofs.Stack.{groups-append, groups-snoc, AreOf-parts}
+use Rattle.topology_stack.proofs.Lemmas.{AreOf-parts, are_nodes, groups-append, groups-snoc, one_tree}
 use Rattle.heapless_c.specs.Reading.{IsLinked, IsPlaced}
 
 split_at : {A : Type 0} (l : List A) (i : ℕ) (x : A) → slice_get l i ≡ Some x → l ≡ take i l ++ x ∷ drop (suc i) l
@@ -53,11 +52,6 @@ place_after t at after id n lt node place is =
     ap (λ (k : ℕ). groups 0 (take k (walk t))) next ∙ ap (groups 0) (take_more (walk t) id n node) ∙ groups-snoc (take id (walk t)) n ∙ ap (λ (k : ℕ). groups 0 (take id (walk t)) ++ group n k) count in
     omega (arith, place, is, ap length more, length-append (groups 0 (take id (walk t))) (group n id))
 
-pub some_at : {A : Type 0} (l : List A) (i : ℕ) → i < length l → (x : A) × (slice_get l i ≡ Some x)
-some_at [] i lt = absurd (omega (arith, lt))
-some_at (x ∷ l) zero lt = (x, refl)
-some_at (x ∷ l) (suc i) lt = some_at l i (omega (arith, lt))
-
 -- the group stands inside of the list
 pub inside : (s : Standard) (quads : List ℕ) (at id : ℕ) (n : Node) → BeginsWith s (drop at quads) id n →
     at < length quads
@@ -80,5 +74,5 @@ pub next_node : (s : Standard) (quads parents : List ℕ) (lists : List (List �
     (n : Node) × (slice_get (walk t) id ≡ Some n) × BeginsWith s (drop at quads) id n
 next_node s quads parents lists count at id t many linked lt place =
     let inside : id < length (walk t) = omega (arith, lt, many) in
-    let n = some_at (walk t) id inside in
+    let n = item_at (walk t) id inside in
     (n.0, n.1, stands_next s t quads at id n.0 linked.bus linked.emitted inside n.1 place)

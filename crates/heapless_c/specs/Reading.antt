@@ -4,7 +4,7 @@ use Rattle.self_id.specs.declared.standard.Standard.{Standard}
 use Rattle.self_id.specs.Node.{Node}
 use Rattle.topology_stack.specs.declared.waiting.Waiting.{Waiting as Waits}
 use Rattle.topology_stack.specs.Tree.{Tree, walk, IsBusTreeOf, emits}
-use Rattle.topology_stack.specs.codings.Stored.{Stored}
+use Rattle.topology_stack.specs.Stored.{Stored}
 use Rattle.heapless_c.specs.declared.reading.Waiting.{Waiting}
 
 -- how many trees wait for a parent, and whether the last of them is the root's

@@ -1,6 +1,6 @@
 //! The IDs at the other ends of slots, in memory of fixed size.
 ghost use Rattle.std.specs.Prelude.{◌≡◌, ◌+◌, ◌<◌, ◌≤◌, Some, [], ◌∷◌, ◌++◌, length, drop, take, slice_get};
-ghost use Rattle.topology_stack.specs.codings.Links.{set_all, total};
+ghost use Rattle.topology_stack.specs.Links.{set_all, total};
 
 use arrayvec::ArrayVec;
 use std::marker::Model;
@@ -18,7 +18,7 @@ pub(crate) struct ChildLists {
 
 impl Model for ChildLists {
     ghost use Rattle.std.specs.Prelude.{List, ℕ, ◌≤◌, length};
-    ghost use Rattle.topology_stack.specs.codings.Links.{cut, Rises};
+    ghost use Rattle.topology_stack.specs.Links.{cut, Rises};
 
     ghost Value = { List (List ℕ) };
 

@@ -4,7 +4,7 @@ ghost use Rattle.self_id.specs.declared.fault.GroupFault.{GroupFault};
 ghost use Rattle.self_id.specs.Group.{StandsAt};
 ghost use Rattle.self_id.specs.Refused.{GroupRefused};
 ghost use Rattle.topology_stack.specs.declared.fault.TreeFault.TheVariants.{Group};
-ghost use Rattle.topology_stack.specs.codings.Waiting.{after_node};
+ghost use Rattle.topology_stack.specs.Waiting.{after_node};
 ghost use Rattle.topology_stack.specs.Tree.{Tree};
 ghost use Rattle.topology_stack.specs.Refused.{Refused};
 ghost use Rattle.topology_stack.specs.Elect.{is_candidate};

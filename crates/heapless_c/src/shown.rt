@@ -4,7 +4,7 @@ ghost use Rattle.self_id.specs.declared.standard.Standard.{Standard};
 ghost use Rattle.self_id.specs.Node.{Node, downs};
 ghost use Rattle.self_id.specs.Group.{group, BeginsWith};
 ghost use Rattle.topology_stack.specs.Tree.{Tree, walk};
-ghost use Rattle.topology_stack.specs.codings.Stored.{ends_of};
+ghost use Rattle.topology_stack.specs.Stored.{ends_of};
 ghost use Rattle.c_records.specs.Shown.{no_slot, IsSlotOf, IsNodeRecord, AreShown};
 ghost use Rattle.heapless_c.specs.Reading.{IsLinked, IsPlaced};
 

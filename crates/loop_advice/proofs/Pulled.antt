@@ -1,33 +1,16 @@
 -- The pulls of a valid advice, taken out one after the other.
-use Rattle.std.proofs.Common.{◌≡◌, ◌≢◌, ◌↔◌, ◌⊎◌, ℕ, ◌+◌, ◌<◌, ◌≤◌, inl, inr, Bool, true, List, [], ◌∷◌, ◌++◌, Option, Some, None, length, map, slice_get, take, drop, suc, get_or, is_some, refl, sym, ap, subst, ◌∙◌, arith, nat_lt}
-use Rattle.std.proofs.lemmas.Bool.Decides.{nat_tests}
+use Rattle.std.proofs.Common.{◌≡◌, ◌≢◌, ℕ, ◌+◌, ◌<◌, inl, inr, List, [], ◌∷◌, ◌++◌, Some, length, slice_get, take, drop, suc, get_or, refl, sym, ap, subst, ◌∙◌}
 use Rattle.std.proofs.lemmas.List.{append_assoc}
 use Rattle.cabling.specs.declared.cable.End.{End}
 use Rattle.cabling.specs.declared.cable.Cable.{Cable}
-use Rattle.cabling.specs.Wiring.{Wiring, IsCabling, HasEnd, far}
-use Rattle.cabling.specs.Change.{TakenOut, pull_fault, has_node, has_port, is_plugged}
-use Rattle.cabling.proofs.Lemmas.{none_some, plugged}
-use Rattle.loop_advice.specs.Cables.{turned, IsSame, Lists, HasNoneTwice, IsCableOf, HoldsEachOnce}
+use Rattle.cabling.specs.Wiring.{Wiring, IsCabling, far}
+use Rattle.cabling.specs.Change.{TakenOut}
+use Rattle.cabling.proofs.Lemmas.{none_some, one_other}
+use Rattle.loop_advice.specs.Cables.{turned, Lists, HasNoneTwice, IsCableOf}
 use Rattle.loop_advice.specs.Certificate.{IsCertificate}
 use Rattle.loop_advice.specs.Pulled.{ArePulled}
-use Rattle.loop_advice.proofs.Listed.{lists_append, lists_left, lists_right, lists_last, lists_turned, lists_at, read_at, take_next, parted, once_parts}
+use Rattle.loop_advice.proofs.Listed.{lists_left, lists_right, lists_last, lists_turned, lists_at, read_at, take_next, parted, once_parts}
 use Rattle.loop_advice.proofs.Marking.{cable}
-
--- a cable that is plugged in can be pulled
-pub can-pull : (c : Wiring) (a b : End) → far c a ≡ Some b → pull_fault c a ≡ None
-can-pull c a b at =
-    let there : HasEnd c a = plugged c a b at in
-    let node : has_node c a ≡ true = let h = there.node in grind (arith, nat_tests) in
-    let port : has_port c a ≡ true = let h = there.port in grind (arith, nat_tests) in
-    let here : is_plugged c a ≡ true = ap (λ (o : Option End). is_some o) at in
-    rw (node, port, here) refl
-
-one-end : (o : Option End) (x y : End) → o ≡ Some x → o ≡ Some y → x ≡ y
-one-end o x y e f = ap (λ (p : Option End). get p) (sym e ∙ f)
-  where
-    get : Option End → End
-    get None = x
-    get (Some z) = z
 
 same-ends : (x : Cable) (a b : End) → a ≡ x.a → b ≡ x.b → cable a b ≡ x
 same-ends x a b e f = ap (λ (p : End). cable p b) e ∙ ap (λ (p : End). cable x.a p) f
@@ -71,8 +54,8 @@ pulled-next old mid new xs x is p t = record {
     from : (a b : End) → (far old a ≡ Some b) × (Lists (xs ++ x ∷ []) (cable a b) → ⊥) → far new a ≡ Some b
     from a b h =
         let at : far mid a ≡ Some b = (p.left a b).1 (h.0, λ l. h.1 (lists_left xs (x ∷ []) (cable a b) l)) in
-        let not_a : a ≢ x.a = λ f. h.1 (lists_right xs (x ∷ []) (cable a b) (inl (inl (same-ends x a b f (one-end (far mid a) b x.b at (ap (far mid) f ∙ t.joined)))))) in
-        let not_b : a ≢ x.b = λ f. h.1 (lists_right xs (x ∷ []) (cable a b) (inl (inr (same-ends (turned x) a b f (one-end (far mid a) b x.a at (ap (far mid) f ∙ back)))))) in
+        let not_a : a ≢ x.a = λ f. h.1 (lists_right xs (x ∷ []) (cable a b) (inl (inl (same-ends x a b f (one_other (far mid a) b x.b at (ap (far mid) f ∙ t.joined)))))) in
+        let not_b : a ≢ x.b = λ f. h.1 (lists_right xs (x ∷ []) (cable a b) (inl (inr (same-ends (turned x) a b f (one_other (far mid a) b x.a at (ap (far mid) f ∙ back)))))) in
         t.others.others a not_a not_b ∙ at
 
 -- ---- the pulls of an advice
@@ -98,6 +81,6 @@ pub pulled-step :
     ArePulled old new (take (i + 1) pulls)
 pulled-step old mid new node pulls kept i d b is valid p inside t =
     let x : Cable = get_or pulls i d in
-    let end : b ≡ x.b = one-end (far mid x.a) b x.b t.joined (still-plugged old mid node pulls kept i d valid p inside) in
+    let end : b ≡ x.b = one_other (far mid x.a) b x.b t.joined (still-plugged old mid node pulls kept i d valid p inside) in
     subst (λ (ys : List Cable). ArePulled old new ys) (sym (take_next pulls i x (read_at pulls i d inside)))
     (pulled-next old mid new (take i pulls) x is p (subst (λ (e : End). TakenOut mid new x.a e) end t))

@@ -7,7 +7,7 @@ mod kernels;
 mod list;
 mod pairs;
 
-pub use capture::{capture_is_read_back, good_pairs_are_a_capture};
+pub use capture::{capture_is_read_back, capture_of, good_pairs_are_a_capture};
 pub use kernels::{first_bad_pair, min_row, same_list};
 pub use list::{OutOfMemory, QuadList};
 pub use pairs::{PairFault, firsts, pairs_of, quads_of};

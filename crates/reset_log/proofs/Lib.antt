@@ -1,7 +1,6 @@
 pub mod Digits
 pub mod Parts
 pub mod Commas
-pub mod At
 pub mod Update
 pub mod OneDrawing
 pub mod Judged
@@ -15,5 +14,4 @@ pub mod Answered
 pub mod Fronts
 mod Unmarked
 pub mod Lemmas
-pub mod SomePacket
 pub mod SomeText

@@ -4,16 +4,12 @@ use Rattle.std.specs.Prelude.{if◌then◌else◌, map, nat_lt, nat_le, slice_in
 use Rattle.std.specs.List.{slice_split}
 use Rattle.std.proofs.lemmas.Bool.{eqb-false}
 use Rattle.std.proofs.lemmas.Bool.Decides.{nat_tests}
-use Rattle.std.proofs.lemmas.Option.{slice_get_cases}
 use Rattle.quad_lanes.specs.Pairs.{firsts, first_bad_pair}
 use Rattle.phy_packet.specs.declared.packet.PhyPacket.{PhyPacket}
 use Rattle.self_id.specs.declared.standard.Standard.{Standard}
-use Rattle.self_id.specs.Node.{Node}
 use Rattle.topology_stack.specs.Tree.{Tree, walk}
-use Rattle.topology_stack.proofs.Lemmas.{one_of, some_node}
-use Rattle.bus_manager.proofs.Lemmas.{is_hops}
-use Rattle.bus_manager.specs.Hops.{IsHops}
-use Rattle.view_text.specs.Drawing.{IsDrawing, IsRoot, drawing}
+use Rattle.topology_stack.proofs.Lemmas.{one_of}
+use Rattle.view_text.specs.Drawing.{IsDrawing}
 use Rattle.reset_log.specs.declared.line.Origin.{Origin}
 use Rattle.reset_log.specs.declared.line.Origin.TheVariants.{Controller, Core}
 use Rattle.reset_log.specs.declared.line.Reset.{Reset}
@@ -24,7 +20,7 @@ use Rattle.reset_log.specs.declared.hear.ListFault.TheVariants.{Cut, BadInverse,
 use Rattle.reset_log.specs.Noted.{Noted, nothing, is_repeated, last_of, compared, after, behind_loss, waiting, begun_at, with_packet, taken_by}
 use Rattle.reset_log.specs.declared.cards.Known.{Known}
 use Rattle.reset_log.specs.Number.{are_digits, of_digits, value, number_of}
-use Rattle.reset_log.specs.Lists.{is_comma, before, numbers_of, between_commas, between_blanks, unclosed, within, spaced, list_in, list_of, bare}
+use Rattle.reset_log.specs.Lists.{is_comma, before, numbers_of, between_commas, between_blanks, unclosed, within, spaced, list_in, bare}
 use Rattle.reset_log.specs.Words.{behind, to_field, words_of, value_of}
 use Rattle.reset_log.specs.Line.{named, is_lost, said_or, list_field, reset_of, event, of_words, line_of}
 use Rattle.reset_log.specs.Said.{said, is_driver}
@@ -40,7 +36,7 @@ use Rattle.reset_log.specs.Shown.{IsBody, the_same, drawn, IsListShown, is_refus
 use Rattle.reset_log.specs.Log.{lines_of}
 use Rattle.reset_log.specs.OneText.{EachLogHasAText}
 use Rattle.reset_log.proofs.InOrder.{told_some_in}
-use Rattle.reset_log.proofs.SomePacket.{some-packet}
+use Rattle.view_text.proofs.Lemmas.{some-packet, some-drawing}
 
 -- ---- the quadlets of a list
 
@@ -320,20 +316,6 @@ some_before origin list at f =
 
 -- ---- a tree has a text
 
-some_root : (t : Tree) → (root : Node) × IsRoot t root
-some_root t = elim (slice_get_cases (walk t) (length (walk t) - 1)).1 [
-  | inl n ↦ (n.0, n.2)
-  | inr none ↦ absurd (omega (arith, none.0, some_node t))
-]
-
-some_drawing_with : (t : Tree) (hops : ℕ) → IsHops t hops → (text : List ℕ) × IsDrawing t text
-some_drawing_with t hops are =
-    let root = some_root t in
-    (drawing t hops root.0.attrs.gap, record { hops = hops; root = root.0; are_hops = are; is_root = root.1; text_is = refl })
-
-some_drawing : (t : Tree) → (text : List ℕ) × IsDrawing t text
-some_drawing t = some_drawing_with t _ (is_hops t)
-
 same_or_not : (a b : List ℕ) → (a ≡ b) ⊎ (a ≡ b → ⊥)
 same_or_not [] [] = inl refl
 same_or_not [] (y ∷ ys) = inr (λ e. absurd cc)
@@ -347,10 +329,10 @@ same_or_not (x ∷ xs) (y ∷ ys) = go (eqb x y) refl (same_or_not xs ys)
     go false e rest = inr (λ f. eqb-false _ _ e (let first : x ≡ y = cc in first))
 
 some_body : (before : Option Tree) (t : Tree) → (text : List ℕ) × IsBody before t text
-some_body None t = let d = some_drawing t in (d.0, drawn d.1 (λ old is. absurd cc))
+some_body None t = let d = some-drawing t in (d.0, drawn d.1 (λ old is. absurd cc))
 some_body (Some old) t =
-    let d = some_drawing t in
-    let o = some_drawing old in
+    let d = some-drawing t in
+    let o = some-drawing old in
     elim (same_or_not o.0 d.0) [
       | inl same ↦ (codes "as before\n", the_same d.0 d.1 (old, refl, subst (λ (l : List ℕ). IsDrawing old l) same o.1) refl)
       | inr other ↦ (d.0, drawn d.1 (λ tree is. (o.0, subst (λ (x : Tree). IsDrawing x o.0) (let same : old ≡ tree = cc in same) o.1, other)))

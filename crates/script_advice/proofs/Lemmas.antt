@@ -3,6 +3,6 @@
 -- No script has two advices.
 pub use Rattle.script_advice.proofs.OneAdvice.{end-of}
 -- Cables are pulled one after the other.
-pub use Rattle.script_advice.proofs.Pulling.{can-pull, first-pullable, next-pullable, pulls-append, rest-pullable}
+pub use Rattle.script_advice.proofs.Pulling.{first-pullable, next-pullable, pulls-append, rest-pullable}
 -- What is advised on a bus that has settled.
 pub use Rattle.script_advice.proofs.Settled.{named-now, pullable-now, reported-pullable}

@@ -10,7 +10,7 @@ use Rattle.cabling.specs.NodeSet.{Nodes, Holds, IsWithin}
 use Rattle.cabling.specs.Component.{IsComponent}
 use Rattle.cabling.specs.Looped.{HasTwo, IsLooped}
 use Rattle.cabling.specs.Change.{TakenOut}
-use Rattle.cabling.proofs.Lemmas.{none_some, same_length, shared, was-there}
+use Rattle.cabling.proofs.Lemmas.{none_some, same_length, shared, was-there, small-set}
 use Rattle.cable_world.specs.World.{CableWorld}
 use Rattle.cable_world.specs.Turn.{turns_after}
 use Rattle.cable_world.specs.Outcome.{HasNoLoop as HasNoLoopIn, OneOutcomeAtMost}
@@ -23,7 +23,6 @@ use Rattle.settle.specs.declared.report.Part.{Part}
 use Rattle.settle.specs.declared.report.Report.{Report}
 use Rattle.settle.specs.Report.{IsPart, IsReport, quiet_turns_of}
 use Rattle.settle.specs.Reported.{IsReported}
-use Rattle.settle.proofs.Lemmas.{small-set}
 use Rattle.script_advice.specs.declared.advice.LoopAdvice.{LoopAdvice}
 use Rattle.script_lines.specs.declared.kind.Kind.TheVariants as Kind
 use Rattle.script_told.specs.Bus.{Bus, Notes}
@@ -35,7 +34,6 @@ use Rattle.script_advice.proofs.Pulling.{pull-taken, next-pullable}
 use Rattle.script_advice.proofs.Settled.{reported-pullable}
 use Rattle.script_told.proofs.Lemmas.{text-in, IsCabled, bus-in, do-act, do-settle, Says, is-none, settles-say, settled-so}
 use Rattle.script_advice.proofs.OneAdvice.{end-of, end-cabled, no-fault, same-report}
-use Rattle.script_told.specs.EachReport.{IsReportOf}
 use Rattle.script_told.specs.SomeAnswer.{IsReachedBus}
 use Rattle.settle.specs.ReadBack.{ListsAreReadBack}
 use Rattle.settle.specs.ReportedOutcome.{ReportedIsOutcome}

@@ -1,12 +1,10 @@
 -- Cables are pulled one after the other.
-use Rattle.std.proofs.Common.{◌≡◌, arith, true, inl, inr, Option, None, Some, List, [], ◌∷◌, ◌++◌, refl, sym, ◌∙◌, ap, subst}
-use Rattle.std.specs.Prelude.{is_some}
-use Rattle.std.proofs.lemmas.Bool.Decides.{nat_tests}
+use Rattle.std.proofs.Common.{◌≡◌, inl, inr, Option, None, Some, List, [], ◌∷◌, ◌++◌, sym, ◌∙◌, ap, subst}
 use Rattle.cabling.specs.declared.cable.End.{End}
 use Rattle.cabling.specs.declared.cable.Cable.{Cable}
-use Rattle.cabling.specs.Wiring.{Wiring, IsCabling, HasEnd, far}
-use Rattle.cabling.specs.Change.{TakenOut, has_node, has_port, is_plugged, pull_fault}
-use Rattle.cabling.proofs.Lemmas.{cabling_taken, one_other, plugged, taken_by_writes}
+use Rattle.cabling.specs.Wiring.{Wiring, IsCabling, far}
+use Rattle.cabling.specs.Change.{TakenOut}
+use Rattle.cabling.proofs.Lemmas.{cabling_taken, one_other, taken_by_writes}
 use Rattle.port_state.specs.Machine.{node_pulled}
 use Rattle.cable_world.specs.declared.act.Act.TheVariants.{Pull}
 use Rattle.cable_world.specs.World.{CableWorld, put}
@@ -35,15 +33,6 @@ pull-taken a b w v at h is =
     let same : v.cabling ≡ c =
     ap (λ (u : CableWorld). u.cabling) is ∙ from in
     subst (λ (d : Wiring). TakenOut w.cabling d a b) (sym same) (taken_by_writes w.cabling a b h at)
-
--- a cable that is plugged in can be pulled
-pub can-pull : (c : Wiring) (a b : End) → far c a ≡ Some b → pull_fault c a ≡ None
-can-pull c a b at =
-    let there : HasEnd c a = plugged c a b at in
-    let node : has_node c a ≡ true = let h = there.node in grind (arith, nat_tests) in
-    let port : has_port c a ≡ true = let h = there.port in grind (arith, nat_tests) in
-    let here : is_plugged c a ≡ true = ap (λ (o : Option End). is_some o) at in
-    rw (node, port, here) refl
 
 -- ---- cables that are left
 

@@ -6,7 +6,7 @@ use Rattle.topology_stack.specs.Tree.{Tree}
 use Rattle.topology_stack.specs.OneAnswer.{NoListHasTwoTrees}
 use Rattle.cabling.specs.NodeSet.{Holds}
 use Rattle.cabling.specs.Existence.{HasComponent, ComponentsExist}
-use Rattle.cabling.proofs.Lemmas.{Loopless, loopless}
+use Rattle.cabling.proofs.Lemmas.{Loopless, loopless, small-set}
 use Rattle.port_state.specs.Machine.{PortNode}
 use Rattle.cable_world.specs.declared.act.Act.{Act}
 use Rattle.cable_world.specs.World.{CableWorld, NodeNumber, NodeSet, IsPowerOnWorld}
@@ -20,7 +20,7 @@ use Rattle.cable_world.specs.Run.{Event, acts, holds, turns, Runs, IsReached}
 use Rattle.cable_world.proofs.Lemmas.{some-of, plain-quiet, reached-comes, reached-forced, reached-lawful, act-reached, after-cabling}
 use Rattle.outcomes.specs.Settled.{turn_count}
 use Rattle.settle.specs.Report.{IsTreeFrom, quiet_turns_of}
-use Rattle.settle.proofs.Lemmas.{found, small-set, turns-enough}
+use Rattle.settle.proofs.Lemmas.{found, turns-enough}
 use Rattle.world_laws.specs.Freshness.{IsTouchedIn, PowerOnIsFresh, ActsMakeFreshOnceSettled, FreshRootsSettle}
 use Rattle.script_lines.specs.declared.kind.Kind.{Kind}
 use Rattle.script_lines.specs.declared.kind.Kind.TheVariants.{Twice, Late, TooManyNodes}

@@ -26,9 +26,10 @@ use Rattle.script_told.proofs.Lemmas.{act-leads, do-act, IsEnd}
 use Rattle.script_advice.specs.declared.advice.LoopAdvice.{LoopAdvice}
 use Rattle.script_advice.specs.Advice.{RunsTo, if_loop, loops_of, IsAdviceFor, AreAdvices, all_pulls, PullsLead, advice_text, after_text, Advises, told_at_end}
 use Rattle.script_advice.specs.Advising.{ArePullable}
-use Rattle.script_advice.proofs.Lemmas.{can-pull, next-pullable, reported-pullable, end-of}
+use Rattle.script_advice.proofs.Lemmas.{next-pullable, reported-pullable, end-of}
 use Rattle.script_bus.specs.SomeRun.{HasRun, EachScriptHasARun}
 use Rattle.script_bus.specs.SomeAdvice.{HasSomeAdvice, EachScriptHasAnAdvice}
+use Rattle.cabling.proofs.Lemmas.{can-pull}
 
 -- ---- an advice for each loop
 

@@ -12,30 +12,10 @@ use crate::fault::tell_stop;
 use crate::record::ScriptFaultRecord;
 use crate::script::MAX_SCRIPT;
 use c_border::{NO_MEMORY, NO_NAME, TOO_LONG, tell_bytes};
+use quad_lanes::capture_of;
 use script_run::list_script;
 use std::alloc::Global;
 use topology_stack::{Name, OutOfMemory};
-
-/// Appends a quadlet and its inverse, each with its highest byte first.
-fn put_pair(out: &mut Vec<u8>, quad: u32) -> Result<(), OutOfMemory>
-    ensures { OnOk result (out.new.items
-        ≡ out.old.items ++ (to_be_bytes w32 quad ++ to_be_bytes w32 (inverse quad))) }
-{
-    out.extend_from_slice(&quad.to_be_bytes())?;
-    out.extend_from_slice(&(!quad).to_be_bytes())?;
-    Ok(())
-}
-
-/// The capture of a list of quadlets.
-fn capture_of(alloc: Global, list: &[u32]) -> Result<Vec<u8>, OutOfMemory>
-    ensures { IfOk result (λ bytes. bytes.items ≡ capture list.now) }
-{
-    let mut bytes = Vec::new(alloc);
-    for quad in list {
-        put_pair(&mut bytes, *quad)?;
-    }
-    Ok(bytes)
-}
 
 /// Tells the capture of a list.
 fn tell_capture(alloc: Global, list: &[u32], place: &mut [u8], needed: &mut usize) -> u32

@@ -1,5 +1,4 @@
 pub mod Parts
-pub mod Joined
 pub mod Usages
 pub mod Columns
 pub mod WordColumns

@@ -12,7 +12,9 @@ use Rattle.self_id.specs.Refused.{GroupRefused}
 pub use Rattle.self_id.specs.codings.Reading.{read_at}
 use Rattle.self_id.proofs.Taken.{refuses_end, refuses_other, refuses_owner, refuses_order}
 use Rattle.self_id.proofs.Sound.{stopped, grouped, reading, three, eleven, sixteen, nineteen, full, width_of}
-pub use Rattle.self_id.proofs.Again.{group3, group11, group16}
+pub use Rattle.self_id.proofs.Again.{field_below, group3, group11, group16}
+-- The bits of statuses.
+pub use Rattle.self_id.proofs.Fields.{fields_below, fields_small, status_below}
 use Rattle.self_id.proofs.Again.{again, stops_at, group19, group27}
 -- Of the packets of a group the first alone is a packet zero, so a list of groups has as many packet
 -- zeros as nodes.

@@ -4,14 +4,10 @@
 pub use Rattle.settle.proofs.Found.{FoundTree, found, found-tree}
 -- A world has one report at most.
 pub use Rattle.settle.proofs.OneReport.{one-over-cabling}
--- The list of a reported tree is read back.
-pub use Rattle.settle.proofs.ReadBack.{small-set}
 -- Trees that are seen with different labels have their nodes in one order.
 pub use Rattle.settle.proofs.Relabelled.{one-order}
 -- A component came to a tree whichever number stands for its set of nodes.
 pub use Rattle.settle.proofs.SameNodes.{SameNodes, same-component, same-tree}
--- What a node of a world shows.
-pub use Rattle.settle.proofs.Shown.{attrs-fit}
 -- How many quiet turns a world is given, and that these are enough.
 pub use Rattle.settle.proofs.QuietCount.{turns-enough}
 pub use Rattle.settle.proofs.TurnsGiven.{sized}

@@ -7,7 +7,7 @@ use Rattle.topology_stack.specs.Tree.{emits}
 use Rattle.cabling.specs.Wiring.{IsCabling}
 use Rattle.cabling.specs.NodeSet.{Holds}
 use Rattle.cabling.specs.Sees.{numbers}
-use Rattle.cabling.proofs.Lemmas.{none_of_zero, some_node, shared}
+use Rattle.cabling.proofs.Lemmas.{none_of_zero, some_node, shared, small-set}
 use Rattle.cable_world.specs.World.{CableWorld, NodeNumber, NodeSet}
 use Rattle.cable_world.specs.Run.{IsReached}
 use Rattle.cable_world.specs.Outcome.{loop, tree, contention, IsLoop}
@@ -18,7 +18,6 @@ use Rattle.settle.specs.declared.report.Part.{Part}
 use Rattle.settle.specs.declared.report.Report.{Report}
 use Rattle.settle.specs.Report.{AreThere, IsGreatest, Drew, LastChanged, IsPart, StartsBefore, AreParts, IsReport}
 use Rattle.settle.specs.Reported.{IsReported, ReportsLoop}
-use Rattle.settle.proofs.ReadBack.{small-set}
 
 -- ---- lists of parts that rise
 

@@ -1,24 +1,19 @@
 -- The list of a reported tree is read back.
-use Rattle.std.proofs.Common.{◌≡◌, ℕ, ◌-◌, ◌^◌, ◌<◌, inl, inr, None, List, All, length, sym, ◌∙◌, ap, subst, arith, bit_and}
-use Rattle.std.specs.Int.{bit_at}
-use Rattle.std.proofs.lemmas.Bool.{cases_lt}
-use Rattle.std.proofs.lemmas.Nat.{and_le_r, pow_pos}
-use Rattle.std.proofs.lemmas.Nat.Bits.{bit_at-lt, bit_at_and, bit_at_ones, same_from_bits}
+use Rattle.std.proofs.Common.{◌≡◌, ℕ, ◌-◌, ◌^◌, ◌<◌, None, List, All, length, sym, ◌∙◌, ap, subst, arith}
 use Rattle.std.proofs.lemmas.List.{length-map}
 use Rattle.std.proofs.lemmas.List.Elements.{All-map, All-weaker}
 use Rattle.self_id.specs.declared.standard.Standard.TheVariants.{Ieee2000}
 use Rattle.topology_stack.specs.Tree.{Tree, walk, emits}
 use Rattle.topology_stack.specs.OneAnswer.{NoListHasTwoTrees}
-use Rattle.cabling.specs.NodeSet.{Holds}
 use Rattle.cabling.specs.Component.{IsComponent}
 use Rattle.cabling.specs.Labels.{labels}
 use Rattle.cabling.specs.Sees.{numbers}
-use Rattle.cabling.proofs.Lemmas.{visits, at_root, shown_node, clear_bit, one-tree, Fit, labels_fit, bus_seen, walk_seen, good_at, good_root, good_visits, Loopless, loopless, tree_few, node_of, nodes-visits, length-visits, shared}
+use Rattle.cabling.proofs.Lemmas.{visits, at_root, shown_node, one-tree, Fit, labels_fit, bus_seen, walk_seen, good_at, good_root, good_visits, Loopless, loopless, tree_few, node_of, nodes-visits, length-visits, shared, small-set}
 use Rattle.cable_world.specs.World.{CableWorld}
 use Rattle.cable_world.specs.Lawful.{IsWellFormed}
 use Rattle.cable_world.specs.Run.{IsReached}
 use Rattle.cable_world.specs.Outcome.{IsTree, attrs_now}
-use Rattle.cable_world.proofs.Lemmas.{lawful-now}
+use Rattle.cable_world.proofs.Lemmas.{lawful-now, attrs-fit}
 use Rattle.port_state.specs.Group.{shown_attrs}
 use Rattle.port_state.specs.Machine.{PortNode}
 use Rattle.settle.specs.declared.report.Outcome.{Outcome}
@@ -28,21 +23,6 @@ use Rattle.settle.specs.declared.report.Report.{Report}
 use Rattle.settle.specs.Report.{AreThere, IsPart, IsReport}
 use Rattle.settle.specs.Reported.{IsReported}
 use Rattle.settle.specs.ReadBack.{IsReadBack, IsTheCables, IfTree, AtTrees}
-use Rattle.settle.proofs.Shown.{attrs-fit}
-
--- a number all of whose bits are below k is below 2 ^ k
-pub small-set : (set k : ℕ) → ((i : ℕ) → Holds set i → i < k) → set < 2 ^ k
-small-set set k within =
-    let same : set ≡ bit_and set (2 ^ k - 1) = same_from_bits set (bit_and set (2 ^ k - 1)) (λ i. bits i) in
-    omega (arith, same, and_le_r set (2 ^ k - 1), pow_pos k)
-  where
-    bits : (i : ℕ) → bit_at set i ≡ bit_at (bit_and set (2 ^ k - 1)) i
-    bits i = elim (cases_lt i k) [
-      | inl less ↦ sym (bit_at_and set (2 ^ k - 1) i ∙ rw (bit_at_ones k i less) (omega (arith, bit_at-lt set i)))
-      | inr more ↦
-          let none : bit_at set i ≡ 0 = clear_bit set i (λ h. omega (arith, within i h, more)) in
-          none ∙ sym (bit_at_and set (2 ^ k - 1) i ∙ rw (none) (omega arith))
-    ]
 
 module _ (w : CableWorld) (formed : IsWellFormed w) where
   entries : length (attrs_now w) ≡ length w.cabling

@@ -1,17 +1,12 @@
 -- What a node of a world shows.
-use Rattle.std.proofs.Common.{◌≡◌, ◌+◌, ℕ, ◌<◌, List, ◌++◌, [], ◌∷◌, All, map, take, length, slice_get, get_or, ap, sym, ◌∙◌, arith}
+use Rattle.std.proofs.Common.{◌≡◌, ◌+◌, ℕ, ◌<◌, List, ◌++◌, [], ◌∷◌, map, take, length, slice_get, get_or, ap, sym, ◌∙◌}
 use Rattle.std.proofs.lemmas.List.{map_more}
-use Rattle.std.proofs.lemmas.List.Elements.{All-map}
-use Rattle.std.proofs.lemmas.Option.{slice_get_within, slice_get-get_or, get_or_from_slice_get}
+use Rattle.std.proofs.lemmas.Option.{slice_get_within, get_or_from_slice_get}
 use Rattle.self_id.specs.declared.node.Attrs.{Attrs}
-use Rattle.self_id.specs.Node.{FitBits}
-use Rattle.port_state.specs.declared.states.NodeState.{NodeState}
 use Rattle.port_state.specs.Group.{shown_attrs}
 use Rattle.port_state.specs.Machine.{PortNode}
-use Rattle.port_state.specs.Valid.{IsBounded}
 use Rattle.cable_world.specs.World.{CableWorld}
-use Rattle.cable_world.specs.Lawful.{IsWellFormed}
-use Rattle.cable_world.specs.Outcome.{AtNode, attrs_now}
+use Rattle.cable_world.specs.Outcome.{AtNode}
 use Rattle.cable_world.proofs.Lemmas.{some-of}
 
 -- a node of which something holds is there
@@ -31,19 +26,3 @@ attrs-more w k attrs a h so_far =
     let at : get_or w.nodes k s.0 ≡ s.0 = get_or_from_slice_get w.nodes k s.0 s.0 s.1 in
     let is : a ≡ shown_attrs (get_or w.nodes k s.0).state = s.2 ∙ sym (ap (λ (x : PortNode). shown_attrs x.state) at) in
     rw (so_far, is) (sym (map_more (λ (x : PortNode). shown_attrs x.state) w.nodes k s.0 inside))
-
--- ---- attributes fit their bits
-
-shown-fit : (x : NodeState) → IsBounded x → FitBits (shown_attrs x)
-shown-fit x b = record {
-  gap = omega (arith, b.gap);
-  speed = b.attrs.speed;
-  delay = b.attrs.delay;
-  power = b.attrs.power;
-}
-
-pub attrs-fit : (w : CableWorld) → IsWellFormed w → All FitBits (attrs_now w)
-attrs-fit w f =
-    All-map FitBits (λ (x : PortNode). shown_attrs x.state) w.nodes
-    (λ k d inside. shown-fit (get_or w.nodes k d).state
-    (f.nodes k (get_or w.nodes k d) (slice_get-get_or w.nodes k d inside)).valid.bounded)

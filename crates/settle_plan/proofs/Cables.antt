@@ -3,11 +3,13 @@ use Rattle.std.proofs.Common.{◌≡◌, ℕ, zero, suc, ◌+◌, ◌-◌, ◌<�
 use Rattle.std.specs.Prelude.{slice_get}
 use Rattle.topology_stack.specs.Tree.{Label, Tree, branch, Slots, no_more, absent, unplugged, up, down, walk, walk_below}
 use Rattle.topology_stack.specs.Far.{slot_ends, ends_from, ends_below}
-use Rattle.speed_map.proofs.Lemmas.{Ends, length-walk, slice_get-left, slice_get-right, last, length-ends_from, length-ends_below}
+use Rattle.speed_map.proofs.Lemmas.{Ends, last, length-ends_from, length-ends_below}
 use Rattle.cabling.specs.declared.cable.End.{End}
 use Rattle.cabling.specs.Wiring.{Wiring, ports_of, far, IsCabling}
 use Rattle.cabling.specs.Sees.{Sees, SeesFrom, numbers, numbers_below}
 use Rattle.cabling.proofs.Lemmas.{end_at, RowAt, row_all, row_head, row_tail}
+use Rattle.topology_stack.proofs.Lemmas.{length-walk}
+use Rattle.quad_lanes.proofs.Lemmas.{slice_get-left, slice_get-right}
 
 -- a slot leads to an ID exactly where a cable leads to the node of this ID
 abbrev pub Agree : List ℕ → Option (Option ℕ) → Option End → Type 0

@@ -11,7 +11,7 @@ use Rattle.cabling.specs.NodeSet.{Holds}
 use Rattle.cabling.specs.Component.{IsComponent}
 use Rattle.cabling.specs.Labels.{labels}
 use Rattle.cabling.specs.Sees.{Sees, numbers}
-use Rattle.cabling.proofs.Lemmas.{labels_fit, bus_seen, Loopless, tree_within, tree_once, tree_few, shared, seen_loopless}
+use Rattle.cabling.proofs.Lemmas.{labels_fit, bus_seen, Loopless, tree_within, tree_once, tree_few, shared, seen_loopless, small-set}
 use Rattle.port_state.specs.Config.{config_packet}
 use Rattle.port_state.specs.Group.{shown_attrs}
 use Rattle.port_state.specs.Machine.{PortNode}
@@ -20,9 +20,9 @@ use Rattle.cabling.specs.declared.cable.CableFault.TheVariants.{NoNode}
 use Rattle.cable_world.specs.declared.act.Act.TheVariants.{Config}
 use Rattle.cable_world.specs.Act.{IsConfigPacket, act_fault}
 use Rattle.cable_world.specs.Lawful.{IsWellFormed, IsLawful}
-use Rattle.settle.proofs.Lemmas.{attrs-fit, small-set, SameNodes, same-component, same-tree}
+use Rattle.settle.proofs.Lemmas.{SameNodes, same-component, same-tree}
 use Rattle.cable_world.specs.Outcome.{IsTree, Shows, attrs_now}
-use Rattle.cable_world.proofs.Lemmas.{some-of, some-at, some-same}
+use Rattle.cable_world.proofs.Lemmas.{some-of, some-at, some-same, attrs-fit}
 use Rattle.outcomes.proofs.Lemmas.{in-read, one-place}
 use Rattle.bus_manager.specs.Gap.{gaps, gap_of}
 use Rattle.root_plan.specs.declared.choice.RootPlan.{RootPlan}

@@ -3,8 +3,9 @@ use Rattle.std.proofs.Common.{◌≡◌, ℕ, zero, suc, ◌+◌, ◌-◌, ◌<�
 use Rattle.std.specs.Prelude.{slice_get}
 use Rattle.topology_stack.specs.Tree.{Tree, branch, Slots, no_more, absent, unplugged, up, down, walk, walk_below}
 use Rattle.topology_stack.specs.Far.{slot_ends}
-use Rattle.speed_map.proofs.Nodes.{Ends, NodeT, NodeS, length-walk, some_node, withinS}
+use Rattle.speed_map.proofs.Nodes.{Ends, NodeT, NodeS, withinS}
 use Rattle.speed_map.proofs.Kin.{Child, end_of}
+use Rattle.topology_stack.proofs.Lemmas.{length-walk, some_node}
 
 -- a node of a tree whose subtree begins behind another node
 pub record BehindT (from parent : ℕ) (t : Tree) (x y : ℕ) : Type 0 where

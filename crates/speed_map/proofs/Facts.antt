@@ -9,9 +9,10 @@ use Rattle.topology_stack.specs.Tree.{Tree, branch, walk, walk_below, IsBusTree}
 use Rattle.topology_stack.specs.Far.{Far, ends, slot_ends}
 use Rattle.speed_map.specs.Path.{node_speed, speed_at}
 use Rattle.speed_map.specs.codings.Sweep.{firsts_from, first_of, IsUnder}
-use Rattle.speed_map.proofs.Nodes.{Ends, NodeT, NodeS, length-walk, nodeT, toldT, withinT, withinS}
+use Rattle.speed_map.proofs.Nodes.{Ends, NodeT, NodeS, nodeT, toldT, withinT, withinS}
 use Rattle.speed_map.proofs.Kin.{Kin, child, outer, above, kinT, coverT, nestedT, raisedS, lastT, no_up}
 use Rattle.speed_map.proofs.Apart.{apartT}
+use Rattle.topology_stack.proofs.Lemmas.{one_end, length-walk}
 
 record NodeAt (t : Tree) (id : ℕ) : Type 0 where
   e : Ends
@@ -46,12 +47,7 @@ kin : (t : Tree) (id slot k : ℕ) → id < length (walk t) → Far t id slot (S
     Kin 0 63 t id (first_of t id) k
 kin t id slot k lt far = let h = node_at t id lt in kinT 0 63 t id h.e (first_of t id) slot k h.node (far_end t id slot (Some k) h far)
 
--- one slot has one end
-pub one_end : (t : Tree) (id slot : ℕ) (q r : Option ℕ) → Far t id slot q → Far t id slot r → q ≡ r
-one_end t id slot q r f g =
-    let same : f.of_node ≡ g.of_node = same_some f.of_node g.of_node (sym f.node ∙ g.node) in
-    same_some q r (sym f.slot_end ∙ ap (λ (x : Ends). slice_get x slot) same ∙ g.slot_end)
-
+-- one slot leads to one node
 pub one_far : (t : Tree) (id slot j k : ℕ) → Far t id slot (Some j) → Far t id slot (Some k) → j ≡ k
 one_far t id slot j k f g = same_some j k (one_end t id slot (Some j) (Some k) f g)
 

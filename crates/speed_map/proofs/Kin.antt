@@ -6,7 +6,8 @@ use Rattle.std.proofs.lemmas.Bool.{cases_lt}
 use Rattle.self_id.specs.Node.{ups}
 use Rattle.topology_stack.specs.Tree.{Tree, branch, Slots, no_more, absent, unplugged, up, down, statuses, walk, walk_below, IsPart, AreParts}
 use Rattle.topology_stack.specs.Far.{slot_ends}
-use Rattle.speed_map.proofs.Nodes.{Ends, NodeT, NodeS, length-walk, some_node, withinT, withinS}
+use Rattle.speed_map.proofs.Nodes.{Ends, NodeT, NodeS, withinT, withinS}
+use Rattle.topology_stack.proofs.Lemmas.{length-walk, some_node}
 
 -- the outermost node of a tree
 pub lastT : (from parent : ℕ) (t : Tree) →

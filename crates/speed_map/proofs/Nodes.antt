@@ -1,12 +1,14 @@
 -- A tree node by node: each with its place in the walk, the ends of its slots, and the first ID of its
 -- subtree. The IDs of a subtree run from that one to the node's own.
-use Rattle.std.proofs.Common.{◌≡◌, ℕ, zero, suc, ◌+◌, ◌-◌, ◌<◌, ◌≤◌, List, [], ◌∷◌, ◌++◌, length, Option, Some, refl, sym, ap, ◌∙◌, inl, inr, ⊎_elim, ◌⊎◌, arith, length-append}
+use Rattle.std.proofs.Common.{◌≡◌, ℕ, ◌+◌, ◌-◌, ◌<◌, ◌≤◌, List, [], ◌∷◌, ◌++◌, length, Option, Some, refl, sym, ap, ◌∙◌, inl, inr, ⊎_elim, ◌⊎◌, arith, length-append}
 use Rattle.std.specs.Prelude.{slice_get}
 use Rattle.std.proofs.lemmas.Bool.{cases_lt}
 use Rattle.self_id.specs.Node.{Node}
-use Rattle.topology_stack.specs.Tree.{Label, Tree, branch, Slots, no_more, absent, unplugged, up, down, statuses, walk, walk_below, node_of}
+use Rattle.topology_stack.specs.Tree.{Tree, branch, Slots, no_more, absent, unplugged, up, down, statuses, walk, walk_below, node_of}
 use Rattle.topology_stack.specs.Far.{slot_ends, ends_from, ends_below}
 use Rattle.speed_map.specs.codings.Sweep.{firsts_from, firsts_below}
+use Rattle.quad_lanes.proofs.Lemmas.{slice_get-left, slice_get-right}
+use Rattle.topology_stack.proofs.Lemmas.{length-walk}
 
 abbrev pub Ends : Type 0
 Ends = List (Option ℕ)
@@ -23,28 +25,7 @@ abbrev mutual
   NodeS from me (up s) i e f = NodeS from me s i e f
   NodeS from me (down t s) i e f = NodeT from me t i e f ⊎ ((j : ℕ) × (i ≡ length (walk t) + j) × NodeS (from + length (walk t)) me s j e f)
 
-pub length-walk : (a : Label) (s : Slots) → length (walk (branch a s)) ≡ length (walk_below s) + 1
-length-walk a s = length-append (walk_below s) (node_of a s ∷ [])
-
-pub some_node : (t : Tree) → 0 < length (walk t)
-some_node (branch a s) = omega (arith, length-walk a s)
-
--- ---- lists in two parts
-
-pub slice_get-left : {X : Type 0} (xs ys : List X) (i : ℕ) (x : X) → slice_get xs i ≡ Some x →
-    slice_get (xs ++ ys) i ≡ Some x
-slice_get-left [] ys i x e = absurd cc
-slice_get-left (y ∷ xs) ys zero x e = e
-slice_get-left (y ∷ xs) ys (suc i) x e = slice_get-left xs ys i x e
-
-pub slice_get-right : {X : Type 0} (xs ys : List X) (n j : ℕ) → length xs ≡ n →
-    slice_get (xs ++ ys) (n + j) ≡ slice_get ys j
-slice_get-right [] ys n j e = ap (slice_get ys) (omega (arith, e))
-slice_get-right (x ∷ xs) ys zero j e = absurd (omega (arith, e))
-slice_get-right (x ∷ xs) ys (suc n) j e =
-    let rest : length xs ≡ n = omega (arith, e) in
-    let next : suc n + j ≡ suc (n + j) = omega arith in
-    rw next (slice_get-right xs ys n j rest)
+-- ---- the last of a list
 
 pub last : {X : Type 0} (xs : List X) (x : X) (i : ℕ) → i ≡ length xs →
     slice_get (xs ++ x ∷ []) i ≡ Some x

@@ -2,12 +2,12 @@
 use Rattle.std.proofs.Common.{◌≡◌, ℕ, zero, suc, ◌+◌, ◌-◌, ◌*◌, ◌/◌, ◌%◌, ◌^◌, ◌<◌, ◌≤◌, List, [], ◌∷◌, ◌++◌, length, take, drop, refl, sym, ap, subst, ◌∙◌, arith}
 use Rattle.std.specs.Prelude.{slice_index}
 use Rattle.std.specs.List.{All, AllByRecursion}
-use Rattle.std.proofs.lemmas.List.Elements.{recursion_from_All, All-from_get_or}
+use Rattle.std.proofs.lemmas.List.Elements.{recursion_from_All}
 use Rattle.quad_lanes.specs.Pairs.{quads_of}
-use Rattle.quad_lanes.proofs.Lemmas.{big_endian-bytes, bytes-big_endian, length-quads_of}
+use Rattle.quad_lanes.proofs.Lemmas.{all_quadlets, big_endian-bytes, bytes-big_endian, length-quads_of}
 use Rattle.topology_map.specs.Crc.{IsCrc}
 use Rattle.topology_map.specs.Sealed.{IsSealed}
-use Rattle.topology_map.proofs.Lemmas.{one_crc, joined}
+use Rattle.topology_map.proofs.Lemmas.{one_crc, joined, split}
 use Rattle.speed_map.specs.declared.fault.ImageFault.{ImageFault}
 use Rattle.speed_map.specs.declared.fault.ImageFault.TheVariants.{Length, Crc, Rows, Memory}
 use Rattle.speed_map.specs.Image.{IsImage, Refused}
@@ -47,9 +47,6 @@ behind_two (a ∷ b ∷ quads) = whole_take (length (a ∷ b ∷ quads) - 2) qua
 
 -- ---- parts
 
-split : (first n : ℕ) → first / 2 ^ 16 + 1 ≡ suc n → first ≡ 2 ^ 16 * n + first % 2 ^ 16
-split first n e = omega arith
-
 sixteen : (n : ℕ) → n % 16 ≡ 0 → (4 * n) % 64 ≡ 0
 sixteen n e = omega (arith, e)
 
@@ -70,14 +67,10 @@ fit_behind [] fit = tt
 fit_behind (a ∷ []) fit = tt
 fit_behind (a ∷ b ∷ quads) fit = fit.1.1
 
-pub all_fit : (quads : List ℕ) → ((i : ℕ) → slice_index quads i < 2 ^ 32) →
-    All (λ q. q < 2 ^ 32) quads
-all_fit quads fit = All-from_get_or (λ q. q < 2 ^ 32) quads 0 (λ i _. fit i)
-
 pub is_image : (quads rows : List ℕ) → Tells quads → ((i : ℕ) → slice_index quads i < 2 ^ 32) →
     rows ≡ bytes_of (drop 2 quads) → IsImage (slice_index quads 1) rows quads
 is_image quads rows w fit e =
-    let fit_all : AllByRecursion (λ q. q < 2 ^ 32) quads = recursion_from_All _ _ (all_fit quads fit) in
+    let fit_all : AllByRecursion (λ q. q < 2 ^ 32) quads = recursion_from_All _ _ (all_quadlets quads fit) in
     let same : quads_of rows ≡ drop 2 quads = ap quads_of e ∙ read_back (drop 2 quads) (fit_behind quads fit_all) in
     let count : length rows ≡ 4 * length (drop 2 quads) = ap length e ∙ length-bytes_of (drop 2 quads) in
     record {

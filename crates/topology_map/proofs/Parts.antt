@@ -10,7 +10,7 @@ use Rattle.self_id.specs.Group.{node_count}
 use Rattle.topology_map.specs.codings.Told.{TellsNodes}
 use Rattle.topology_map.proofs.Division.{one_crc}
 
-split : (first n : ℕ) → first / 2 ^ 16 + 1 ≡ suc n → first ≡ 2 ^ 16 * n + first % 2 ^ 16
+pub split : (first n : ℕ) → first / 2 ^ 16 + 1 ≡ suc n → first ≡ 2 ^ 16 * n + first % 2 ^ 16
 split first n e = omega arith
 
 pub joined : (n crc : ℕ) → crc < 2 ^ 16 →

@@ -2,7 +2,7 @@
 use Rattle.std.proofs.Common.{◌≡◌, ℕ, zero, suc, ◌+◌, ◌-◌, ◌<◌, ◌≤◌, Some, List, [], ◌∷◌, ◌++◌, length, get_or, take, drop, refl, sym, ap, ◌∙◌, arith, length-drop, length-append}
 use Rattle.std.specs.Prelude.{slice_get}
 use Rattle.std.proofs.lemmas.List.{take_all, take-append-le, drop_at, drop-append-le, length-take}
-use Rattle.topology_stack.specs.codings.Links.{cut, Rises, total}
+use Rattle.topology_stack.specs.Links.{cut, Rises, total}
 
 pub length-cut : (ids : List ℕ) (start : ℕ) (ends : List ℕ) →
     length (cut ids start ends) ≡ length ends

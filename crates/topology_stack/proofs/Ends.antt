@@ -7,7 +7,7 @@ use Rattle.self_id.specs.declared.node.PortStatus.TheVariants.{Absent, Unplugged
 use Rattle.self_id.specs.Node.{Node, downs}
 use Rattle.topology_stack.specs.Tree.{Tree, branch, Slots, no_more, absent, unplugged, up, down, statuses, node_of, walk, walk_below}
 use Rattle.topology_stack.specs.Far.{slot_ends, ends_from, ends_below, ends, Far, IsLoose}
-use Rattle.topology_stack.specs.codings.Stored.{parents_from, parents_below, child_ids, children_from, children_below, ends_of, all_ends, Stored}
+use Rattle.topology_stack.specs.Stored.{parents_from, parents_below, child_ids, children_from, children_below, ends_of, all_ends, Stored}
 use Rattle.topology_stack.proofs.Linking.{length-child_ids, length-parents_from, length-parents_below, length-children_from, length-children_below}
 
 -- ---- slot by slot
@@ -195,3 +195,14 @@ pub loose_at : (X : Type 0) (ns : List Node) (id slot : ℕ) (n : Node) (ps : Li
 loose_at X ns id slot n ps e same h =
     subst (λ (o : Option Node). X ↔ IsSomeAnd o (λ (m : Node). IsSomeAnd (slice_get m.ports slot) IsLoose)) (sym e)
     (subst (λ (qs : List PortStatus). X ↔ IsSomeAnd (slice_get qs slot) IsLoose) same h)
+
+-- ---- one end
+
+same_some : {X : Type 0} (x y : X) → Some x ≡ Some y → x ≡ y
+same_some x y e = cc
+
+-- one thing stands at the other end of a slot
+pub one_end : (t : Tree) (id slot : ℕ) (q r : Option ℕ) → Far t id slot q → Far t id slot r → q ≡ r
+one_end t id slot q r f g =
+    let same : f.of_node ≡ g.of_node = same_some f.of_node g.of_node (sym f.node ∙ g.node) in
+    same_some q r (sym f.slot_end ∙ ap (λ (x : List (Option ℕ)). slice_get x slot) same ∙ g.slot_end)

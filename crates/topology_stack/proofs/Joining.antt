@@ -4,8 +4,8 @@ use Rattle.std.proofs.lemmas.List.{length-set, length-take-le}
 use Rattle.self_id.specs.declared.standard.Standard.{Standard}
 use Rattle.self_id.specs.Node.{Node, downs}
 use Rattle.topology_stack.specs.declared.waiting.Waiting.{Waiting}
-use Rattle.topology_stack.specs.codings.Waiting.{after_node}
-use Rattle.topology_stack.specs.codings.Links.{set_all, total, Linking, linked, unlinked, AreLinks}
+use Rattle.topology_stack.specs.Waiting.{after_node}
+use Rattle.topology_stack.specs.Links.{set_all, total, Linking, linked, unlinked, AreLinks}
 use Rattle.topology_stack.proofs.Linking.{all_linked-append}
 use Rattle.topology_stack.proofs.Loop.{Reading, trees_are}
 

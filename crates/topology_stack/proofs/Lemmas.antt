@@ -2,10 +2,10 @@
 -- one of them; and what a bus tree's walk is like.
 use Rattle.std.proofs.Common.{◌≡◌, ℕ, zero, suc, ◌<◌, ◌⊎◌, inl, inr, List, [], ◌∷◌, ◌++◌, length, Result, Ok, Err, sym, ap, subst, ◌∙◌, arith, length-append}
 use Rattle.topology_stack.specs.declared.fault.TreeFault.{TreeFault}
-use Rattle.std.specs.Prelude.{slice_get, Some}
+use Rattle.std.specs.Prelude.{◌+◌, slice_get, Some}
 use Rattle.self_id.specs.declared.standard.Standard.{Standard}
 use Rattle.self_id.specs.Node.{Node, IsNode}
-use Rattle.topology_stack.specs.Tree.{Tree, branch, Slots, no_more, absent, unplugged, up, down, walk_below, node_of, walk, IsPart, AreParts, IsBusTree, IsBusTreeOf, emits}
+use Rattle.topology_stack.specs.Tree.{Label, Tree, branch, Slots, no_more, absent, unplugged, up, down, walk_below, node_of, walk, IsPart, AreParts, IsBusTree, IsBusTreeOf, emits}
 use Rattle.topology_stack.specs.codings.Code.{tree_of, tree_of-walk}
 use Rattle.topology_stack.specs.Refused.{Refused}
 use Rattle.topology_stack.proofs.ReadFrom.{read}
@@ -15,6 +15,16 @@ use Rattle.topology_stack.proofs.Exact.{emits_again, refused_again}
 pub use Rattle.topology_stack.proofs.Highest.{is_highest}
 -- Faults that a list keeps, however it goes on.
 pub use Rattle.topology_stack.proofs.Lasting.{lasts}
+-- A way through a list, one node after the other: what each step comes to, and what it leaves.
+pub use Rattle.topology_stack.proofs.Loop.{is_after_root, is_full, is_group_fault, is_node_fault, is_end, ended_empty, ended_unrooted, ended_rooted, goes_round, takes, refuses, place_is, moves}
+pub use Rattle.topology_stack.proofs.Stack.{groups-append, groups-snoc, AreOf-parts}
+-- The parents and children that are kept of the nodes of a list, and the slots that lead to them.
+pub use Rattle.topology_stack.proofs.Joining.{Joining, kept_is, keeps, count_is, links_one_more}
+pub use Rattle.topology_stack.proofs.Linking.{stored}
+pub use Rattle.topology_stack.proofs.Cutting.{later, has_room, has_end, pushed}
+pub use Rattle.topology_stack.proofs.Ends.{end_at, far_is, fewer_before, kids_enough, length-children, length-parents, one_end, status_at}
+-- What stands at a place of a list.
+pub use Rattle.quad_lanes.proofs.Lemmas.{item_at}
 
 explained : (standard : Standard) (l : List ℕ) (r : Result (List Node) TreeFault) →
     read standard l ≡ r → Explained standard l r
@@ -77,9 +87,13 @@ one_of standard l = elim (answer_by standard l (read standard l) (read_sound sta
 
 -- ---- walks
 
--- a tree has a node
+-- a tree's node is the last of its walk
+pub length-walk : (a : Label) (s : Slots) → length (walk (branch a s)) ≡ length (walk_below s) + 1
+length-walk a s = length-append (walk_below s) (node_of a s ∷ [])
+
+-- so a tree has a node
 pub some_node : (t : Tree) → 0 < length (walk t)
-some_node (branch a s) = omega (arith, length-append (walk_below s) (node_of a s ∷ []))
+some_node (branch a s) = omega (arith, length-walk a s)
 
 -- each node of a bus tree is one that packets can show
 abbrev AllNodes : List Node → Type 0

@@ -3,8 +3,8 @@ use Rattle.std.proofs.Common.{◌≡◌, ℕ, ◌+◌, ◌-◌, List, [], ◌∷
 use Rattle.std.proofs.lemmas.List.{append-nil, take_at, drop_at}
 use Rattle.self_id.specs.Node.{Node, downs}
 use Rattle.topology_stack.specs.Tree.{Label, Tree, branch, Slots, no_more, absent, unplugged, up, down, statuses, node_of, walk, walk_below, IsBusTree}
-use Rattle.topology_stack.specs.codings.Stored.{parents_from, parents_below, child_ids, children_from, children_below, Stored}
-use Rattle.topology_stack.specs.codings.Links.{set_all, Linking, linked, all_linked, unlinked}
+use Rattle.topology_stack.specs.Stored.{parents_from, parents_below, child_ids, children_from, children_below, Stored}
+use Rattle.topology_stack.specs.Links.{set_all, Linking, linked, all_linked, unlinked}
 
 abbrev pub link : Linking → Node → Linking
 link l n = linked (length l.waiting - downs n.ports) l

@@ -10,7 +10,7 @@ use Rattle.self_id.specs.Group.{group, StandsAt}
 use Rattle.self_id.specs.Refused.{GroupRefused}
 use Rattle.self_id.proofs.Lemmas.{read_at, read_at-group, read_at-refused, length-group}
 use Rattle.topology_stack.specs.declared.waiting.Waiting.{Waiting}
-use Rattle.topology_stack.specs.codings.Waiting.{after_node}
+use Rattle.topology_stack.specs.Waiting.{after_node}
 use Rattle.topology_stack.proofs.ReadFrom.{in_group, ended, unless_ended, read_from, read}
 
 -- where the loop stands in reading all of the list

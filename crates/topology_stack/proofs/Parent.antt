@@ -1,12 +1,13 @@
 -- The parents of a bus tree's nodes, from the parents that a tree keeps.
 use Rattle.std.proofs.Common.{◌≡◌, ℕ, zero, suc, ◌+◌, ◌<◌, Option, Some, List, [], ◌∷◌, ◌++◌, length, refl, sym, ap, subst, ◌∙◌, arith, length-append}
 use Rattle.std.specs.Prelude.{slice_get, IsSomeAnd}
+use Rattle.quad_lanes.proofs.Lemmas.{item_at}
 use Rattle.self_id.specs.declared.node.PortStatus.{PortStatus}
 use Rattle.self_id.specs.declared.node.PortStatus.TheVariants.{Absent, Unplugged, Up, Down}
 use Rattle.self_id.specs.Node.{Node, ups}
 use Rattle.topology_stack.specs.Tree.{Tree, branch, Slots, no_more, absent, unplugged, up, down, statuses, node_of, walk, walk_below, IsPart, AreParts, IsBusTree}
 use Rattle.topology_stack.specs.Far.{Far, IsUpAt, IsParent}
-use Rattle.topology_stack.specs.codings.Stored.{Stored}
+use Rattle.topology_stack.specs.Stored.{Stored}
 use Rattle.topology_stack.proofs.Ends.{end_at, far_is, length-children}
 
 -- ---- slots that lead up
@@ -86,18 +87,13 @@ no_parent (branch a s) id parent bus last h =
 
 -- ---- what is kept
 
-some_at : {X : Type 0} (xs : List X) (i : ℕ) → i < length xs → (x : X) × (slice_get xs i ≡ Some x)
-some_at [] i lt = absurd (omega (arith, lt))
-some_at (x ∷ xs) zero lt = (x, refl)
-some_at (x ∷ xs) (suc i) lt = some_at xs i (omega (arith, lt))
-
 -- the end of each slot that leads up is the parent that is kept
 up_end : (t : Tree) (ns : List Node) (ps : List ℕ) (ks : List (List ℕ)) (id slot p : ℕ) →
     Stored t ns ps ks → id < length ns → slice_get ps id ≡ Some p → IsUpAt t id slot →
     Far t id slot (Some p)
 up_end t ns ps ks id slot p h lt ep is_up =
-    let n = some_at ns id lt in
-    let k = some_at ks id (omega (arith, lt, length-children t ns ps ks h)) in
+    let n = item_at ns id lt in
+    let k = item_at ks id (omega (arith, lt, length-children t ns ps ks h)) in
     let at : slice_get (walk t) id ≡ Some n.0 = ap (λ (x : List Node). slice_get x id) (sym h.walk_is) ∙ n.1 in
     let here : slice_get n.0.ports slot ≡ Some Up = subst (λ (o : Option Node). IsSomeAnd o (λ (m : Node). slice_get m.ports slot ≡ Some Up)) at is_up in
     far_is t ns ps ks id slot n.0 p k.0 (Some p) h n.1 ep k.1 (end_at n.0.ports p k.0 slot Up here)
@@ -105,7 +101,7 @@ up_end t ns ps ks id slot p h lt ep is_up =
 pub is_parent : (t : Tree) (ns : List Node) (ps : List ℕ) (ks : List (List ℕ)) (id p : ℕ) →
     Stored t ns ps ks → id + 1 < length ns → slice_get ps id ≡ Some p → IsParent t id p
 is_parent t ns ps ks id p h lt ep =
-    let n = some_at ns id (omega (arith, lt)) in
+    let n = item_at ns id (omega (arith, lt)) in
     let at : slice_get (walk t) id ≡ Some n.0 = ap (λ (x : List Node). slice_get x id) (sym h.walk_is) ∙ n.1 in
     let one = one_up t id n.0 h.bus (omega (arith, lt, ap length h.walk_is)) at in
     let slot = up_slot n.0.ports (omega (arith, one)) in

@@ -22,7 +22,7 @@ use Rattle.topology_stack.specs.declared.fault.TreeStop.TheVariants.{Fault}
 use Rattle.topology_stack.specs.Reader.{Kept, IsLasting, StandsFor}
 use Rattle.topology_stack.specs.codings.Code.{label_of, build}
 use Rattle.topology_stack.specs.codings.Place.{IsWholeTree, IsWaiting, IsRead, IsPlace, StandsAtEnd, GroupMayEnd, IsPlaced}
-use Rattle.topology_stack.specs.codings.Waiting.{after_node}
+use Rattle.topology_stack.specs.Waiting.{after_node}
 use Rattle.topology_stack.proofs.Lemmas.{no_fault, one_fault}
 use Rattle.topology_stack.proofs.Loop.{ok_waiting, too_few, left, joined, few_wait}
 use Rattle.topology_stack.proofs.Stack.{built, groups-snoc, AreOf-snoc}

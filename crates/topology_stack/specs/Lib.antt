@@ -9,4 +9,7 @@ pub mod Elect
 pub mod Name
 pub mod Text
 pub mod Hex
+pub mod Links
+pub mod Stored
+pub mod Waiting
 pub mod codings

@@ -1,6 +1,3 @@
 -- How trees are stored. No public contract cites a file of this folder.
 pub mod Code
-pub mod Links
 pub mod Place
-pub mod Stored
-pub mod Waiting

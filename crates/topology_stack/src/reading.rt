@@ -3,7 +3,7 @@ ghost use Rattle.std.specs.Prelude.{◌≡◌, ℕ, List, [], IfOk};
 ghost use Rattle.topology_stack.specs.Tree.{Tree, IsBusTreeOf, walk, emits};
 ghost use Rattle.topology_stack.specs.Refused.{Refused};
 ghost use Rattle.topology_stack.specs.Answer.{IfFault};
-ghost use Rattle.topology_stack.specs.codings.Links.{AreLinks};
+ghost use Rattle.topology_stack.specs.Links.{AreLinks};
 
 use crate::fault::{TreeFault, TreeStop};
 use crate::links::{Links, Roots};

@@ -2,7 +2,7 @@
 ghost use Rattle.std.specs.Prelude.{◌≡◌, ◌<◌, ◌↔◌, Some, IsNone, IsSomeAnd, length, slice_get};
 ghost use Rattle.topology_stack.specs.Far.{IsLoose};
 ghost use Rattle.self_id.specs.Node.{downs};
-ghost use Rattle.topology_stack.specs.codings.Stored.{ends_of};
+ghost use Rattle.topology_stack.specs.Stored.{ends_of};
 
 use self_id::{PortStatus, count_down};
 

@@ -1,7 +1,7 @@
 //! The text of a bus tree.
 ghost use Rattle.std.specs.Prelude.{◌≡◌, ◌<◌, ◌≤◌, ◌+◌, ◌++◌, ◌⊎◌, [], ◌∷◌, length, slice_get, codes, IfOk, OnOk, decimal};
 ghost use Rattle.topology_stack.specs.Tree.{walk};
-ghost use Rattle.topology_stack.specs.codings.Stored.{ends_of, all_ends};
+ghost use Rattle.topology_stack.specs.Stored.{ends_of, all_ends};
 ghost use Rattle.topology_stack.specs.Text.{attrs_text, rest_of_attrs, field, truth, signs, naming, node_line, lines_from, irm, last_line, tree_text};
 
 use crate::links::ChildLists;

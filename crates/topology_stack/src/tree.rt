@@ -8,7 +8,7 @@ ghost use Rattle.self_id.specs.declared.standard.Standard.TheVariants.{Ieee1995,
 ghost use Rattle.topology_stack.specs.Tree.{Tree, IsBusTree, IsBusTreeOf, emits, walk};
 ghost use Rattle.topology_stack.specs.Refused.{Refused};
 ghost use Rattle.topology_stack.specs.Far.{Far, IsLooseAt, IsParent};
-ghost use Rattle.topology_stack.specs.codings.Stored.{parents_from, children_from};
+ghost use Rattle.topology_stack.specs.Stored.{parents_from, children_from};
 ghost use Rattle.topology_stack.specs.Answer.{IfFault, UnlessMemory};
 ghost use Rattle.topology_stack.specs.declared.fault.TreeFault.{TreeFault};
 
@@ -34,7 +34,7 @@ pub struct BusTree {
 impl Model for BusTree {
     ghost use Rattle.topology_stack.specs.Tree.{Tree};
     ghost use Rattle.topology_stack.specs.codings.Code.{tree_of, tree_code};
-    ghost use Rattle.topology_stack.specs.codings.Stored.{Stored};
+    ghost use Rattle.topology_stack.specs.Stored.{Stored};
 
     ghost Value = { Tree };
 

@@ -1,6 +1,6 @@
 //! The trees that wait for a parent while a list is read.
 ghost use Rattle.std.specs.Prelude.{◌≡◌, ◌≤◌};
-ghost use Rattle.topology_stack.specs.codings.Waiting.{after_node};
+ghost use Rattle.topology_stack.specs.Waiting.{after_node};
 
 use crate::fault::TreeFault;
 use self_id::{SelfId, count_down, count_up};

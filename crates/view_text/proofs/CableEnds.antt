@@ -10,11 +10,13 @@ use Rattle.self_id.specs.Node.{Node, ups}
 use Rattle.topology_stack.specs.Tree.{Label, Tree, branch, Slots, no_more, absent, unplugged, up, down, statuses, node_of, walk, walk_below, IsPart, AreParts, IsWhole, IsBusTree}
 use Rattle.topology_stack.specs.Far.{slot_ends, ends_from, ends_below, ends, Far}
 use Rattle.speed_map.specs.Path.{node_speed, path_speed}
-use Rattle.speed_map.proofs.Lemmas.{speed_is, length-walk, some_node, length-ends_from, length-ends_below, slice_get-left, slice_get-right}
+use Rattle.speed_map.proofs.Lemmas.{speed_is, length-ends_from, length-ends_below}
 use Rattle.view_text.specs.declared.cable.Cable.{Cable}
 use Rattle.view_text.specs.Cable.{first_up, up_of, speed_of, cable_to, cable_at, cables_of, cables_from, cables}
 use Rattle.view_text.specs.codings.Parts.{Has, Stands}
 use Rattle.view_text.specs.CableEnds.{IsOfTree, CablesAreOfTheTree, EachDownSlotHasItsCable}
+use Rattle.topology_stack.proofs.Lemmas.{length-walk, some_node}
+use Rattle.quad_lanes.proofs.Lemmas.{has-left, has-right, has-head, has-itself, slice_get-left, slice_get-right}
 
 abbrev pub Ends : Type 0
 Ends = List (Option ℕ)
@@ -25,26 +27,6 @@ some-same a b h = ap (or-else a) h
     or-else : {A : Type 0} → A → Option A → A
     or-else d None = d
     or-else d (Some x) = x
-
--- ---- a part of a list
-
-has-left : {A : Type 0} → (whole : List A) (first : ℕ) (xs ys : List A) →
-    Has whole first (xs ++ ys) → Has whole first xs
-has-left whole first xs ys h i x e = h i x (slice_get-left xs ys i x e)
-
-has-right :
-    {A : Type 0} → (whole : List A) (first n : ℕ) (xs ys : List A) → length xs ≡ n → Has whole first (xs ++ ys) →
-    Has whole (first + n) ys
-has-right whole first n xs ys long h i x e =
-    let z : first + n + i ≡ first + (n + i) = omega arith in
-    ap (slice_get whole) z ∙ h (n + i) x (slice_get-right xs ys n i long ∙ e)
-
-has-head : {A : Type 0} → (whole : List A) (first : ℕ) (y : A) (ys : List A) →
-    Has whole first (y ∷ ys) → slice_get whole first ≡ Some y
-has-head whole first y ys h = let z : first ≡ first + 0 = omega arith in ap (slice_get whole) z ∙ h 0 y refl
-
-pub has-itself : {A : Type 0} → (whole : List A) → Has whole 0 whole
-has-itself whole i x e = let z : 0 + i ≡ i = omega arith in ap (slice_get whole) z ∙ e
 
 -- ---- the slot that is up
 

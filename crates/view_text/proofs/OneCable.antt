@@ -5,9 +5,10 @@ use Rattle.std.proofs.lemmas.Bool.Decides.{nat_tests}
 use Rattle.self_id.specs.Node.{Node}
 use Rattle.topology_stack.specs.Tree.{Tree, branch, Slots, no_more, absent, unplugged, up, down, statuses, node_of, walk, walk_below}
 use Rattle.topology_stack.specs.Far.{slot_ends, ends_from, ends_below}
-use Rattle.speed_map.proofs.Lemmas.{length-walk, length-ends_from, length-ends_below, some_node}
+use Rattle.speed_map.proofs.Lemmas.{length-ends_from, length-ends_below}
 use Rattle.view_text.specs.declared.cable.Cable.{Cable}
 use Rattle.view_text.specs.Cable.{cables_of, cables_from, times, EachNodeHangsOnOneCable, CablesAreOneLessThanNodes}
+use Rattle.topology_stack.proofs.Lemmas.{length-walk, some_node}
 
 -- ---- lists of nodes in two parts
 

@@ -8,12 +8,12 @@ use Rattle.self_id.specs.declared.node.PortStatus.TheVariants.{Down}
 use Rattle.self_id.specs.Node.{Node, downs}
 use Rattle.topology_stack.specs.Tree.{Label, Tree, branch, Slots, no_more, absent, unplugged, up, down, statuses, node_of, walk, walk_below, IsBusTree}
 use Rattle.topology_stack.specs.Far.{slot_ends, ends}
-use Rattle.speed_map.proofs.Lemmas.{length-walk, some_node}
 use Rattle.view_text.specs.declared.cable.Cable.{Cable}
 use Rattle.view_text.specs.Cable.{up_of, speed_of, cable_to}
 use Rattle.view_text.specs.Drawing.{node_words, cable_text, cable_of, goes_on, corner, bar, outermost, tree_lines, slot_lines}
 use Rattle.view_text.specs.codings.Parts.{Stands, next, below, rest, skipped, first_child, IsChildAt, AppendsPart}
 use Rattle.view_text.proofs.CableEnds.{Ends, some-same, StandBelow, below-of, own-node, own-ends, first-of, rest-of, LeadsDown, all-down}
+use Rattle.topology_stack.proofs.Lemmas.{length-walk, some_node}
 
 -- ---- the slots from one on
 

@@ -9,8 +9,8 @@ use Rattle.cable_world.specs.Wire.{Wire}
 use Rattle.cable_world.specs.World.{CableWorld}
 use Rattle.cable_world.specs.Turn.{turn}
 use Rattle.cable_world.specs.Parts.{world_record}
-use Rattle.cable_world.specs.Still.{IsSilent, AreSilent, IsStillFor, hold_less, after_still, StillTurnsPass}
-use Rattle.cable_world.proofs.Lemmas.{idle-less}
+use Rattle.cable_world.specs.Still.{AreSilent, IsStillFor, after_still, StillTurnsPass}
+use Rattle.cable_world.proofs.Lemmas.{idle-less, still-silent}
 use Rattle.world_agenda.specs.Clock.{caught_up}
 use Rattle.world_agenda.proofs.Late.{still-idle, idle-then, idle-none}
 use Rattle.world_agenda.proofs.Turns.{one-turn}
@@ -45,12 +45,6 @@ still-first k w h = record {
 pub still-turn : StillTurnsPass → (w : CableWorld) → length w.nodes ≡ length w.cabling → IsStillFor 1 w →
     turn w ≡ after_still 1 w
 still-turn law w e h = one-turn w (turn w) refl ∙ law 1 w e h
-
-pub still-silent : (k : ℕ) (rows : List (List Wire)) → AreSilent rows →
-    AreSilent (map (map (hold_less k)) rows)
-still-silent k rows h =
-    All-map (λ row. All IsSilent row) (map (hold_less k)) rows
-    (All-weaker (λ row. All IsSilent row) (λ row. All IsSilent (map (hold_less k) row)) (λ row r. All-map IsSilent (hold_less k) row r) rows h)
 
 -- the others are such turns after it
 pub still-later : (k : ℕ) (w : CableWorld) → IsStillFor (suc k) w → IsStillFor k (after_still 1 w)

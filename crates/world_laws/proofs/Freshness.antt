@@ -4,7 +4,7 @@ use Rattle.std.proofs.lemmas.Bool.{cases_eq}
 use Rattle.std.proofs.lemmas.Option.{slice_get_cases, slice_get_within}
 use Rattle.cabling.specs.NodeSet.{Holds}
 use Rattle.cabling.specs.Component.{IsComponent}
-use Rattle.cabling.proofs.Lemmas.{shared}
+use Rattle.cabling.proofs.Lemmas.{shared, small-set}
 use Rattle.port_state.specs.declared.signal.Phase.TheVariants.{ResetStart, ResetWait}
 use Rattle.port_state.specs.declared.states.NodeState.{NodeState}
 use Rattle.port_state.specs.Config.{ConfigPacket}
@@ -22,7 +22,6 @@ use Rattle.outcomes.specs.Settled.{turn_count}
 use Rattle.outcomes.proofs.Lemmas.{nodes-there, forced-outcome, done-at-last}
 use Rattle.cable_world.specs.Quiet.{quiet_after}
 use Rattle.world_laws.specs.Freshness.{IsTouchedIn, PowerOnIsFresh, ActsMakeFresh, ActsMakeFreshOnceSettled, HasOneWaiting, FreshRootsSettle, FirstRootsSettle}
-use Rattle.world_laws.proofs.SmallSets.{small-set}
 use Rattle.world_laws.proofs.Touched.{Begun, touched-begun}
 
 -- ---- what became of a node before the next turn

@@ -8,13 +8,14 @@ use Rattle.std.proofs.lemmas.Option.{slice_get_within, slice_get_cases, slice_ge
 use Rattle.self_id.specs.declared.node.PortStatus.{PortStatus}
 use Rattle.self_id.specs.declared.standard.Standard.TheVariants.{Ieee2000}
 use Rattle.self_id.specs.Node.{Node, HasForm, ups, is_width, is_width_of, node_with, kept_a_bits, kept_b_bits, blank_b_bits}
-use Rattle.topology_stack.proofs.Lemmas.{are_nodes}
+use Rattle.topology_stack.proofs.Lemmas.{are_nodes, length-walk, some_node}
 use Rattle.topology_stack.specs.Tree.{Label, Tree, branch, Slots, no_more, absent, unplugged, up, down, statuses, node_of, walk, walk_below, IsPart, AreParts, IsWhole, AreOf, IsBusTreeOf}
 use Rattle.cabling.specs.declared.cable.End.{End}
 use Rattle.cabling.specs.Labels.{no_attrs}
 use Rattle.cabling.proofs.Lemmas.{same_end}
 use Rattle.cable_world.proofs.Lemmas.{some-same}
 use Rattle.world_laws.specs.SlotCabling.{Place, no_port, no_cable, cable_to, SlotWiring, Leads, HasRoomFor, SeesSlots, SeesRow, EachBusTreeIsCabled}
+use Rattle.quad_lanes.proofs.Lemmas.{has-left, has-right, has-tail, has-head, has-itself, Has, slice_get-left, slice_get-right}
 
 -- ---- the cabling of a tree
 
@@ -106,51 +107,6 @@ below-length : (first node p : ℕ) (s : Slots) →
 below-length first node p s =
     sym (length-map (rows_below first node p s) length) ∙ ap length (below-widths first node p s) ∙ length-map (walk_below s) width
 
-walk-length : (a : Label) (s : Slots) → length (walk (branch a s)) ≡ length (walk_below s) + 1
-walk-length a s = length-append (walk_below s) (node_of a s ∷ [])
-
-some-walk : (t : Tree) → 1 ≤ length (walk t)
-some-walk (branch a s) = omega (arith, walk-length a s)
-
--- ---- a part of a list
-
--- the second list stands in the first, from this number on
-abbrev pub Has : {A : Type 0} → List A → ℕ → List A → Type 0
-Has {A} whole first part = (i : ℕ) (x : A) → slice_get part i ≡ Some x → slice_get whole (first + i) ≡ Some x
-
-get-left : {A : Type 0} → (xs ys : List A) (i : ℕ) (x : A) → slice_get xs i ≡ Some x →
-    slice_get (xs ++ ys) i ≡ Some x
-get-left [] ys i x e = absurd cc
-get-left (y ∷ xs) ys zero x e = e
-get-left (y ∷ xs) ys (suc i) x e = get-left xs ys i x e
-
-get-right : {A : Type 0} → (xs ys : List A) (i : ℕ) →
-    slice_get (xs ++ ys) (length xs + i) ≡ slice_get ys i
-get-right [] ys i = let z : 0 + i ≡ i = omega arith in ap (slice_get ys) z
-get-right (x ∷ xs) ys i = let z : suc (length xs) + i ≡ suc (length xs + i) = omega arith in ap (slice_get (x ∷ xs ++ ys)) z ∙ get-right xs ys i
-
-has-left : {A : Type 0} → (whole : List A) (first : ℕ) (xs ys : List A) →
-    Has whole first (xs ++ ys) → Has whole first xs
-has-left whole first xs ys h i x e = h i x (get-left xs ys i x e)
-
-has-right :
-    {A : Type 0} → (whole : List A) (first n : ℕ) (xs ys : List A) → length xs ≡ n → Has whole first (xs ++ ys) →
-    Has whole (first + n) ys
-has-right whole first n xs ys long h i x e =
-    let z : first + n + i ≡ first + (length xs + i) = omega (arith, long) in
-    ap (slice_get whole) z ∙ h (length xs + i) x (get-right xs ys i ∙ e)
-
-pub has-tail : {A : Type 0} → (whole : List A) (first : ℕ) (y : A) (ys : List A) →
-    Has whole first (y ∷ ys) → Has whole (first + 1) ys
-has-tail whole first y ys h i x e = let z : first + 1 + i ≡ first + suc i = omega arith in ap (slice_get whole) z ∙ h (suc i) x e
-
-pub has-head : {A : Type 0} → (whole : List A) (first : ℕ) (y : A) (ys : List A) →
-    Has whole first (y ∷ ys) → slice_get whole first ≡ Some y
-has-head whole first y ys h = let z : first ≡ first + 0 = omega arith in ap (slice_get whole) z ∙ h 0 y refl
-
-pub has-itself : {A : Type 0} → (whole : List A) → Has whole 0 whole
-has-itself whole i x e = let z : 0 + i ≡ i = omega arith in ap (slice_get whole) z ∙ e
-
 -- ---- trees whose nodes have one slot up at most
 
 abbrev IsFine : Tree → Type 0
@@ -201,7 +157,7 @@ module _ (c : SlotWiring) where
 
   last-is : (first : ℕ) (a : Label) (s : Slots) →
       first + length (walk (branch a s)) - 1 ≡ first + length (walk_below s)
-  last-is first a s = omega (arith, walk-length a s)
+  last-is first a s = omega (arith, length-walk a s)
 
   -- the child of a node leads back to it
   child-back :
@@ -260,7 +216,7 @@ module _ (c : SlotWiring) where
       let same : top first t ≡ f = cable-same (top first t) f e in
       let z : p ≡ p + 0 = omega arith in
       let back : Leads c (top first t) (end_at node p) = child-back first node p t parts.0 (has-left c first (rows_of first (Some (end_at node p)) t) (rows_below (first + length (walk t)) node (p + 1) s) h) in
-      let apart : node ≢ first + length (walk t) - 1 = λ is. omega (arith, is, low, length-append (walk t) (walk_below s), some-walk t) in
+      let apart : node ≢ first + length (walk t) - 1 = λ is. omega (arith, is, low, length-append (walk t) (walk_below s), some_node t) in
       inl (subst (λ (g : End). Back (end_at node (p + 0)) g) same (subst (λ (n : ℕ). Back (end_at node n) (top first t)) z (back, apart)))
   row-back (down t s) first node p (suc i) parent f h parts few low e =
       elim (row-back s (first + length (walk t)) node (p + 1) i parent f
@@ -283,7 +239,7 @@ module _ (c : SlotWiring) where
     tree-back (branch a s) first parent fine h e f l low high = elim (cases_lt e.node (first + length (walk_below s))) [
       | inl less ↦ inl (below-back s first (first + length (walk_below s)) 0 (row_of first parent s) parent (below-has first parent a s h) (own-row first parent a s h) (has-itself (row_of first parent s)) fine.1 (omega arith) e f l low less)
       | inr more ↦
-          let at : e.node ≡ first + length (walk_below s) = omega (arith, more, high, walk-length a s) in
+          let at : e.node ≡ first + length (walk_below s) = omega (arith, more, high, length-walk a s) in
           let row : l.row ≡ row_of first parent s = same-row e.node l.row (row_of first parent s) l.node (ap (slice_get c) at ∙ own-row first parent a s h) in
           let here : e ≡ end_at (first + length (walk_below s)) (0 + e.port) = let z : e.port ≡ 0 + e.port = omega arith in same_end e (end_at (first + length (walk_below s)) (0 + e.port)) at z in
           elim (row-back s first (first + length (walk_below s)) 0 e.port parent f (below-has first parent a s h) fine.1 fine.0 (omega arith) (ap (λ (r : List Place). slice_get r e.port) (sym row) ∙ l.slot)) [
@@ -346,7 +302,7 @@ module _ (c : SlotWiring) where
     some-number p q h = cc
 
     last-of : (ns : List Node) (n : Node) → slice_get (ns ++ n ∷ []) (length ns) ≡ Some n
-    last-of ns n = let z : length ns ≡ length ns + 0 = omega arith in ap (slice_get (ns ++ n ∷ [])) z ∙ get-right ns (n ∷ []) 0
+    last-of ns n = let z : length ns ≡ length ns + 0 = omega arith in ap (slice_get (ns ++ n ∷ [])) z ∙ slice_get-right ns (n ∷ []) (length ns) 0 refl
 
     not-here :
         (come : Option ℕ) (p n : ℕ) (parent : Option End) (s : Slots) →
@@ -376,7 +332,7 @@ module _ (c : SlotWiring) where
         row_of first parent s,
         ap (slice_get c) (last-is first a s) ∙ own-row first parent a s h,
         row-sees s first (first + length (walk_below s)) 0 parent come (below-has first parent a s h)
-            (λ i n b ports e same. named i n b ports (get-left (walk_below s) (node_of a s ∷ []) i n e) same) fine entered,
+            (λ i n b ports e same. named i n b ports (slice_get-left (walk_below s) (node_of a s ∷ []) i n e) same) fine entered,
       )
 
       row-sees :
@@ -397,10 +353,10 @@ module _ (c : SlotWiring) where
       row-sees (down t s) first node p parent come h named parts by = (
         not-here come p (up_index s) parent s by,
         tree-sees t first (Some (end_at node p)) (Some (up_slot t)) (has-left c first (rows_of first (Some (end_at node p)) t) (rows_below (first + length (walk t)) node (p + 1) s) h)
-            (λ i n b ports e same. named i n b ports (get-left (walk t) (walk_below s) i n e) same) (part-parts t parts.0) (part-entered t node p parts.0),
+            (λ i n b ports e same. named i n b ports (slice_get-left (walk t) (walk_below s) i n e) same) (part-parts t parts.0) (part-entered t node p parts.0),
         row-sees s (first + length (walk t)) node (p + 1) parent come
             (has-right c first (length (walk t)) (rows_of first (Some (end_at node p)) t) (rows_below (first + length (walk t)) node (p + 1) s) (rows-length first (Some (end_at node p)) t) h)
-            (λ i n b ports e same. let z : first + (length (walk t) + i) ≡ first + length (walk t) + i = omega arith in named (length (walk t) + i) n b ports (get-right (walk t) (walk_below s) i ∙ e) same ∙ ap label z) parts.1
+            (λ i n b ports e same. let z : first + (length (walk t) + i) ≡ first + length (walk t) + i = omega arith in named (length (walk t) + i) n b ports (slice_get-right (walk t) (walk_below s) (length (walk t)) i refl ∙ e) same ∙ ap label z) parts.1
             (next-slot come p (up_index s) parent s by refl),
       )
 

@@ -15,7 +15,8 @@ use Rattle.cabling.specs.Sees.{Sees, SeesFrom, numbers}
 use Rattle.cabling.proofs.Lemmas.{shown_node, visits, at_root, component_exists, walk_seen, length-visits, tree_few, seen_loopless}
 use Rattle.cable_world.proofs.Lemmas.{some-same}
 use Rattle.world_laws.specs.SlotCabling.{Place, no_port, no_cable, cable_to, SlotWiring, Leads, IsSlotCabling, AreLabels, SeesSlots, SeesRow, CablesTree, IsEmitted, CabledTreesAreBusTrees, AcceptedListsAreEmitted}
-use Rattle.world_laws.proofs.SlotCabling.{Has, has-tail, has-head, has-itself, cabled}
+use Rattle.world_laws.proofs.SlotCabling.{cabled}
+use Rattle.quad_lanes.proofs.Lemmas.{Has, has-tail, has-head, has-itself}
 
 abbrev end_at : ℕ → ℕ → End
 end_at node port = record { node = node; port = port }

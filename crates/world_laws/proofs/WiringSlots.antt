@@ -1,16 +1,15 @@
 -- A wiring and its slots are one cabling, and show the same trees.
-use Rattle.std.proofs.Common.{◌≡◌, ℕ, zero, suc, ◌+◌, ◌-◌, ◌^◌, ◌<◌, ◌≤◌, Bool, true, false, nat_le, if◌then◌else◌, IsTrue, Option, Some, None, List, [], ◌∷◌, ◌++◌, map, length, slice_get, slice_index_or, get_or, refl, sym, ◌∙◌, ap, subst, arith, length-append}
+use Rattle.std.proofs.Common.{◌≡◌, ℕ, zero, suc, ◌+◌, ◌-◌, ◌^◌, ◌<◌, ◌≤◌, Bool, true, false, nat_le, if◌then◌else◌, IsTrue, Option, Some, None, List, [], ◌∷◌, ◌++◌, map, length, slice_get, slice_index_or, refl, sym, ◌∙◌, ap, subst, arith, length-append}
 use Rattle.std.proofs.Math.ListN.{replicate}
 use Rattle.std.proofs.lemmas.Bool.Decides.{nat_tests}
 use Rattle.std.proofs.lemmas.List.{length-map, length-replicate}
-use Rattle.std.proofs.lemmas.List.Elements.{All-map}
 use Rattle.std.proofs.lemmas.Nat.{pow_pos}
-use Rattle.std.proofs.lemmas.Option.{slice_get_within, slice_get-get_or}
-use Rattle.std.specs.Prelude.{All, IsSomeAnd}
+use Rattle.std.proofs.lemmas.Option.{slice_get_within}
+use Rattle.std.specs.Prelude.{IsSomeAnd}
 use Rattle.std.proofs.Math.Nat.{zero-mod}
 use Rattle.self_id.specs.declared.node.Attrs.{Attrs}
 use Rattle.self_id.specs.declared.standard.Standard.TheVariants.{Ieee2000}
-use Rattle.self_id.specs.Node.{FitBits, is_width, is_width_of, kept_a_bits, kept_b_bits, blank_b_bits}
+use Rattle.self_id.specs.Node.{is_width, is_width_of, kept_a_bits, kept_b_bits, blank_b_bits}
 use Rattle.self_id.specs.Slots.{slot_count}
 use Rattle.topology_stack.specs.Tree.{Label, Tree, emits, branch, Slots, no_more, absent, unplugged, up, down, statuses}
 use Rattle.cabling.specs.declared.cable.End.{End}
@@ -18,14 +17,11 @@ use Rattle.cabling.specs.Wiring.{Wiring, ports_of, far, IsCabling}
 use Rattle.cabling.specs.Labels.{labels}
 use Rattle.cabling.specs.Sees.{Sees, SeesFrom}
 use Rattle.cabling.proofs.Lemmas.{Fit, RowAt, end_at, labels_fit, plugged, row_all, row_head, row_tail}
-use Rattle.port_state.specs.declared.states.NodeState.{NodeState}
 use Rattle.port_state.specs.Group.{shown_attrs}
 use Rattle.port_state.specs.Machine.{PortNode}
-use Rattle.port_state.specs.Valid.{IsBounded}
-use Rattle.cable_world.specs.World.{CableWorld}
 use Rattle.cable_world.specs.Lawful.{IsWellFormed}
 use Rattle.cable_world.specs.Outcome.{attrs_now}
-use Rattle.cable_world.proofs.Lemmas.{reached-lawful, some-of}
+use Rattle.cable_world.proofs.Lemmas.{reached-lawful, some-of, attrs-fit}
 use Rattle.world_laws.specs.SlotCabling.{Place, no_port, cable_to, Leads, AreLabels, SeesSlots, SeesRow}
 use Rattle.world_laws.specs.SeenTrees.{IsShown}
 use Rattle.world_laws.specs.WiringSlots.{place_of, row_of, slots_of, IsEmittedBySlots, PortsAreSlots, SlotsShowTheSame, SeenListsAreEmitted, SettledListsAreEmitted}
@@ -236,20 +232,6 @@ seen-emitted c attrs root t h = record {
 }
 
 -- ---- what has settled
-
-shown-fit : (x : NodeState) → IsBounded x → FitBits (shown_attrs x)
-shown-fit x b = record {
-  gap = omega (arith, b.gap);
-  speed = b.attrs.speed;
-  delay = b.attrs.delay;
-  power = b.attrs.power;
-}
-
-attrs-fit : (w : CableWorld) → IsWellFormed w → All FitBits (attrs_now w)
-attrs-fit w f =
-    All-map FitBits (λ (x : PortNode). shown_attrs x.state) w.nodes
-    (λ k d inside. shown-fit (get_or w.nodes k d).state
-    (f.nodes k (get_or w.nodes k d) (slice_get-get_or w.nodes k d inside)).valid.bounded)
 
 pub settled-emitted : SettledListsAreEmitted
 settled-emitted w reached set root t h node has =

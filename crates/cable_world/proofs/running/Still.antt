@@ -190,7 +190,7 @@ one-passes k w =
     ∙ ap (λ l. record w { nodes = map (after_ticks (suc k)) w.nodes; wires = l; turns = w.turns + k + 1 }) (more-rows k w.wires)
     ∙ ap (λ n. record w { nodes = map (after_ticks (suc k)) w.nodes; wires = map (map (hold_less (suc k))) w.wires; turns = n }) t
 
-still-silent : (k : ℕ) (rows : List (List Wire)) → AreSilent rows →
+pub still-silent : (k : ℕ) (rows : List (List Wire)) → AreSilent rows →
     AreSilent (map (map (hold_less k)) rows)
 still-silent k rows h =
     All-map (λ row. All IsSilent row) (map (hold_less k)) rows

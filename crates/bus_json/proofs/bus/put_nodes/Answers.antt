@@ -5,7 +5,7 @@ use Rattle.topology_stack.specs.Tree.{Tree, walk}
 use Rattle.json.specs.Token.{Token}
 use Rattle.json.specs.Tree.{json_tokens, items_tokens}
 use Rattle.bus_json.specs.Bus.{node_value, node_items}
-use Rattle.bus_json.proofs.Slots.{at_drop, item_at}
+use Rattle.quad_lanes.proofs.Lemmas.{at_drop, item_at}
 use Rattle.bus_json.proofs.bus.put_nodes.Goals as goal
 
 step : (t : Tree) (names : List (List ℕ)) (id : ℕ) (ns : List Node) (n : Node) (old new whole : List Token) →

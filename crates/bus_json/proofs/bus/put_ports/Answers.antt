@@ -7,7 +7,9 @@ use Rattle.topology_stack.specs.Far.{Far}
 use Rattle.json.specs.Token.{Token}
 use Rattle.json.specs.Tree.{json_tokens, items_tokens}
 use Rattle.bus_json.specs.Bus.{port_value, port_items}
-use Rattle.bus_json.proofs.Slots.{at_drop, get_at, far_is}
+use Rattle.quad_lanes.proofs.Lemmas.{at_drop}
+use Rattle.std.proofs.lemmas.Option.{slice_get-get_or}
+use Rattle.bus_json.proofs.Slots.{far_is}
 use Rattle.bus_json.proofs.bus.put_ports.Goals as goal
 
 step : (t : Tree) (id slot : ℕ) (ps : List PortStatus) (p : PortStatus) (far : Option ℕ) (old new whole : List Token) →
@@ -24,4 +26,4 @@ pub loop-slot-preserved : goal.loop-slot-preserved
 loop-slot-preserved c =
     let ps = c.as_slice-ports.result.now in
     step c.args.tree.now c.args.id c.loop-slot.slot ps (get_or ps c.loop-slot.slot Absent) c.far.result c.loop-slot.out c.put_port.new.out _
-    (get_at ps c.loop-slot.slot Absent (omega (arith, c.loop-slot-test.true))) c.far.ensures.end c.in_ok-put_port.ensures c.loop-slot.invariant
+    (slice_get-get_or ps c.loop-slot.slot Absent (omega (arith, c.loop-slot-test.true))) c.far.ensures.end c.in_ok-put_port.ensures c.loop-slot.invariant

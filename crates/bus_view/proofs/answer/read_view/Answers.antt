@@ -1,6 +1,7 @@
 use Rattle.bus_view.specs.declared.form.ViewForm.TheVariants.{Script, OfItself}
-use Rattle.bus_view.proofs.Ends.{some_left, of_known}
+use Rattle.bus_view.proofs.Ends.{of_known}
 use Rattle.bus_view.proofs.answer.read_view.Goals as goal
+use Rattle.bus_cli.proofs.Lemmas.{some_left}
 
 pub returns-in_ok-view_script-in-Script-clause-answer :
     goal.returns-in_ok-view_script-in-Script-clause-answer

@@ -1,11 +1,11 @@
-use Rattle.std.proofs.Common.{◌≡◌, ◌≤◌, Err, inl, inr, ℕ, List, length, refl, sym, ap, subst, arith}
+use Rattle.std.proofs.Common.{◌≡◌, Err, inl, inr, ℕ, List, length, refl, sym, ap, subst, arith}
 use Rattle.io_edges.specs.declared.stop.ReadStop.{ReadStop}
 use Rattle.std.specs.Io.KnownBytes.{Appends}
 use Rattle.io_edges.specs.Told.{AppendsStart}
 use Rattle.bus_view.specs.Answer.{Answers, viewed}
-use Rattle.bus_cli.proofs.Lemmas.{part_written, whole_written, exact_status}
+use Rattle.bus_cli.proofs.Lemmas.{part_written, whole_written, exact_status, or_else}
 use Rattle.bus_view.proofs.Forms.{is_held, is_read, is_unread}
-use Rattle.bus_view.proofs.Ends.{written, few_status, not_six, later, never_long, or_else, taken_surely, no_input_status, unread_form, unread_alone, script_text, itself_text}
+use Rattle.bus_view.proofs.Ends.{written, few_status, not_six, later, never_long, taken_surely, no_input_status, unread_form, unread_alone, script_text, itself_text}
 use Rattle.bus_view.proofs.top.view_words.Goals as goal
 
 pub read_view-requires : goal.read_view-requires

@@ -1,5 +1,5 @@
 use Rattle.std.proofs.Common.{◌≡◌, ◌++◌, drop, take}
-use Rattle.topology_stack.specs.codings.Links.{set_all}
+use Rattle.topology_stack.specs.Links.{set_all}
 use Rattle.heapless_c.proofs.links.adopt.Given as goal
 
 -- the rest of the children have yet to get their parent, and the others stand behind the IDs

@@ -1,8 +1,6 @@
 use Rattle.std.proofs.Common.{◌≡◌, ◌∙◌, ◌<◌, [], ◌∷◌, ◌++◌, length, length-append, refl, arith, ap}
 use Rattle.std.proofs.lemmas.Result.{err_from_is_err_and}
-use Rattle.topology_stack.proofs.Loop.{is_after_root, is_full, is_group_fault, is_node_fault, is_end, ended_empty, ended_unrooted, ended_rooted, goes_round, takes, refuses, place_is, moves}
-use Rattle.topology_stack.proofs.Lemmas.{is_refused, is_emitted, some_node}
-use Rattle.topology_stack.proofs.Joining.{kept_is, keeps, count_is, links_one_more}
+use Rattle.topology_stack.proofs.Lemmas.{count_is, ended_empty, ended_rooted, ended_unrooted, goes_round, is_after_root, is_emitted, is_end, is_full, is_group_fault, is_node_fault, is_refused, keeps, kept_is, links_one_more, moves, place_is, refuses, some_node, takes}
 use Rattle.heapless_c.proofs.Joined.{later_highest, linked_tree}
 use Rattle.heapless_c.proofs.reading.link_nodes.Goals as goal
 

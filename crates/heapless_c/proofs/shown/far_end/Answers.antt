@@ -2,7 +2,7 @@ use Rattle.std.proofs.Common.{◌<◌, Option, Some, ℕ, length, sym, ap, ◌�
 use Rattle.std.specs.Prelude.{slice_get}
 use Rattle.std.proofs.lemmas.Option.{slice_get-get_or}
 use Rattle.self_id.specs.declared.node.PortStatus.TheVariants.{Absent, Unplugged, Up, Down}
-use Rattle.topology_stack.proofs.Ends.{end_at, fewer_before, status_at}
+use Rattle.topology_stack.proofs.Lemmas.{end_at, fewer_before, status_at}
 use Rattle.heapless_c.proofs.shown.far_end.Goals as goal
 
 pub returns-in-Absent : goal.returns-in-Absent

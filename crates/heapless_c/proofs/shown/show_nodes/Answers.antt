@@ -4,7 +4,7 @@ use Rattle.std.proofs.lemmas.Option.{slice_get-get_or}
 use Rattle.self_id.specs.Node.{Node, downs}
 use Rattle.self_id.specs.Group.{group}
 use Rattle.topology_stack.specs.Tree.{Tree, walk}
-use Rattle.topology_stack.proofs.Ends.{length-parents, length-children, kids_enough}
+use Rattle.topology_stack.proofs.Lemmas.{kids_enough, length-children, length-parents}
 use Rattle.c_records.specs.Shown.{IsNodeRecord}
 use Rattle.c_records.proofs.Lemmas.{written, stays}
 use Rattle.heapless_c.specs.Reading.{IsLinked, IsPlaced}

@@ -5,7 +5,7 @@ use Rattle.self_id.specs.declared.node.PortStatus.{PortStatus}
 use Rattle.self_id.specs.declared.node.PortStatus.TheVariants.{Absent}
 use Rattle.self_id.specs.Node.{Node}
 use Rattle.topology_stack.specs.Tree.{Tree}
-use Rattle.topology_stack.specs.codings.Stored.{ends_of}
+use Rattle.topology_stack.specs.Stored.{ends_of}
 use Rattle.c_records.specs.Shown.{slot_record, no_slot, IsSlotOf}
 use Rattle.c_records.proofs.Lemmas.{written, replicated}
 use Rattle.heapless_c.specs.Reading.{IsPlaced}

@@ -1,10 +1,10 @@
-use Rattle.std.proofs.Common.{◌≡◌, List, sym, ◌∙◌, subst}
+use Rattle.std.proofs.Common.{List, sym, ◌∙◌, subst}
 use Rattle.std.proofs.lemmas.Option.{none-some}
 use Rattle.cabling.specs.declared.cable.Cable.{Cable}
 use Rattle.loop_advice.specs.Certificate.{IsCertificate}
-use Rattle.loop_advice.specs.Pulled.{ArePulled}
-use Rattle.loop_advice.proofs.Pulled.{can-pull, pulled-none, still-plugged, pulled-step}
+use Rattle.loop_advice.proofs.Pulled.{pulled-none, still-plugged, pulled-step}
 use Rattle.loop_advice.proofs.pulling.pull_advised.Goals as goal
+use Rattle.cabling.proofs.Lemmas.{can-pull}
 
 pub loop-cable-init : goal.loop-cable-init
 loop-cable-init c = pulled-none c.args.cabling.now

@@ -1,10 +1,10 @@
-use Rattle.std.proofs.Common.{◌≡◌, ℕ, ◌+◌, Bool, Some, List, drop, arith, ap, ◌∙◌, sym}
+use Rattle.std.proofs.Common.{◌≡◌, ℕ, ◌+◌, Bool, Some, List, drop, arith}
 use Rattle.std.specs.Prelude.{slice_get}
 use Rattle.self_id.specs.Node.{Node}
 use Rattle.topology_stack.specs.Tree.{walk}
 use Rattle.reset_log.specs.declared.counts.Tally.{Tally}
 use Rattle.reset_log.specs.Noted.{tallied_if, tallied}
-use Rattle.reset_log.proofs.At.{at_drop, item_at}
+use Rattle.quad_lanes.proofs.Lemmas.{at_drop, item_at}
 use Rattle.reset_log.proofs.counts.add_all.Goals as goal
 
 step : (card id : ℕ) (flag : Bool) (ns : List Node) (n : Node) (old new whole : List Tally) →

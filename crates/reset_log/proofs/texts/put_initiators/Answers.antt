@@ -3,7 +3,7 @@ use Rattle.std.specs.Prelude.{slice_get}
 use Rattle.self_id.specs.Node.{Node}
 use Rattle.topology_stack.specs.Tree.{walk}
 use Rattle.reset_log.specs.Texts.{initiator, initiators}
-use Rattle.reset_log.proofs.At.{at_drop, item_at}
+use Rattle.quad_lanes.proofs.Lemmas.{at_drop, item_at}
 use Rattle.reset_log.proofs.texts.put_initiators.Goals as goal
 
 step : (id : ℕ) (flag : Bool) (ns : List Node) (n : Node) (old new whole : List ℕ) →

@@ -1,6 +1,6 @@
 use Rattle.script_words.specs.Column.{word_found}
-use Rattle.script_words.proofs.Joined.{five}
 use Rattle.script_words.proofs.column.put_word_found.Goals as goal
+use Rattle.quad_lanes.proofs.Lemmas.{five}
 
 pub returns : goal.returns
 unfolding word_found

@@ -1,6 +1,6 @@
 use Rattle.script_words.specs.LineSentence.{byte_sentence}
-use Rattle.script_words.proofs.Joined.{four}
 use Rattle.script_words.proofs.line_sentence.put_byte_sentence.Goals as goal
+use Rattle.quad_lanes.proofs.Lemmas.{four}
 
 pub returns : goal.returns
 unfolding byte_sentence

@@ -1,6 +1,6 @@
 use Rattle.script_words.specs.Sentence.{ports_wanted}
-use Rattle.script_words.proofs.Joined.{four}
 use Rattle.script_words.proofs.sentence.put_ports_wanted.Goals as goal
+use Rattle.quad_lanes.proofs.Lemmas.{four}
 
 pub returns : goal.returns
 unfolding ports_wanted

@@ -1,8 +1,8 @@
 use Rattle.std.proofs.Common.{◌≡◌, true, All, sym, subst}
 use Rattle.self_id.specs.Node.{FitBits}
-use Rattle.settle.proofs.Shown.{attrs-fit}
 use Rattle.settle.proofs.TreeShown.{tree-fits, fits-tree}
 use Rattle.settle.proofs.tree.tree_of.Goals as goal
+use Rattle.cable_world.proofs.Lemmas.{attrs-fit}
 
 pub tree_shown_from-requires-clause-valid : goal.tree_shown_from-requires-clause-valid
 tree_shown_from-requires-clause-valid g c =

@@ -1,5 +1,5 @@
 use Rattle.std.proofs.Common.{◌≡◌, ◌++◌, drop}
-use Rattle.topology_stack.specs.codings.Stored.{all_ends}
+use Rattle.topology_stack.specs.Stored.{all_ends}
 use Rattle.topology_stack.specs.Text.{lines_from}
 use Rattle.topology_stack.proofs.text.put_lines.Given as goal
 

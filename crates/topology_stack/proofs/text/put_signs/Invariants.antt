@@ -1,5 +1,5 @@
 use Rattle.std.proofs.Common.{◌≡◌, ◌++◌, drop}
-use Rattle.topology_stack.specs.codings.Stored.{ends_of}
+use Rattle.topology_stack.specs.Stored.{ends_of}
 use Rattle.topology_stack.specs.Text.{signs}
 use Rattle.topology_stack.proofs.text.put_signs.Given as goal
 

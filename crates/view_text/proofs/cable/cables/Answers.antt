@@ -6,7 +6,7 @@ use Rattle.topology_stack.specs.Far.{ends}
 use Rattle.speed_map.proofs.Lemmas.{length-ends_from}
 use Rattle.view_text.specs.declared.cable.Cable.{Cable}
 use Rattle.view_text.specs.Cable.{cables_of, cables_from, cables}
-use Rattle.view_text.proofs.At.{at_drop, item_at}
+use Rattle.quad_lanes.proofs.Lemmas.{at_drop, item_at}
 use Rattle.view_text.proofs.cable.cables.Goals as goal
 
 step : (t : Tree) (id : ℕ) (ns : List Node) (ends : List (List (Option ℕ))) (n : Node) (es : List (Option ℕ)) (old new whole : List Cable) →

@@ -5,7 +5,8 @@ use Rattle.self_id.specs.declared.node.PortStatus.TheVariants.{Absent}
 use Rattle.topology_stack.specs.Tree.{Tree}
 use Rattle.view_text.specs.declared.cable.Cable.{Cable}
 use Rattle.view_text.specs.Cable.{cable_at, cables_of}
-use Rattle.view_text.proofs.At.{at_drop, get_at}
+use Rattle.quad_lanes.proofs.Lemmas.{at_drop}
+use Rattle.std.proofs.lemmas.Option.{slice_get-get_or}
 use Rattle.view_text.proofs.cable.put_cables.Goals as goal
 
 step : (t : Tree) (id slot : ℕ) (ps : List PortStatus) (p : PortStatus) (es : List (Option ℕ)) (far : Option ℕ) (old new whole : List Cable) →
@@ -24,4 +25,4 @@ loop-slot-preserved c = λ es is.
     let same : end.of_node ≡ es = cc in
     let there : slice_get es c.loop-slot.slot ≡ Some c.far-far.result = rw same at end.slot_end in
     step c.args.tree.now c.args.id c.loop-slot.slot ps (get_or ps c.loop-slot.slot Absent) es c.far-far.result c.loop-slot.list.items c.put_cable.new.list.items _
-    (get_at ps c.loop-slot.slot Absent (omega (arith, c.loop-slot-test.true))) there c.in_ok-put_cable.ensures (c.loop-slot.invariant es is)
+    (slice_get-get_or ps c.loop-slot.slot Absent (omega (arith, c.loop-slot-test.true))) there c.in_ok-put_cable.ensures (c.loop-slot.invariant es is)

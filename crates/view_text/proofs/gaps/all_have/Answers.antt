@@ -4,7 +4,7 @@ use Rattle.std.proofs.lemmas.Bool.Decides.{nat_tests}
 use Rattle.self_id.specs.Node.{Node}
 use Rattle.topology_stack.specs.Tree.{walk}
 use Rattle.view_text.specs.Drawing.{all_have}
-use Rattle.view_text.proofs.At.{at_drop, item_at}
+use Rattle.quad_lanes.proofs.Lemmas.{at_drop, item_at}
 use Rattle.view_text.proofs.gaps.all_have.Goals as goal
 
 other_gap : (gap id : ℕ) (ns : List Node) (n : Node) → slice_get ns id ≡ Some n →

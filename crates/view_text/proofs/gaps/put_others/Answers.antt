@@ -3,7 +3,7 @@ use Rattle.std.specs.Prelude.{slice_get}
 use Rattle.self_id.specs.Node.{Node}
 use Rattle.topology_stack.specs.Tree.{walk}
 use Rattle.view_text.specs.Drawing.{other, others}
-use Rattle.view_text.proofs.At.{at_drop, item_at}
+use Rattle.quad_lanes.proofs.Lemmas.{at_drop, item_at}
 use Rattle.view_text.proofs.gaps.put_others.Goals as goal
 
 step : (gap id found : ℕ) (ns : List Node) (n : Node) (old new whole : List ℕ) →

@@ -3,7 +3,7 @@ use Rattle.std.specs.Prelude.{slice_get}
 use Rattle.self_id.specs.Node.{Node}
 use Rattle.topology_stack.specs.Tree.{walk}
 use Rattle.view_text.specs.Graph.{graph_node, graph_nodes}
-use Rattle.view_text.proofs.At.{at_drop}
+use Rattle.quad_lanes.proofs.Lemmas.{at_drop}
 use Rattle.view_text.proofs.graph.put_nodes.Goals as goal
 
 step : (id root last : ℕ) (irm : Option ℕ) (ns : List Node) (n : Node) (old new whole : List ℕ) →

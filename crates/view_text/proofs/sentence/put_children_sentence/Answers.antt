@@ -1,6 +1,6 @@
 use Rattle.view_text.specs.Sentence.{children_sentence}
-use Rattle.view_text.proofs.Joined.{three}
 use Rattle.view_text.proofs.sentence.put_children_sentence.Goals as goal
+use Rattle.quad_lanes.proofs.Lemmas.{three}
 
 pub returns : goal.returns
 unfolding children_sentence

@@ -1,6 +1,6 @@
 use Rattle.view_text.specs.Sentence.{id_sentence}
-use Rattle.view_text.proofs.Joined.{three}
 use Rattle.view_text.proofs.sentence.put_id_sentence.Goals as goal
+use Rattle.quad_lanes.proofs.Lemmas.{three}
 
 pub returns : goal.returns
 unfolding id_sentence

@@ -1,6 +1,6 @@
 use Rattle.view_text.specs.Sentence.{inverse_sentence}
-use Rattle.view_text.proofs.Joined.{five}
 use Rattle.view_text.proofs.sentence.put_inverse_sentence.Goals as goal
+use Rattle.quad_lanes.proofs.Lemmas.{five}
 
 pub returns : goal.returns
 unfolding inverse_sentence

@@ -1,5 +1,5 @@
 use Rattle.std.proofs.Common.{ap, length, arith}
-use Rattle.topology_stack.proofs.Cutting.{later}
+use Rattle.topology_stack.proofs.Lemmas.{later}
 use Rattle.heapless_c.proofs.links.ChildLists.of.Goals as goal
 
 pub bounds-deref-id : goal.bounds-deref-id

@@ -1,5 +1,5 @@
 use Rattle.std.proofs.Common.{arith, refl}
-use Rattle.topology_stack.proofs.Cutting.{has_room, has_end, pushed}
+use Rattle.topology_stack.proofs.Lemmas.{has_end, has_room, pushed}
 use Rattle.heapless_c.proofs.links.ChildLists.push.Goals as goal
 
 pub adopt-requires : goal.adopt-requires

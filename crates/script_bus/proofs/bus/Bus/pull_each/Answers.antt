@@ -4,8 +4,9 @@ use Rattle.cabling.specs.declared.cable.Cable.{Cable}
 use Rattle.cable_world.proofs.Lemmas.{lawful-now}
 use Rattle.script_advice.specs.Advice.{PullsLead}
 use Rattle.script_advice.specs.Advising.{ArePullable}
-use Rattle.script_advice.proofs.Lemmas.{can-pull, next-pullable}
+use Rattle.script_advice.proofs.Lemmas.{next-pullable}
 use Rattle.script_bus.proofs.bus.Bus.pull_each.Goals as goal
+use Rattle.cabling.proofs.Lemmas.{can-pull}
 
 pub act_done-requires-clause-fits : goal.act_done-requires-clause-fits
 act_done-requires-clause-fits c =

@@ -1,6 +1,6 @@
 use Rattle.std.proofs.Common.{arith}
-use Rattle.cabling.proofs.Lemmas.{below, some_node}
-use Rattle.world_agenda.proofs.Bits.{removed-gone, removed-others, removed-less, removed-small}
+use Rattle.cabling.proofs.Lemmas.{below, some_node, removed-gone, removed-others, removed-small}
+use Rattle.world_agenda.proofs.Bits.{removed-less}
 use Rattle.world_agenda.proofs.mask.NodeMask.take_least.Goals as goal
 
 pub invariant_of-self : goal.invariant_of-self

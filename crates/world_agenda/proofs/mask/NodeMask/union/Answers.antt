@@ -1,5 +1,5 @@
-use Rattle.world_agenda.proofs.Bits.{in_union, union-small}
 use Rattle.world_agenda.proofs.mask.NodeMask.union.Goals as goal
+use Rattle.cabling.proofs.Lemmas.{in_union, union-small}
 
 pub invariant_of-result : goal.invariant_of-result
 invariant_of-result c = union-small c.self.inside.bits c.other.inside.bits c.self.invariant c.other.invariant

@@ -1,6 +1,6 @@
 use Rattle.std.proofs.Common.{◌≡◌, ◌++◌, drop}
 use Rattle.quad_lanes.specs.Capture.{capture}
-use Rattle.bus_view.proofs.pairs.capture_of.Given as goal
+use Rattle.quad_lanes.proofs.capture.capture_of.Given as goal
 
 -- what was written and the capture of the quadlets that are left are the whole
 abbrev pub invariant-loop-quad : goal.invariant-loop-quad

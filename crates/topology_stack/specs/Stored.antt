@@ -1,5 +1,4 @@
--- What a `BusTree` keeps: the nodes by ID, and the IDs of each one's parent and children. No public
--- contract cites this file.
+-- What a `BusTree` keeps: the nodes by ID, and the IDs of each one's parent and children.
 use Rattle.std.specs.Prelude.{◌≡◌, ℕ, ◌+◌, ◌-◌, Option, Some, None, List, [], ◌∷◌, ◌++◌, length}
 use Rattle.self_id.specs.declared.node.PortStatus.{PortStatus}
 use Rattle.self_id.specs.declared.node.PortStatus.TheVariants.{Absent, Unplugged, Up, Down}

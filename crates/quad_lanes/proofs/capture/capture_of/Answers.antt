@@ -1,9 +1,9 @@
-use Rattle.std.proofs.Common.{◌≡◌, ◌++◌, ◌∷◌, ◌+◌, ◌<◌, ℕ, List, length, drop, get_or, sym, ap, ◌∙◌, append_assoc}
+use Rattle.std.proofs.Common.{◌≡◌, ◌++◌, ◌∷◌, ◌+◌, ℕ, List, drop, get_or, sym, ap, ◌∙◌, append_assoc}
 use Rattle.std.specs.Int.{w32, to_be_bytes}
 use Rattle.std.proofs.lemmas.List.{drop_more}
 use Rattle.quad_lanes.specs.Capture.{capture}
 use Rattle.quad_lanes.specs.Pairs.{inverse}
-use Rattle.bus_view.proofs.pairs.capture_of.Goals as goal
+use Rattle.quad_lanes.proofs.capture.capture_of.Goals as goal
 
 -- one pair more was written
 moved : (old new quad turned rest whole : List ℕ) → new ≡ old ++ (quad ++ turned) →

@@ -1,8 +1,8 @@
--- A list from a place on.
-use Rattle.std.proofs.Common.{◌≡◌, ℕ, zero, suc, ◌+◌, ◌<◌, length, Some, List, [], ◌∷◌, drop, refl, arith}
+-- What stands at a place of a list, and the list from there on.
+use Rattle.std.proofs.Common.{◌≡◌, ℕ, zero, suc, ◌+◌, ◌<◌, Some, List, [], ◌∷◌, length, drop, refl, arith}
 use Rattle.std.specs.Prelude.{slice_get}
 
--- it begins with the item that stands there
+-- the list from a place on begins with the item that stands there
 pub at_drop : {X : Type 0} (xs : List X) (k : ℕ) (x : X) → slice_get xs k ≡ Some x →
     drop k xs ≡ x ∷ drop (k + 1) xs
 at_drop [] k x e = absurd cc

@@ -1,4 +1,4 @@
--- How the links of nodes are kept while the nodes come. No public contract cites this file.
+-- How the links of nodes are kept while the nodes come.
 use Rattle.std.specs.Prelude.{◌≡◌, ℕ, ◌+◌, ◌-◌, ◌≤◌, List, [], ◌∷◌, ◌++◌, length, take, drop, slice_set}
 use Rattle.self_id.specs.Node.{Node, downs}
 

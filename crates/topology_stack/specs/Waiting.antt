@@ -1,4 +1,4 @@
--- What waits for a parent after one more node of a list. No public contract cites this file.
+-- What waits for a parent after one more node of a list.
 use Rattle.std.specs.Prelude.{ℕ, ◌+◌, ◌-◌, ◌&&◌, ◌==◌, nat_lt, if◌then◌else◌, Result, Ok, Err}
 use Rattle.self_id.specs.Node.{Node, ups, downs}
 use Rattle.topology_stack.specs.declared.fault.TreeFault.{TreeFault}
