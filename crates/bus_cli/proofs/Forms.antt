@@ -84,13 +84,6 @@ pub one_form : (words : List (String Global)) (a b : Form) → Asks words a → 
 one_form words a b x y =
     same_form a b (form_of (map string_bytes words)) (is_found a (map string_bytes words) x) (is_found b (map string_bytes words) y)
 
--- the words of `make` are those of one number of nodes and one seed
-pub one_make : (words : List (String Global)) (n m s r : ℕ) → Asks words (Make n s) →
-    Asks words (Make m r) → (n ≡ m) × (s ≡ r)
-one_make words n m s r x y =
-    let e : Make n s ≡ Make m r = one_form words (Make n s) (Make m r) x y in
-    (cc, cc)
-
 same-itself : (zs : List ℕ) → same zs zs ≡ true
 unfolding same
 same-itself [] = refl

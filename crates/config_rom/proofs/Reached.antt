@@ -19,15 +19,6 @@ behind : (quads : List ℕ) (at entry target : ℕ) (k : BlockKind) → LeadsTo 
     at < target
 behind quads at entry target k l = omega (arith, l.is_entry.behind, l.target_is)
 
-pub no_entries : (quads : List ℕ) (at : ℕ) (m : Marks) → AddsTargets quads at (at + 1) m m
-no_entries quads at m = record {
-  covered = λ entry target k lt l. absurd (omega (arith, lt, l.is_entry.behind));
-  kept = λ k p h. h;
-  only = λ k p lt h. inl h;
-  beyond = λ b e. inl e;
-  none_itself = λ entry lt s. absurd (omega (arith, lt, s.leads.is_entry.behind));
-}
-
 last_or_before : (entry before : ℕ) → entry < before + 1 → (entry ≡ before) ⊎ (entry < before)
 last_or_before entry before lt = elim (cases_lt entry before) [
   | inl less ↦ inr less
@@ -172,23 +163,6 @@ take_more quads root at old new small t h = go (has_mark old Directory at) refl
 
 none_is : (b : ℕ) (o : Option ℕ) → o ≡ None → o ≡ Some b → ⊥
 none_is b o n s = cc
-
-pub take_none : (quads : List ℕ) (root : ℕ) (empty m : Marks) → root < 256 →
-    ((k : BlockKind) (p : ℕ) → has_mark empty k p ≡ false) → empty.beyond ≡ None →
-    Adds empty m Directory root → Taken quads root 0 m
-take_none quads root empty m small none no_beyond a = record {
-  root_in = a.covered;
-  closed = λ directory entry target k lt has l. absurd (omega (arith, lt));
-  reached = λ k p lt has. elim (a.only k p lt has) [
-    | inl before ↦ absurd (true≢false (sym before ∙ none k p))
-    | inr now ↦ λ set c. subst (λ x. set x p ≡ true) (sym now.0) (subst (λ x. set Directory x ≡ true) (sym now.1) c.root_in)
-  ];
-  beyond = λ b e. elim (a.beyond b e) [
-    | inl before ↦ absurd (none_is b empty.beyond no_beyond before)
-    | inr now ↦ absurd (omega (arith, now.0, now.1, small))
-  ];
-  faultless = λ k p lt has f fault. omega (arith, lt);
-}
 
 -- ---- what is reached is marked
 

@@ -61,30 +61,6 @@ good_behind mid new at p lt s h =
     good_along mid new p (ap (λ (q : ℕ). q / 2 ^ 16) same) (ap (λ (q : ℕ). q % 2 ^ 16) same) held h
 
 -- ---- from place to place
-
-pub sealed_start : (quads : List ℕ) (m : Marks) (count : ℕ) → count ≡ length quads →
-    SealedFrom quads quads m count
-sealed_start quads m count e = record {
-  size = refl;
-  high = λ p. refl;
-  others = λ p _. refl;
-  good = λ p k le lt _. absurd (omega (arith, e, le, lt));
-}
-
-pub sealed_skip : (old new : List ℕ) (m : Marks) (at : ℕ) → SealedFrom old new m (at + 1) →
-    IsBare m at → SealedFrom old new m at
-sealed_skip old new m at h bare = record {
-  size = h.size;
-  high = h.high;
-  others = λ p d. ⊎_elim (λ (less : p < at). h.others p (inl (omega (arith, less)))) (λ (b : IsBare m p). h.others p (inr b)) d;
-  good = λ p k le lt mark. ⊎_elim
-      (λ (behind : at < p). h.good p k (omega (arith, behind)) lt mark)
-      (λ (here : p ≤ at).
-      let same : p ≡ at = omega (arith, le, here) in
-      absurd (bare k (subst (λ (n : ℕ). has_mark m k n ≡ true) same mark)))
-      (cases_lt at p);
-}
-
 pub sealed_more : (old mid new : List ℕ) (m : Marks) (at : ℕ) (kind : BlockKind) →
     SealedFrom old mid m (at + 1) → at < length old → has_mark m kind at ≡ true →
     SealsAt mid new at → SealedFrom old new m at

@@ -2,10 +2,10 @@
 use Rattle.std.proofs.Common.{◌≡◌, ℕ, ◌<◌, ◌≤◌, Option, Some, List, length, get_or}
 use Rattle.std.specs.Prelude.{slice_get}
 use Rattle.self_id.specs.declared.node.PortStatus.TheVariants.{Absent}
-use Rattle.self_id.specs.Node.{Node, downs}
+use Rattle.self_id.specs.Node.{Node}
 use Rattle.topology_stack.specs.Tree.{Tree, walk}
 use Rattle.topology_stack.specs.Stored.{ends_of}
-use Rattle.topology_stack.proofs.Lemmas.{far_is, kids_enough}
+use Rattle.topology_stack.proofs.Lemmas.{far_is}
 use Rattle.c_records.specs.declared.records.SlotRecord.{SlotRecord}
 use Rattle.c_records.specs.Shown.{slot_record, no_slot, IsSlotOf}
 use Rattle.c_records.proofs.Lemmas.{slot_of, slot_past}
@@ -23,8 +23,3 @@ placed_slot t id k n parent children far r p inside end is =
 pub placed_past : (t : Tree) (id k : ℕ) (n : Node) (parent : ℕ) (children : List ℕ) (r : SlotRecord) →
     IsPlaced t id n parent children → length n.ports ≤ k → r ≡ no_slot → IsSlotOf t id k r
 placed_past t id k n parent children r p past is = slot_past t id k n r p.node past is
-
--- it has as many children as slots that are down
-pub placed_kids : (t : Tree) (id : ℕ) (n : Node) (parent : ℕ) (children : List ℕ) →
-    IsPlaced t id n parent children → length children ≡ downs n.ports
-placed_kids t id n parent children p = kids_enough t (walk t) p.parents p.lists id n children p.stored p.node p.below

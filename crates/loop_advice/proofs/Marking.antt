@@ -15,25 +15,12 @@ use Rattle.loop_advice.proofs.Listed.{lists_left, lists_right, lists_last, once_
 abbrev pub cable : End → End → Cable
 cable a b = record { a = a; b = b }
 
--- a port of a node
-abbrev IsPort : End → Type 0
-IsPort end = end.port < 16
-
 -- the cables so far are cables of the set, none of them twice, and their ends are marked
 pub record Marking (c : Wiring) (set : ℕ) (done : List Cable) (m : Marks) : Type 0 where
   pub valid : (x : Cable) → Lists done x → IsCableOf c set x
   pub once : HasNoneTwice done
   pub marked : (a : End) → a.port < 16 → IsMarked m a → (b : End) × Lists done (cable a b)
   pub ends : (x : Cable) → Lists done x → IsMarked m x.a
-
-pub marking_first : (c : Wiring) (set : ℕ) (m : Marks) → ((end : End) → IsMarked m end → ⊥) →
-    Marking c set [] m
-marking_first c set m none = record {
-  valid = λ x l. absurd l;
-  once = tt;
-  marked = λ a p h. absurd (none a h);
-  ends = λ x l. absurd l;
-}
 
 -- an end with a cable is at a port below 16
 pub few_ports : (c : Wiring) (a b : End) → IsCabling c → far c a ≡ Some b → a.port < 16

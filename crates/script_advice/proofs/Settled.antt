@@ -1,5 +1,5 @@
 -- What is advised on a bus that has settled.
-use Rattle.std.proofs.Common.{◌≡◌, Option, None, Some, List, refl}
+use Rattle.std.proofs.Common.{Option, None, Some, List}
 use Rattle.std.specs.Prelude.{All, IfSome, IsSomeAnd}
 use Rattle.cable_world.specs.World.{CableWorld}
 use Rattle.settle.specs.declared.report.Part.{Part}
@@ -7,9 +7,7 @@ use Rattle.settle.specs.declared.report.Report.{Report}
 use Rattle.settle.specs.Report.{IsPart, IsReport}
 use Rattle.script_advice.specs.declared.advice.LoopAdvice.{LoopAdvice}
 use Rattle.script_text.specs.ReportText.{Names, IsNamedReport}
-use Rattle.script_told.specs.Bus.{Bus}
-use Rattle.script_told.specs.Step.{LineAnswer, Settles}
-use Rattle.script_advice.specs.Advice.{AreAdvices, loops_of, all_pulls, PullsLead, advice_text, after_text, Advises}
+use Rattle.script_advice.specs.Advice.{AreAdvices, loops_of, all_pulls}
 use Rattle.script_advice.specs.Advising.{IsPartOf, IsNamedAdvice, ArePullable}
 use Rattle.script_advice.proofs.Advising.{named-advices, all-pullable}
 use Rattle.script_told.proofs.Lemmas.{IsCabled}
@@ -43,22 +41,3 @@ pub pullable-now :
 pullable-now w None advices cabled is are = absurd is
 pullable-now w (Some report) advices cabled is are =
     reported-pullable w report advices cabled is are
-
--- what the second settle comes to is what the advice comes to
-pub advises-now :
-    (bus pulled : Bus) (o : Option Report) (advices : List LoopAdvice) (settled : LineAnswer) →
-    bus.notes.report ≡ o → IsSomeAnd o (IsReport bus.world) → IfSome o (AreFor bus.world advices) →
-    PullsLead bus (all_pulls advices) pulled → Settles pulled settled →
-    Advises bus (after_text (advice_text bus.notes.names advices) settled)
-advises-now bus pulled None advices settled last is are pulls settles = absurd is
-advises-now bus pulled (Some report) advices settled last is are pulls settles = record {
-  report = report;
-  last = last;
-  advices = advices;
-  are = are;
-  pulled = pulled;
-  pulls = pulls;
-  settled = settled;
-  settles = settles;
-  answer_is = refl;
-}

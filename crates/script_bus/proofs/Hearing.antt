@@ -82,17 +82,6 @@ act-hears voice bus after command out new act is = record {
   written = is;
 }
 
-pub hold-hears :
-    (voice : Voice) (bus after : Bus) (command : Command) (out new : List ℕ) (turn : ℕ) →
-    IsHoldCommand command → turn ≡ bus.world.turns →
-    new ≡ out ++ voice.command turn command →
-    Hears voice bus command after out new
-hold-hears voice bus after command out new turn hold at is = record {
-  lines = voice.command bus.world.turns command;
-  traces = by-hold voice bus after command (voice.command bus.world.turns command) hold refl;
-  written = is ∙ ap (λ (t : ℕ). out ++ voice.command t command) at;
-}
-
 pub question-hears :
     (voice : Voice) (bus after : Bus) (command : Command) (out : List ℕ) → IsQuestion command →
     Hears voice bus command after out out

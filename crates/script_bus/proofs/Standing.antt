@@ -28,7 +28,7 @@ use Rattle.settle.specs.declared.report.Outcome.{Outcome}
 use Rattle.settle.specs.declared.report.Outcome.TheVariants as reported
 use Rattle.settle.specs.declared.report.Part.{Part}
 use Rattle.settle.specs.declared.report.Report.{Report}
-use Rattle.settle.specs.Report.{IsPart, IsReport}
+use Rattle.settle.specs.Report.{IsPart}
 use Rattle.settle.specs.Reported.{IsReported, ReportsTree}
 use Rattle.settle.proofs.Lemmas.{one-order, same-component, same-tree}
 use Rattle.script_told.specs.Bus.{Notes, Reported, tree_of, part_with, tree_with}
@@ -78,10 +78,6 @@ pub hold-stands :
     v ≡ hold end n w → IfSome o (λ r. StandsSince r w) → IfSome o (λ r. StandsSince r v)
 hold-stands end n w v None none e h = h
 hold-stands end n w v (Some r) none e h = since-more r (holds end n ∷ []) w v tt (v, (none, e), refl) h
-
-pub new-stands : (w : CableWorld) (report : Report) → ∥ IsReached w ∥₁ → IsReport w report →
-    StandsSince report w
-new-stands w report r is = record { before = w; reached = r; is = is; events = []; no_act = tt; run = refl }
 
 run-cables : (events : List Event) (w v : CableWorld) → HasNoAct events → Runs events w v →
     v.cabling ≡ w.cabling

@@ -7,7 +7,7 @@ use Rattle.std.proofs.lemmas.List.Elements.{All-head, All-tail}
 use Rattle.port_state.specs.Sends.{PortSignal}
 use Rattle.port_state.specs.Names.{timer, without}
 use Rattle.port_state.specs.Machine.{PortNode, node_tick}
-use Rattle.port_state.specs.Idle.{IsIdleTick, IsIdleFor, IdleTicksRaiseTimers, after_ticks, with_later_timer}
+use Rattle.port_state.specs.Idle.{IsIdleTick, IsIdleFor, after_ticks}
 use Rattle.cable_world.specs.Wire.{Wire, add_signals}
 use Rattle.cable_world.specs.Turn.{node_turn, wires_after_sends, same_list}
 use Rattle.world_agenda.specs.Clock.{caught_up}
@@ -58,13 +58,6 @@ pub still-idle :
     IsIdleFor count (caught_up turns clock n)
 still-idle count turns clock idle n behind few h =
     idle-then (turns - clock) idle count n (omega (arith, behind, few)) h
-
--- what it shows meanwhile
-pub timer-later :
-    (turns clock idle : ℕ) (n : PortNode) → IdleTicksRaiseTimers → n.state.view.timer ≤ 65535 → turns ≤ clock + idle →
-    IsIdleFor idle n → caught_up turns clock n ≡ record n { state = with_later_timer (turns - clock) n.state }
-timer-later turns clock idle n law low few h =
-    law (turns - clock) n low (idle-less (turns - clock) idle n (omega (arith, few)) h)
 
 pub keeps-late :
     (turns clock idle : ℕ) (n : PortNode) → turns ≤ clock + idle → IsIdleFor idle n →

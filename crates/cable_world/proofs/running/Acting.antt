@@ -58,13 +58,6 @@ from-some f P [] k m h at = absurd h
 from-some f P (n ∷ ms) zero m h at = subst (λ z. P (f z)) (sym at) h
 from-some f P (n ∷ ms) (suc k) m h at = from-some f P ms k m h at
 
-pub some-inside :
-    {M : Type 0} → (f : M → PortNode) (P : PortNode → Type 0) (ms : List M) (k : ℕ) →
-    IsSomeAnd (slice_get (map f ms) k) P → k < length ms
-some-inside f P [] k h = absurd h
-some-inside f P (n ∷ ms) zero h = omega arith
-some-inside f P (n ∷ ms) (suc k) h = omega (arith, some-inside f P ms k h)
-
 there :
     {M : Type 0} → (f : M → PortNode) (ms : List M) (k : ℕ) (m : M) → k < length ms → m ≡ get_or ms k m →
     slice_get (map f ms) k ≡ Some (f m)

@@ -290,13 +290,6 @@ behind-more old sent new e is more =
     let few : length old ≤ length sent = omega (arith, ap length is, length-take (length old) sent) in
     ap (take (length old)) more ∙ take-append-le (length old) sent (e ∷ []) few ∙ is
 
--- the first entries of a list stay where more are put behind
-pub first-behind :
-    (n : ℕ) (old new : List UnderWay) → n ≤ length old → take (length old) new ≡ old →
-    take n new ≡ take n old
-first-behind n old new few is =
-    sym (take-take n (length old) new few) ∙ ap (take n) is
-
 -- a place is changed: of the entries before it and of those with it
 pub places-more :
     (p i : ℕ) (now old : List UnderWay) (e : UnderWay) (q : Bool) →

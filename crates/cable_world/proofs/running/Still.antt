@@ -1,10 +1,10 @@
 -- Turns in which nothing happens: nothing arrives, every node ticks idly, and nothing is sent.
-use Rattle.std.proofs.Common.{◌≡◌, ℕ, zero, suc, ◌+◌, ◌-◌, ◌<◌, ◌≤◌, Bool, true, false, List, [], ◌∷◌, ◌++◌, All, map, length, Option, Some, None, slice_index_or, get_or, take, refl, sym, subst, ◌∙◌, ap, arith, add-one, if◌then◌else◌}
+use Rattle.std.proofs.Common.{◌≡◌, ℕ, zero, suc, ◌+◌, ◌-◌, ◌≤◌, Bool, true, false, List, [], ◌∷◌, ◌++◌, All, map, length, Option, Some, None, slice_index_or, take, refl, sym, ◌∙◌, ap, arith, add-one, if◌then◌else◌}
 use Rattle.std.specs.Prelude.{nat_eq, Vec}
 use Rattle.std.specs.Vec.{with_items}
 use Rattle.std.specs.Cmp.Lexicographic.{pointwise}
 use Rattle.std.proofs.lemmas.List.{length-map, with_items_is}
-use Rattle.std.proofs.lemmas.List.Elements.{All-head, All-tail, All-cons, All-map, All-weaker, All-more}
+use Rattle.std.proofs.lemmas.List.Elements.{All-head, All-tail, All-cons, All-map, All-weaker}
 use Rattle.cabling.specs.declared.cable.End.{End}
 use Rattle.cabling.specs.Wiring.{Wiring}
 use Rattle.port_state.specs.declared.timing.Timing.{Timing}
@@ -217,25 +217,6 @@ still-turns (suc k) w e h =
     ∙ one-passes k w
 
 -- ---- machines that are asked one after the other
-
-pub at-map :
-    {M : Type 0} → (f : M → PortNode) (P : PortNode → Type 0) (ms : List M) (k : ℕ) (m : M) → k < length ms →
-    m ≡ get_or ms k m → All P (map f ms) → P (f m)
-at-map f P [] k m inside at h = absurd (omega arith)
-at-map f P (n ∷ ms) zero m inside at h = subst (λ z. P (f z)) (sym at) (h 0 (f n) (omega arith))
-at-map f P (n ∷ ms) (suc k) m inside at h = at-map f P ms k m (omega arith) at (All-tail P (f n) (map f ms) h)
-
-pub idle-more :
-    {M : Type 0} → (f : M → PortNode) (ms : List M) (k : ℕ) (m : M) (least : ℕ) → k < length ms → m ≡ get_or ms k m →
-    All (λ n. IsIdleFor least (f n)) (take k ms) → IsIdleFor least (f m) → All (λ n. IsIdleFor least (f n)) (take (k + 1) ms)
-idle-more f ms k m least inside at h i =
-    All-more (λ n. IsIdleFor least (f n)) ms k m inside h (subst (λ n. IsIdleFor least (f n)) at i)
-
-pub idle-fewer :
-    {M : Type 0} → (f : M → PortNode) (ms : List M) (j k : ℕ) → j ≤ k → All (λ n. IsIdleFor k (f n)) ms →
-    All (λ n. IsIdleFor j (f n)) ms
-idle-fewer f ms j k few h = All-weaker (λ n. IsIdleFor k (f n)) (λ n. IsIdleFor j (f n)) (λ n i. idle-less j k (f n) few i) ms h
-
 pub all-taken : {X : Type 0} → (P : X → Type 0) (k : ℕ) (xs : List X) → length xs ≤ k →
     All P (take k xs) → All P xs
 all-taken P zero [] few h = h

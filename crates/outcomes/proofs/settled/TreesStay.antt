@@ -1,7 +1,7 @@
 -- A component that has come to a tree is at rest, and so it stays in its tree.
-use Rattle.std.proofs.Common.{◌≡◌, ℕ, ◌^◌, ◌<◌, true, List, [], ◌∷◌, None, Some, length, slice_get, sym, ◌∙◌, ap, subst, arith}
+use Rattle.std.proofs.Common.{◌≡◌, ℕ, ◌^◌, ◌<◌, true, List, [], ◌∷◌, None, Some, length, slice_get, sym, ◌∙◌, ap, subst}
 use Rattle.outcomes.proofs.Common.{Tree, emits, Wiring, Holds, IsComponent, PortNode, CableWorld, turn, Act, ActLeads, IsAct, act_fault, hold, note_changes, acting, some-of, some-same, comes-lawful, act-comes, cabling-after, Event, acts, holds, turns, Runs, ComesOfPowerOn, IsLawful, IsTree, AreIdentifying, is_ready, Settles, IsNumbering, IsSettling, IsAtRest, HasNoAct}
-use Rattle.cable_world.proofs.Lemmas.{act-keeps, turn-comes, hold-comes}
+use Rattle.cable_world.proofs.Lemmas.{turn-comes, hold-comes}
 use Rattle.outcomes.proofs.identify.MarksKept.{ready-hears}
 use Rattle.outcomes.proofs.numbers.AtRest.{rests-where, rests-on, rest-tree}
 use Rattle.outcomes.proofs.numbers.HoldRests.{hold-settles, hold-rests}
@@ -78,15 +78,6 @@ tree-stays (turns ∷ events) w v r none run node set comp small root t h =
     (subst (λ (c : Wiring). IsComponent c node set) (sym (cabling-after w)) comp) small root t (turn-tree w r node set comp small root t h)
 
 -- ---- acts on other components
-
--- the nodes of a tree are there after an act
-pub here-after :
-    (a : Act) (w v : CableWorld) → ActLeads a w v → (set root : ℕ) (t : Tree) →
-    IsTree w set root t →
-    (k : ℕ) → Holds set k → k < length v.nodes
-here-after a w v leads set root t h k inside =
-    omega (arith, in-tree w set root t h k inside, (act-keeps a w v leads).nodes)
-
 -- where the component is left alone, it keeps its tree
 alone-tree :
     (w v : CableWorld) (r : ComesOfPowerOn w) → ComesOfPowerOn v → (node set : ℕ) → LeavesAlone w v set →
