@@ -186,7 +186,7 @@ enum busconf_status busconf_read_capture(const uint8_t *bytes, size_t count, uin
 
 /* Tells the line of a fault as `busconf read` writes it, in ASCII with its line feed and with no byte 0 behind it.
  * BUSCONF_OK: the first `*needed` bytes at `place` are the line. BUSCONF_TOO_SHORT: `*needed` is how many they are; no
- * line has more than 128. BUSCONF_REFUSED: there is no such kind. BUSCONF_NO_MEMORY. Takes memory. */
+ * line has more than 128. BUSCONF_REFUSED: there is no such kind. */
 enum busconf_status busconf_fault_text(const struct busconf_fault *fault, char *place, size_t room, size_t *needed);
 
 /* Tells the sentence of a list's fault: what was found and what was wanted, in ASCII with its line feed and with no
@@ -194,13 +194,13 @@ enum busconf_status busconf_fault_text(const struct busconf_fault *fault, char *
  * the one before. `standard` is the one by which the list was read, BUSCONF_IEEE1995 or BUSCONF_IEEE2000. BUSCONF_OK:
  * the first `*needed` bytes at `place` are the sentence. BUSCONF_TOO_SHORT: `*needed` is how many they are; no sentence
  * has more than 160. BUSCONF_REFUSED: the kind isn't BUSCONF_FAULT_NOT_SELF_ID to BUSCONF_FAULT_TOO_MANY, whatever the
- * standard. BUSCONF_NO_STANDARD. BUSCONF_NO_MEMORY. Takes memory. */
+ * standard. BUSCONF_NO_STANDARD. */
 enum busconf_status busconf_sentence(const uint32_t *quads, size_t count, uint32_t standard,
                                      const struct busconf_fault *fault, char *place, size_t room, size_t *needed);
 
 /* Tells the sentence of a capture's fault, as `busview packets` writes it, and by BUSCONF_IEEE1995 as `busview packets
  * --1995`. `bytes` are those of the capture that has the fault. As busconf_sentence, and with BUSCONF_FAULT_BAD_LENGTH
- * and BUSCONF_FAULT_BAD_INVERSE besides. Takes memory. */
+ * and BUSCONF_FAULT_BAD_INVERSE besides, and BUSCONF_NO_MEMORY. Takes memory. */
 enum busconf_status busconf_sentence_capture(const uint8_t *bytes, size_t count, uint32_t standard,
                                              const struct busconf_fault *fault, char *place, size_t room,
                                              size_t *needed);

@@ -14,7 +14,7 @@ use Rattle.capture_reading.specs.Capture.{IsCaptureOf, Spells}
 use Rattle.bus_cli.specs.Cabled.{TellsCabling, AnswersCabling, AreEmitted}
 use Rattle.bus_cli.specs.Answer.{AnswersRead, Answers}
 use Rattle.capture_reading.specs.OneReading.{NoCaptureHasTwoTrees}
-use Rattle.bus_cli.specs.Streams.{IsWritten}
+use Rattle.io_edges.specs.Streams.{IsWritten}
 
 -- what some cabling emits spells the tree that it shows
 emitted-spells :

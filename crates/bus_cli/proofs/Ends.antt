@@ -32,7 +32,7 @@ use Rattle.capture_reading.specs.Line.{fault_line}
 use Rattle.bus_cli.specs.codings.Reading.{Reads, Shows, status_with, text_with}
 use Rattle.bus_cli.specs.Answer.{PrintsRun, AnswersForm, AnswersMake, AnswersOfItself, Answers}
 use Rattle.bus_cli.specs.OneAnswer.{NoInputHasTwoAnswers}
-use Rattle.bus_cli.specs.Streams.{IsWritten, OfTheAnswer}
+use Rattle.io_edges.specs.Streams.{IsWritten, OfTheAnswer}
 use Rattle.io_edges.specs.Told.{AreBytes}
 use Rattle.bus_cli.proofs.Forms.{one_form}
 

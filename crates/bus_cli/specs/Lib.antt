@@ -3,5 +3,4 @@ pub mod Cabled
 pub mod Form
 pub mod Line
 pub mod OneAnswer
-pub mod Streams
 pub mod codings

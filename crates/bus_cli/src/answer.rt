@@ -19,7 +19,7 @@ use crate::rom::answer_to_rom;
 use crate::script::{answer_to_advice, answer_to_make, answer_to_script};
 use crate::status::{REFUSED, VALID};
 use about::{About, about_text};
-use capture_reading::{CaptureStop, FaultLine, fault_line};
+use capture_reading::{CaptureStop, ShortText, fault_line};
 use io_edges::{ReadStop, Source, read_all};
 use quad_lanes::OutOfMemory;
 use script_text::maps_text;
@@ -32,7 +32,7 @@ pub(crate) enum Answer {
     /// The text of a tree.
     Valid(Vec<u8>),
     /// The line of a fault.
-    Refused(FaultLine),
+    Refused(ShortText),
 }
 
 impl Answer {

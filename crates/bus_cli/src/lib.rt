@@ -15,7 +15,7 @@ mod status;
 mod top;
 
 pub use capture_reading::{
-    CaptureFault, CaptureStop, FaultLine, fault_line, one_reading, read_capture,
+    CaptureFault, CaptureStop, ShortText, fault_line, one_reading, read_capture,
 };
 pub use form::{CaptureForm, Form, USAGE};
 pub use help::HELP;

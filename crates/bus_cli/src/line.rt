@@ -2,16 +2,16 @@
 ghost use Rattle.std.specs.Prelude.{◌≡◌, ◌≤◌, length};
 ghost use Rattle.bus_cli.specs.Line.{quadlet_refusal, rom_line, kind_word, script_line};
 
-use capture_reading::FaultLine;
+use capture_reading::ShortText;
 use config_rom::RomFault;
 use script_lines::{Kind, ScriptFault};
 
 /// The line `refused quadlet Q KIND`. `kind` has at most 20 bytes.
-fn quadlet_line(at: usize, kind: &[u8]) -> FaultLine
+fn quadlet_line(at: usize, kind: &[u8]) -> ShortText
     requires { length kind.now ≤ 20 }
     ensures { result ≡ quadlet_refusal at kind.now }
 {
-    let mut line = FaultLine::new();
+    let mut line = ShortText::new();
     line.put(b"refused quadlet ");
     line.put_number(at);
     line.put(b" ");
@@ -22,7 +22,7 @@ fn quadlet_line(at: usize, kind: &[u8]) -> FaultLine
 
 /// The line of a ROM's fault.
 #[tactic(auto, unfolding(crate::specs::Line::rom_line))]
-pub fn rom_line(fault: RomFault) -> FaultLine
+pub fn rom_line(fault: RomFault) -> ShortText
     ensures { result ≡ rom_line fault }
 {
     match fault {
@@ -66,10 +66,10 @@ fn kind_word(kind: Kind) -> &'static [u8]
 
 /// The line of a script's fault: `refused line L KIND`.
 #[tactic(auto, unfolding(crate::specs::Line::script_line))]
-pub fn script_line(fault: ScriptFault) -> FaultLine
+pub fn script_line(fault: ScriptFault) -> ShortText
     ensures { result ≡ script_line fault }
 {
-    let mut line = FaultLine::new();
+    let mut line = ShortText::new();
     line.put(b"refused line ");
     line.put_number(fault.line as usize);
     line.put(b" ");

@@ -11,7 +11,7 @@ ghost use Rattle.topology_stack.specs.Tree.{Tree};
 ghost use Rattle.capture_reading.specs.Capture.{Spells};
 ghost use Rattle.bus_cli.specs.Answer.{AnswersRead, AnswersMaps, AnswersRom, AnswersRun, AnswersAdvice};
 ghost use Rattle.bus_cli.specs.Answer.{AnswersMake, AnswersOfItself, Answers};
-ghost use Rattle.bus_cli.specs.Streams.{IsWritten, KeepsStreams, Writes};
+ghost use Rattle.io_edges.specs.Streams.{IsWritten, KeepsStreams, Writes};
 ghost use Rattle.bus_cli.specs.Cabled.{AnswersCabling, AreEmitted};
 
 use crate::answer::read_answer;

@@ -11,7 +11,7 @@ use Rattle.bus_view.specs.Form.{Asks, AsksNoInput, IsForm}
 use Rattle.bus_view.specs.declared.form.ViewForm.{ViewForm}
 use Rattle.bus_view.specs.declared.form.ViewForm.TheVariants.{Capture, Trace, Waves, Script, ListOf, Explain, Resets, Nosy, OfItself}
 use Rattle.about.specs.declared.asked.About.{About}
-use Rattle.bus_cli.specs.Streams.{IsWritten}
+use Rattle.io_edges.specs.Streams.{IsWritten}
 use Rattle.bus_view.specs.Log.{status_if}
 use Rattle.bus_view.specs.Answer.{IsViewOfItself, Reading, spelt, refused, status_of, traced, at_fault, dumped, not_dumped, IsListView, has_list, has_none, IsView, Answers, viewed, no_form, has_text, has_fault}
 use Rattle.bus_view.specs.Captured.{AnswersCapture, CapturesAreOfReports}

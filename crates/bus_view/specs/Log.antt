@@ -7,7 +7,7 @@ use Rattle.self_id.specs.declared.standard.Standard.{Standard}
 use Rattle.reset_log.specs.Noted.{Noted, nothing}
 use Rattle.reset_log.specs.Log.{parted, lines_of, IsLogShown, AreShown}
 use Rattle.nosy_dump.specs.Dump.{IsDumpShown}
-use Rattle.bus_cli.specs.Streams.{IsWritten, OfTheAnswer}
+use Rattle.io_edges.specs.Streams.{IsWritten, OfTheAnswer}
 
 -- 1 where something in the input is at fault
 abbrev pub status_if : Bool → ℕ

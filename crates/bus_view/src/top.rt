@@ -7,7 +7,7 @@ ghost use Rattle.script_made.specs.Made.{made_script};
 ghost use Rattle.about.specs.declared.asked.About.{About};
 ghost use Rattle.self_id.specs.declared.standard.Standard.{Standard};
 ghost use Rattle.nosy_dump.specs.Dump.{IsBegun};
-ghost use Rattle.bus_cli.specs.Streams.{IsWritten, KeepsStreams, Writes};
+ghost use Rattle.io_edges.specs.Streams.{IsWritten, KeepsStreams, Writes};
 ghost use Rattle.bus_view.specs.declared.form.CaptureView.{CaptureView};
 ghost use Rattle.bus_view.specs.declared.form.ViewForm.{ViewForm};
 ghost use Rattle.bus_view.specs.Form.{Asks, AsksLog, AsksNoInput, IsForm};

@@ -4,7 +4,6 @@
 #![tactic(auto)]
 
 mod answer;
-mod fault;
 mod read;
 mod records;
 mod rom;

@@ -1,3 +1,4 @@
 pub mod Standards
 pub mod Faults
 pub mod Shown
+pub mod Sentences

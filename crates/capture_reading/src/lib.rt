@@ -6,9 +6,11 @@ mod capture;
 mod fault;
 mod laws;
 mod line;
+mod text;
 
 pub use capture::read_capture;
 pub use fault::{CaptureFault, CaptureStop};
 pub use laws::one_reading;
-pub use line::{FaultLine, fault_line};
+pub use line::fault_line;
+pub use text::ShortText;
 pub use topology_stack::OutOfMemory;

@@ -7,7 +7,7 @@ use Rattle.self_id.specs.Node.{Node}
 use Rattle.self_id.specs.Group.{group, BeginsWith}
 use Rattle.self_id.proofs.Lemmas.{length-group}
 use Rattle.topology_stack.specs.Tree.{Tree, walk, AreOf, IsBusTreeOf, groups, emits}
-use Rattle.topology_stack.proofs.Lemmas.{AreOf-parts, are_nodes, groups-append, groups-snoc, one_tree}
+use Rattle.topology_stack.proofs.Lemmas.{AreOf-parts, are_nodes, groups-append, groups-snoc, item_at, one_tree}
 use Rattle.heapless_c.specs.Reading.{IsLinked, IsPlaced}
 
 split_at : {A : Type 0} (l : List A) (i : ℕ) (x : A) → slice_get l i ≡ Some x → l ≡ take i l ++ x ∷ drop (suc i) l

@@ -4,3 +4,4 @@ pub mod Packets
 pub mod Reading
 pub mod Reader
 pub mod Registers
+pub mod Sentences

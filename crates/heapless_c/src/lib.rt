@@ -4,6 +4,7 @@
 #![tactic(auto)]
 
 mod crc;
+mod fault;
 mod gap;
 mod links;
 mod packet;

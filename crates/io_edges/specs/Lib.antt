@@ -2,3 +2,4 @@ pub mod Adapted
 pub mod Faults
 pub mod InMemory
 pub mod Told
+pub mod Streams

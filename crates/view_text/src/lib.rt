@@ -21,5 +21,6 @@ pub use packet::put_packet;
 pub use pairs::{Note, packets_of, pairs_text};
 pub use sentence::{
     first_at, put_inverse_sentence, put_length_sentence, put_tree_sentence, second_at,
+    tree_sentence,
 };
 pub use words::put_field;

@@ -1,8 +1,9 @@
 //! What was found and what was wanted where a capture is refused, in a sentence.
-ghost use Rattle.std.specs.Prelude.{◌≡◌, ◌++◌, OnOk};
+ghost use Rattle.std.specs.Prelude.{◌≡◌, ◌++◌, ◌≤◌, length, OnOk, ◌+◌};
+ghost use Rattle.view_text.specs.Packet.{field};
 ghost use Rattle.view_text.specs.Sentence.{first_at, second_at, top_bits, next_after, next_words, length_sentence, inverse_sentence, top_sentence, id_sentence, order_sentence, children_sentence, group_sentence, tree_sentence};
 
-use crate::words::put_field;
+use capture_reading::ShortText;
 use phy_packet::PhyPacket;
 use self_id::{GroupFault, Standard};
 use topology_stack::{OutOfMemory, TreeFault, put_hex};
@@ -31,7 +32,8 @@ pub fn second_at(quads: &[u32], pair: usize) -> u32
 
 /// The top two bits of a quadlet in words.
 fn top_bits(top: u32) -> &'static [u8]
-    ensures { result.now ≡ top_bits top }
+    ensures word { result.now ≡ top_bits top }
+    ensures few { length result.now ≤ 2 }
 {
     match top {
         0 => b"00",
@@ -43,7 +45,8 @@ fn top_bits(top: u32) -> &'static [u8]
 
 /// Which packet of a node has to follow this one, by a standard.
 fn next_after(standard: Standard, packet: &PhyPacket) -> &'static [u8]
-    ensures { result.now ≡ next_after standard packet.now }
+    ensures words { result.now ≡ next_after standard packet.now }
+    ensures few { length result.now ≤ 11 }
 {
     match (standard, *packet) {
         (_, PhyPacket::SelfZero { more: true, .. }) => b"packet n 0",
@@ -69,7 +72,8 @@ fn next_after(standard: Standard, packet: &PhyPacket) -> &'static [u8]
 
 /// Which packet of a node has to stand behind the one before, if there is one, by a standard.
 fn next_words(standard: Standard, before: Option<PhyPacket>) -> &'static [u8]
-    ensures { result.now ≡ next_words standard before }
+    ensures words { result.now ≡ next_words standard before }
+    ensures few { length result.now ≤ 11 }
 {
     match before {
         Some(packet) => next_after(standard, &packet),
@@ -99,79 +103,138 @@ pub fn put_inverse_sentence(out: &mut Vec<u8>, first: u32, second: u32) -> Resul
     Ok(())
 }
 
-fn put_top_sentence(out: &mut Vec<u8>, first: u32) -> Result<(), OutOfMemory>
-    ensures { OnOk result (out.new.items ≡ out.old.items ++ top_sentence first) }
+/// A sentence of one text, which has at most 100 bytes.
+fn plain(text: &[u8]) -> ShortText
+    requires { length text.now ≤ 100 }
+    ensures { result ≡ text.now }
 {
-    out.extend_from_slice(b"Found the top two bits ")?;
-    out.extend_from_slice(top_bits(first >> 30))?;
-    out.extend_from_slice(b", wanted 10, those of a self-ID packet.\n")?;
-    Ok(())
+    let mut sentence = ShortText::new();
+    sentence.put(text);
+    sentence
 }
 
-fn put_id_sentence(out: &mut Vec<u8>, found: u8, wanted: u8) -> Result<(), OutOfMemory>
-    ensures { OnOk result (out.new.items ≡ out.old.items ++ id_sentence found wanted) }
+#[tactic(auto, unfolding(crate::specs::Sentence::top_sentence))]
+fn top_sentence(first: u32) -> ShortText
+    ensures { result ≡ top_sentence first }
 {
-    put_field(out, b"Found a self-ID packet of node ", u64::from(found))?;
-    put_field(out, b", wanted one of node ", u64::from(wanted))?;
-    out.extend_from_slice(b": IDs count up from 0, and a node's packets stand together.\n")?;
-    Ok(())
+    let mut sentence = ShortText::new();
+    sentence.put(b"Found the top two bits ");
+    sentence.put(top_bits(first >> 30));
+    sentence.put(b", wanted 10, those of a self-ID packet.\n");
+    sentence
 }
 
-fn put_order_sentence(out: &mut Vec<u8>, wanted: &[u8]) -> Result<(), OutOfMemory>
-    ensures { OnOk result (out.new.items ≡ out.old.items ++ order_sentence wanted.now) }
+/// Appends a word of at most 50 bytes and a number.
+#[tactic(auto, unfolding(crate::specs::Packet::field))]
+fn put_count(sentence: &mut ShortText, word: &[u8], n: u8)
+    requires room { length sentence.old + length word.now + 20 ≤ 256 }
+    ensures field { sentence.new ≡ sentence.old ++ field word.now n }
+    ensures few { length sentence.new ≤ length sentence.old + length word.now + 20 }
 {
-    out.extend_from_slice(b"Found another packet of the node, wanted its ")?;
-    out.extend_from_slice(wanted)?;
-    out.extend_from_slice(b".\n")?;
-    Ok(())
+    sentence.put(word);
+    sentence.put_number(usize::from(n));
 }
 
-fn put_children_sentence(
-    out: &mut Vec<u8>,
-    found: u8,
-    wanted: u8,
-    why: &[u8],
-) -> Result<(), OutOfMemory>
-    ensures { OnOk result (out.new.items
-        ≡ out.old.items ++ children_sentence found wanted why.now) }
+#[tactic(auto, unfolding(crate::specs::Sentence::id_sentence))]
+fn id_sentence(found: u8, wanted: u8) -> ShortText
+    ensures { result ≡ id_sentence found wanted }
 {
-    put_field(
-        out,
+    let mut sentence = ShortText::new();
+    put_count(&mut sentence, b"Found a self-ID packet of node ", found);
+    put_count(&mut sentence, b", wanted one of node ", wanted);
+    sentence.put(b": IDs count up from 0, and a node's packets stand together.\n");
+    sentence
+}
+
+/// `wanted` has at most 11 bytes.
+#[tactic(auto, unfolding(crate::specs::Sentence::order_sentence))]
+fn order_sentence(wanted: &[u8]) -> ShortText
+    requires { length wanted.now ≤ 11 }
+    ensures { result ≡ order_sentence wanted.now }
+{
+    let mut sentence = ShortText::new();
+    sentence.put(b"Found another packet of the node, wanted its ");
+    sentence.put(wanted);
+    sentence.put(b".\n");
+    sentence
+}
+
+/// `why` has at most 100 bytes.
+#[tactic(auto, unfolding(crate::specs::Sentence::children_sentence))]
+fn children_sentence(found: u8, wanted: u8, why: &[u8]) -> ShortText
+    requires { length why.now ≤ 100 }
+    ensures { result ≡ children_sentence found wanted why.now }
+{
+    let mut sentence = ShortText::new();
+    put_count(
+        &mut sentence,
         b"Found trees of nodes that wait for a parent: ",
-        u64::from(found),
-    )?;
-    put_field(out, b", wanted ", u64::from(wanted))?;
-    out.extend_from_slice(why)?;
-    Ok(())
+        found,
+    );
+    put_count(&mut sentence, b", wanted ", wanted);
+    sentence.put(why);
+    sentence
 }
 
-/// Appends the sentence of a group's fault.
-fn put_group_sentence(
-    out: &mut Vec<u8>,
+/// The sentence of a group's fault.
+fn group_sentence(
     standard: Standard,
     quad: u32,
     before: Option<PhyPacket>,
     fault: GroupFault,
-) -> Result<(), OutOfMemory>
-    ensures { OnOk result (out.new.items
-        ≡ out.old.items ++ group_sentence standard quad before fault) }
+) -> ShortText
+    ensures { result ≡ group_sentence standard quad before fault }
 {
     match fault {
-        GroupFault::NotSelfId { .. } => put_top_sentence(out, quad),
-        GroupFault::WrongId { found, wanted, .. } => put_id_sentence(out, found, wanted),
-        GroupFault::BadOrder { .. } => put_order_sentence(out, next_words(standard, before)),
-        GroupFault::Cut { .. } => out.extend_from_slice(
+        GroupFault::NotSelfId { .. } => top_sentence(quad),
+        GroupFault::WrongId { found, wanted, .. } => id_sentence(found, wanted),
+        GroupFault::BadOrder { .. } => order_sentence(next_words(standard, before)),
+        GroupFault::Cut { .. } => plain(
             b"Found the end of the list, wanted a further packet: m is 1 in the one before.\n",
         ),
-        GroupFault::TwoParents { .. } => out.extend_from_slice(
+        GroupFault::TwoParents { .. } => plain(
             b"Found more than one port to a parent in this node's packets, wanted one at most.\n",
         ),
     }
 }
 
-/// Appends the sentence on a list's fault, which says what was found and what was wanted, and then a
-/// line feed. By the standard it says which packet has to follow. `quad` is the first quadlet of the packet at the fault's place, and `before` the packet
-/// that stands before it, if there is one.
+/// Returns the sentence on a list's fault: what was found and what was wanted, and a line feed. By the
+/// standard it says which packet has to follow. `quad` is the first quadlet of the packet at the
+/// fault's place, and `before` the packet that stands before it, if there is one. It takes no memory.
+pub fn tree_sentence(
+    standard: Standard,
+    quad: u32,
+    before: Option<PhyPacket>,
+    fault: TreeFault,
+) -> ShortText
+    ensures { result ≡ tree_sentence standard quad before fault }
+{
+    match fault {
+        TreeFault::Group(fault) => group_sentence(standard, quad, before, fault),
+        TreeFault::Empty => plain(b"Found no packet, wanted those of one node at least.\n"),
+        TreeFault::TooFewChildren { found, wanted, .. } => children_sentence(
+            found,
+            wanted,
+            b", as many as this node has ports to children.\n",
+        ),
+        TreeFault::TreesLeft { found, wanted, .. } => children_sentence(
+            found,
+            wanted,
+            b": this node has no port to a parent, so it is the root, and those are its children.\n",
+        ),
+        TreeFault::AfterRoot { .. } => plain(
+            b"Found a packet behind the root's, wanted none: the node without a parent comes last.\n",
+        ),
+        TreeFault::NoRoot { .. } => plain(
+            b"Found the end of the list, wanted the root: each node has a port to a parent.\n",
+        ),
+        TreeFault::TooMany { .. } => {
+            plain(b"Found a packet of a 64th node, wanted 63 nodes at most.\n")
+        }
+    }
+}
+
+/// Appends the sentence of `tree_sentence`.
 pub fn put_tree_sentence(
     out: &mut Vec<u8>,
     standard: Standard,
@@ -182,31 +245,5 @@ pub fn put_tree_sentence(
     ensures { OnOk result (out.new.items
         ≡ out.old.items ++ tree_sentence standard quad before fault) }
 {
-    match fault {
-        TreeFault::Group(fault) => put_group_sentence(out, standard, quad, before, fault),
-        TreeFault::Empty => {
-            out.extend_from_slice(b"Found no packet, wanted those of one node at least.\n")
-        }
-        TreeFault::TooFewChildren { found, wanted, .. } => put_children_sentence(
-            out,
-            found,
-            wanted,
-            b", as many as this node has ports to children.\n",
-        ),
-        TreeFault::TreesLeft { found, wanted, .. } => put_children_sentence(
-            out,
-            found,
-            wanted,
-            b": this node has no port to a parent, so it is the root, and those are its children.\n",
-        ),
-        TreeFault::AfterRoot { .. } => out.extend_from_slice(
-            b"Found a packet behind the root's, wanted none: the node without a parent comes last.\n",
-        ),
-        TreeFault::NoRoot { .. } => out.extend_from_slice(
-            b"Found the end of the list, wanted the root: each node has a port to a parent.\n",
-        ),
-        TreeFault::TooMany { .. } => out.extend_from_slice(
-            b"Found a packet of a 64th node, wanted 63 nodes at most.\n",
-        ),
-    }
+    out.extend_from_slice(tree_sentence(standard, quad, before, fault).as_bytes())
 }

@@ -3,8 +3,7 @@ use Rattle.std.specs.Prelude.{slice_get}
 use Rattle.topology_stack.specs.Tree.{walk}
 use Rattle.topology_stack.specs.Far.{ends}
 use Rattle.view_text.specs.codings.Parts.{Stands}
-use Rattle.quad_lanes.proofs.Lemmas.{item_at}
-use Rattle.view_text.proofs.CableEnds.{has-itself}
+use Rattle.quad_lanes.proofs.Lemmas.{item_at, has-itself}
 use Rattle.view_text.proofs.drawing.tree_drawing.Goals as goal
 
 pub returns : goal.returns
