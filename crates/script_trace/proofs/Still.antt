@@ -18,7 +18,8 @@ use Rattle.cable_world.specs.Wire.{empty_wire}
 use Rattle.cable_world.specs.World.{CableWorld, wire_of}
 use Rattle.cable_world.specs.Turn.{turn, turns_after}
 use Rattle.cable_world.specs.Still.{IsSilent, AreSilent, IsStillFor, after_still, StillTurnsPass}
-use Rattle.world_agenda.proofs.Lemmas.{still-first, still-later, still-silent, still-turn}
+use Rattle.cable_world.proofs.Lemmas.{still-silent}
+use Rattle.world_agenda.proofs.Lemmas.{still-first, still-later, still-turn}
 use Rattle.script_text.specs.ReportText.{Names}
 use Rattle.script_trace.specs.Event.{enters, state_number, state_line, timeout_line, parent_line, child_lines, coin_line, id_line, sent_lines, all_sent_lines, node_lines}
 use Rattle.script_trace.specs.Step.{all_lines, lines_since, seen_before_turn, turn_lines, turns_lines}

@@ -15,7 +15,8 @@ use Rattle.cable_world.specs.declared.wire.Travelling.{Travelling}
 use Rattle.cable_world.specs.World.{CableWorld, wire_of}
 use Rattle.cable_world.specs.Turn.{turn, turns_after}
 use Rattle.cable_world.specs.Still.{AreSilent, IsStillFor, after_still, StillTurnsPass}
-use Rattle.world_agenda.proofs.Lemmas.{still-first, still-later, still-silent, still-turn}
+use Rattle.cable_world.proofs.Lemmas.{still-silent}
+use Rattle.world_agenda.proofs.Lemmas.{still-first, still-later, still-turn}
 use Rattle.script_trace.specs.Event.{Seen, state_number}
 use Rattle.script_trace.specs.Step.{seen_before_turn}
 use Rattle.script_trace.proofs.Lemmas.{both-none, same-number, silent-wire, timer-alone, true-then-none}
