@@ -3,8 +3,6 @@
 
 PROVED(busconf_read);
 PROVED(busconf_read_capture);
-PROVED(busconf_fault_text);
-PROVED(busconf_sentence);
 PROVED(busconf_sentence_capture);
 PROVED(busconf_hops);
 PROVED(busconf_plan);
@@ -23,15 +21,6 @@ enum busconf_status busconf_read_capture(const uint8_t *bytes, size_t count, uin
                                          struct busconf_node *nodes, size_t room, struct busconf_bus *bus,
                                          struct busconf_fault *fault) {
   return proved_busconf_read_capture(FROM(bytes, count), count, standard, PLACE(nodes, room), room, bus, fault);
-}
-
-enum busconf_status busconf_fault_text(const struct busconf_fault *fault, char *place, size_t room, size_t *needed) {
-  return proved_busconf_fault_text(fault, PLACE(place, room), room, needed);
-}
-
-enum busconf_status busconf_sentence(const uint32_t *quads, size_t count, uint32_t standard,
-                                     const struct busconf_fault *fault, char *place, size_t room, size_t *needed) {
-  return proved_busconf_sentence(FROM(quads, count), count, standard, fault, PLACE(place, room), room, needed);
 }
 
 enum busconf_status busconf_sentence_capture(const uint8_t *bytes, size_t count, uint32_t standard,

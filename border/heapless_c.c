@@ -3,6 +3,8 @@
 
 PROVED(busconf_reader_bus);
 PROVED(busconf_crc16);
+PROVED(busconf_fault_text);
+PROVED(busconf_sentence);
 
 enum busconf_status busconf_reader_bus(const struct busconf_reader *reader, uint32_t standard,
                                        struct busconf_node *nodes, size_t room, struct busconf_bus *bus,
@@ -12,4 +14,13 @@ enum busconf_status busconf_reader_bus(const struct busconf_reader *reader, uint
 
 uint16_t busconf_crc16(const uint32_t *quads, size_t count) {
   return proved_busconf_crc16(FROM(quads, count), count);
+}
+
+enum busconf_status busconf_fault_text(const struct busconf_fault *fault, char *place, size_t room, size_t *needed) {
+  return proved_busconf_fault_text(fault, PLACE(place, room), room, needed);
+}
+
+enum busconf_status busconf_sentence(const uint32_t *quads, size_t count, uint32_t standard,
+                                     const struct busconf_fault *fault, char *place, size_t room, size_t *needed) {
+  return proved_busconf_sentence(FROM(quads, count), count, standard, fault, PLACE(place, room), room, needed);
 }

@@ -1,89 +1,71 @@
 #!/usr/bin/env bash
-# `library.sh build FOLDER` makes libbusconf.a and libbusconf.so.0, each whole: the kit's allocation functions are in it,
-# and nothing is exported but the calls of include/busconf.h. The archive has an object for each crate, so that a program
-# that runs no scripts is linked without them, and one that makes only calls without memory without allocation functions. libbusconf.so is a second name of libbusconf.so.0. `library.sh install
-# PREFIX` makes both and copies them with the header and busconf.pc below a folder, and `library.sh put FOLDER TO PREFIX`
-# copies those that a folder has, for use below PREFIX. `library.sh pc PREFIX` writes busconf.pc. `library.sh test` makes
-# both in a folder of its own, and compiles and runs what stands on them. `library.sh speed N < CAPTURE` times N calls, and
+# `library.sh build FOLDER [MACHINE]` makes libbusconf.a and libbusconf.so.0 for a machine, x86_64 or aarch64, each whole:
+# allocation functions are in it, and nothing is exported but the calls of include/busconf.h. The archive has an object for
+# each crate, so that a program that runs no scripts is linked without them, and one that makes only calls without memory
+# without allocation functions. libbusconf.so is a second name of libbusconf.so.0. `library.sh install PREFIX` makes both and
+# copies them with the header and busconf.pc below a folder, and `library.sh put FOLDER TO PREFIX` copies those that a folder
+# has, for use below PREFIX. `library.sh pc PREFIX` writes busconf.pc. `library.sh test [MACHINE]` makes both in a folder of
+# its own, and compiles and runs what stands on them, for AArch64 by qemu. `library.sh speed N < CAPTURE` times N calls, and
 # `library.sh race N SCRIPT COMMAND..` N runs of a script, and then the command, which is given the script on its standard
-# input. What makes libraries needs the kit's command rt and a C compiler.
+# input. What makes libraries needs the kit's command rt and a C compiler, for AArch64 Debian's gcc-aarch64-linux-gnu.
 set -euo pipefail
 top=$(cd "$(dirname "${BASH_SOURCE[0]}")/.." && pwd)
 crates=(heapless_c busconf_c script_c)
-. "$top/tools/sources.sh"
+. "$top/tools/static.sh"
 
-# Finds the kit that makes the libraries.
-find_kit() {
-  command -v rt >/dev/null || { echo "library: the Rattle kit's command rt isn't on the PATH" >&2; exit 127; }
-  kit=$(cd "$(dirname "$(readlink -f "$(command -v rt)")")/.." && pwd)
+# The tools for a machine: what the names of its binary tools begin with, its C compiler, the compilers that are to take the
+# header, and what runs its programs here.
+for_machine() {
+  machine=$1
+  case $1 in
+    x86_64) tool='' cc=${CC:-cc} takers=(gcc clang g++ clang++) runs=() ;;
+    aarch64)
+      tool=aarch64-linux-gnu- cc=${tool}gcc takers=("${tool}gcc" "${tool}g++")
+      runs=(qemu-aarch64 -L /usr/aarch64-linux-gnu)
+      ;;
+    *) echo "library: the machines are x86_64 and aarch64" >&2; exit 2 ;;
+  esac
 }
 
-# The libraries that a crate stands on, from crates.txt.
-below() { sed -n "s/^$1\( staticlib\)\?: *//p" "$top/crates.txt"; }
-
-# Whether the libraries that a crate stands on are built, by rt ci or by rt check.
-are_built() {
-  local name
-  for name in $(below "$1"); do
-    [ ! -d "$top/crates/$name" ] || [ -d "$top/crates/$name/out/rlib/$name.rlib" ] || return 1
-  done
-}
-
-# Makes a crate's archive, unless it is there from the same sources and kit.
-archive() {
-  local of kept="$top/crates/$1/out/lib$1.sources"
-  of="$(sources_sum "$top") $(rt version)"
-  if [ ! -f "$top/crates/$1/out/lib$1.a" ] || [ "$(cat "$kept" 2>/dev/null)" != "$of" ]; then
-    rm -f "$kept"
-    prove "$1"
-    printf '%s\n' "$of" >"$kept"
-  fi
-}
-
-# Proves a crate and makes its archive, over what rt check keeps, or over the libraries that a run of rt ci has left.
-prove() {
-  local name words=() log
-  cd "$top/crates/$1"
-  log=$(mktemp)
-  if ! are_built "$1" || [ -f "$top/crates/topology_stack/out/rlib/stamp" ]; then
-    rt lib ${JOBS:+--jobs "$JOBS"} >"$log" 2>&1 || { cat "$log" >&2; exit 1; }
-    rm -f "$log"
-    return
-  fi
-  for name in std $(below "$1"); do
-    if [ -d "$top/crates/$name" ]; then
-      words+=(--extern "$name=$top/crates/$name/out/rlib/$name.rlib")
-    else
-      words+=(--extern "$name=$kit/rlibs/$name.rlib")
-    fi
-  done
-  for name in "$top"/crates/*/out/rlib; do words+=(-L "dependency=$name"); done
-  mkdir -p out
-  "$kit/bin/rattle" build --crate-name "$1" src/lib.rt "${words[@]}" -L "dependency=$kit/rlibs" \
-    --antt-project "$kit/rattle/logic/antt-project.json" --logic-built "$kit/logic_built" --toolchain "$kit/toolchain" \
-    --crate-type staticlib -o "out/lib$1.a" >"$log" 2>&1 || { cat "$log" >&2; exit 1; }
-  rm -f "$log"
-}
-
-# Makes a crate's one object, with what border/ has before its calls, and with the kit's allocation functions unless its
-# calls take no memory. It has no name but its calls'. A proved call that has something before it gets a name of its own.
+# Makes a crate's one object, with what border/ has before its calls, and with allocation functions unless its calls take no
+# memory: the kit's, or where the kit has none for the machine those of border/heap.c. It has no name but its calls'. A
+# proved call that has something before it gets a name of its own.
 object() {
   local made
-  (archive "$1")
   made=$(mktemp -d)
   (
     cd "$made"
-    ar x "$top/crates/$1/out/lib$1.a"
-    [ "$1" = heapless_c ] || ar x "$kit/c/liblibc_c.a" heap.pic.o
-    ld -r -o proved.o ./*.o
-    ${CC:-cc} -std=c99 -Wall -Wextra -Werror -pedantic -O2 -fPIC -ffunction-sections -I "$top/include" -c \
-      "$top/border/$1.c" -o border.o
-    nm --defined-only border.o | awk '$2 == "T" { print $3, "proved_" $3 }' >before
-    objcopy --redefine-syms=before proved.o
-    ld -r -o whole.o proved.o border.o
-    objcopy --wildcard --keep-global-symbol='busconf_*' whole.o "$2"
+    ar x "$(archive_of "$1" "$machine")"
+    [ "$1" = heapless_c ] || allocation
+    "${tool}ld" -r -o proved.o ./*.o
+    beside_proved "$1" border.o
+    "${tool}nm" --defined-only border.o | awk '$2 == "T" { print $3, "proved_" $3 }' >before
+    "${tool}objcopy" --redefine-syms=before proved.o
+    "${tool}ld" -r -o whole.o proved.o border.o
+    "${tool}objcopy" --wildcard --keep-global-symbol='busconf_*' whole.o "$2"
   )
   rm -rf "$made"
+}
+
+# Makes the object of the allocation functions.
+allocation() {
+  if [ "$machine" = x86_64 ]; then ar x "$kit/c/liblibc_c.a" heap.pic.o; else beside_proved heap heap.o; fi
+}
+
+# Compiles a file of border/.
+beside_proved() {
+  $cc -std=c99 -Wall -Wextra -Werror -pedantic -O2 -fPIC -ffunction-sections -I "$top/include" -c \
+    "$top/border/$1.c" -o "$2"
+}
+
+# Proves all crates for the machine, side by side, and makes their archives.
+archives() {
+  local crate made=()
+  for crate in "${crates[@]}"; do
+    (archive "$crate" "$machine") &
+    made+=($!)
+  done
+  for crate in "${made[@]}"; do wait "$crate" || { wait; return 1; }; done
 }
 
 # Whether the object of the calls without memory asks for no function but those that a C compiler may call by itself.
@@ -91,7 +73,7 @@ try_heapless() {
   local made wanted
   made=$(mktemp -d)
   (cd "$made" && ar x "$1" heapless_c.o)
-  wanted=$(nm -u "$made/heapless_c.o" | awk '{ print $2 }' | grep -vxE 'memcpy|memmove|memset|memcmp|_GLOBAL_OFFSET_TABLE_' || true)
+  wanted=$("${tool}nm" -u "$made/heapless_c.o" | awk '{ print $2 }' | grep -vxE 'memcpy|memmove|memset|memcmp|_GLOBAL_OFFSET_TABLE_' || true)
   rm -rf "$made"
   [ -z "$wanted" ] || { echo "library: the calls without memory ask for" $wanted >&2; return 1; }
   echo "library: the calls without memory ask for no allocation function"
@@ -104,10 +86,11 @@ build() {
   mkdir -p "$1"
   into=$(cd "$1" && pwd)
   made=$(mktemp -d)
+  archives
   for crate in "${crates[@]}"; do object "$crate" "$made/$crate.o"; done
   rm -f "$into/libbusconf.a" "$into/libbusconf.so" "$into/libbusconf.so.0"
   ar rcsD "$into/libbusconf.a" "$made"/*.o
-  ${CC:-cc} -shared -Wl,-soname,libbusconf.so.0 -Wl,-z,relro,-z,now -o "$into/libbusconf.so.0" "$made"/*.o
+  $cc -shared -Wl,-soname,libbusconf.so.0 -Wl,-z,relro,-z,now -o "$into/libbusconf.so.0" "$made"/*.o
   # Two names of one file, since rt takes no symbolic link below crates/.
   ln "$into/libbusconf.so.0" "$into/libbusconf.so"
   rm -rf "$made"
@@ -162,7 +145,7 @@ takes() {
 # of its records; warns of a switch that misses a case; and says of each old name what the new one is.
 try_header() {
   local compiler language standard known=() old said
-  for compiler in gcc clang g++ clang++; do
+  for compiler in "${takers[@]}"; do
     command -v "$compiler" >/dev/null || continue
     language=c
     [[ "$compiler" != *++ ]] || language=c++
@@ -194,54 +177,82 @@ try_header() {
 }
 
 run_tests() {
-  local check=() python exported file form input
+  local check=("${runs[@]}")
   build "$room"
-  exported=$(nm -D --defined-only "$room/libbusconf.so" | awk '{ print $3 }' | grep -v '^busconf_' || true)
-  exported+=$(nm -g --defined-only "$room/libbusconf.a" | awk 'NF == 3 { print $3 }' | grep -v '^busconf_' || true)
-  [ -z "$exported" ] || { echo "library: exports $exported" >&2; exit 1; }
+  try_names
   try_heapless "$room/libbusconf.a"
   echo "library: $(stat -c %s "$room/libbusconf.a") bytes of archive, $(stat -c %s "$room/libbusconf.so") of shared object"
-
   try_header
-  for file in recorder bench; do
-    program "$room/$file" "$top/examples/c/$file.c" cc -std=c99
-    program "$room/$file-c++" "$top/examples/c/$file.c" c++ -std=c++17 -x c++
-  done
-  for file in check null rom refusal script speed; do program "$room/$file" "$top/tools/library/$file.c" cc -std=c99; done
-
-  for file in recorder recorder-c++; do
-    cases "$top/cases/busconf/read" cat "$room/$file" 2000
-    cases "$top/cases/busconf/read95" cat "$room/$file" 1995
-  done
-  for file in bench bench-c++; do
-    "$room/$file" "$top/examples/hub.script" <"$top/examples/hub.capture" | diff "$top/examples/c/bench.stdout" -
-    for input in two-nodes missing-child flipped-bit; do
-      differs "$room/$file" "$top/examples/two-nodes.script" <"$top/examples/$input.capture"
-    done
-  done
-
-  if command -v valgrind >/dev/null; then
+  make_programs
+  if [ "$machine" = x86_64 ] && command -v valgrind >/dev/null; then
     check=(valgrind -q --error-exitcode=9 --leak-check=full)
   else
-    echo "library: no valgrind here, so no block's bounds are watched"
+    echo "library: no valgrind here for $machine, so no block's bounds are watched"
   fi
+  try_examples
+  try_calls
+  [ "$machine" != x86_64 ] || try_python
+}
+
+# Whether both libraries export nothing but the calls.
+try_names() {
+  local exported
+  exported=$("${tool}nm" -D --defined-only "$room/libbusconf.so" | awk '{ print $3 }' | grep -v '^busconf_' || true)
+  exported+=$("${tool}nm" -g --defined-only "$room/libbusconf.a" | awk 'NF == 3 { print $3 }' | grep -v '^busconf_' || true)
+  [ -z "$exported" ] || { echo "library: exports $exported" >&2; exit 1; }
+}
+
+# Compiles the examples and the tests' own programs, on x86-64 the examples as C++ too.
+make_programs() {
+  local file
+  languages=('')
+  for file in recorder bench; do program "$room/$file" "$top/examples/c/$file.c" $cc -std=c99; done
+  if [ "$machine" = x86_64 ]; then
+    languages+=(-c++)
+    for file in recorder bench; do program "$room/$file-c++" "$top/examples/c/$file.c" c++ -std=c++17 -x c++; done
+  fi
+  for file in check null rom refusal script speed; do
+    program "$room/$file" "$top/tools/library/$file.c" $cc -std=c99
+  done
+}
+
+# Runs the examples in C over their cases.
+try_examples() {
+  local language input
+  for language in "${languages[@]}"; do
+    cases "$top/cases/busconf/read" cat "${runs[@]}" "$room/recorder$language" 2000
+    cases "$top/cases/busconf/read95" cat "${runs[@]}" "$room/recorder$language" 1995
+    "${runs[@]}" "$room/bench$language" "$top/examples/hub.script" <"$top/examples/hub.capture" \
+      | diff "$top/examples/c/bench.stdout" -
+    for input in two-nodes missing-child flipped-bit; do
+      differs "${runs[@]}" "$room/bench$language" "$top/examples/two-nodes.script" <"$top/examples/$input.capture"
+    done
+  done
+}
+
+# Makes the calls over the cases, under what watches them.
+try_calls() {
+  local form file
   "${check[@]}" "$room/null"
   "${check[@]}" "$room/check" 2000 $(captures "$top/cases/busconf/read")
   "${check[@]}" "$room/check" 1995 $(captures "$top/cases/busconf/read95")
   cases "$top/cases/busconf/rom" blocks "${check[@]}" "$room/rom"
   cases "$top/cases/busview/packets" refusal by_its_standard "${check[@]}" "$room/refusal"
-  for form in run advice; do cases "$top/cases/busconf/$form" cat "$room/script" $form; done
-  for form in trace waves; do cases "$top/cases/busview/$form" cat "$room/script" $form; done
+  for form in run advice; do cases "$top/cases/busconf/$form" cat "${runs[@]}" "$room/script" $form; done
+  for form in trace waves; do cases "$top/cases/busview/$form" cat "${runs[@]}" "$room/script" $form; done
   capture_cases
   for file in two-nodes hub plan loop; do
     for form in run advice trace waves "capture a"; do
       "${check[@]}" "$room/script" $form <"$top/examples/$file.script" >/dev/null || [ $? -eq 1 ]
     done
   done
+  "${runs[@]}" "$room/speed" 10 <"$top/examples/hub.capture" >/dev/null
+  "${runs[@]}" "$room/speed" 2 script <"$top/examples/hub.script" >/dev/null
+}
 
-  "$room/speed" 10 <"$top/examples/hub.capture" >/dev/null
-  "$room/speed" 2 script <"$top/examples/hub.script" >/dev/null
-
+# Tries the header's numbers, and what is written in Python.
+try_python() {
+  local python
   python=$(command -v python3 || true)
   if [ -n "$python" ]; then
     "$python" "$top/tools/library/numbers.py" "$top"
@@ -262,7 +273,7 @@ capture_cases() {
     mapfile -t words <"$input.args"
     [ "${#words[@]}" -eq 2 ] && [ "${words[0]}" = capture ] || continue
     status=0
-    "$room/script" capture "${words[1]}" <"$input" >"$room/said" || status=$?
+    "${runs[@]}" "$room/script" capture "${words[1]}" <"$input" >"$room/said" || status=$?
     if [ $status -eq 2 ]; then : >"$room/said"; fi
     cmp -s "$room/said" "$input.stdout" || { echo "library: capture ${words[1]} on $input: not what is wanted" >&2; return 1; }
     count=$((count + 1))
@@ -312,8 +323,12 @@ put() {
   printf '%s\n' "$2"/include/busconf.h "$2"/lib/libbusconf.{a,so.0,so} "$2/lib/pkgconfig/busconf.pc"
 }
 
+for_machine x86_64
 case ${1-} in
-  build) build "${2:?a folder}" ;;
+  build)
+    for_machine "${3-x86_64}"
+    build "${2:?a folder}"
+    ;;
   pc) pc "${2:?a prefix}" "${@:3}" ;;
   put) put "${2:?a folder}" "${3:?a folder}" "${4:?a prefix}" ;;
   install)
@@ -337,13 +352,14 @@ case ${1-} in
     fi
     ;;
   test)
+    for_machine "${2-x86_64}"
     room=$(mktemp -d)
     trap 'rm -rf "$room"' EXIT
     run_tests
     ;;
   *)
-    echo "usage: library.sh build FOLDER | install PREFIX | put FOLDER TO PREFIX | pc PREFIX [FOLDER] | test | speed N" \
-      "| race N SCRIPT [COMMAND..]" >&2
+    echo "usage: library.sh build FOLDER [MACHINE] | install PREFIX | put FOLDER TO PREFIX | pc PREFIX [FOLDER]" \
+      "| test [MACHINE] | speed N | race N SCRIPT [COMMAND..]" >&2
     exit 2
     ;;
 esac

@@ -1,6 +1,6 @@
 /* What a program that was compiled against the header rests on: the size of each record and the place of each field, on
- * x86-64. It is compiled and never run, as C and as C++; an array of -1 elements is a compile error. With MISSES_A_CASE
- * it has a switch that misses a case, of which compilers warn. */
+ * x86-64 and on AArch64. It is compiled and never run, as C and as C++; an array of -1 elements is a compile error. With
+ * MISSES_A_CASE it has a switch that misses a case, of which compilers warn. */
 #include "busconf.h"
 
 #define SIZE(record, bytes) typedef char size_of_##record[sizeof(struct busconf_##record) == (bytes) ? 1 : -1]

@@ -6,7 +6,7 @@ import subprocess
 import tarfile
 import tempfile
 
-from contents import Built, Fault, run, tarball_of, vectors_tarball_of
+from contents import Built, Fault, machine_tarball_of, run, tarball_of, vectors_tarball_of
 from debian import packages_of
 
 
@@ -72,9 +72,12 @@ def make(to, vectors=None, backwards=False):
             os.remove(os.path.join(to, name))
     made = [f"busconf-{built.version}-x86_64-linux.tar.xz"]
     write_tar(tarball_of(built), made[0][: -len(".tar.xz")], built.epoch, os.path.join(to, made[0]))
+    for library in built.libraries[1:]:
+        made.append(f"libbusconf-{built.version}-{library.machine.name}-linux.tar.xz")
+        write_tar(machine_tarball_of(built, library), made[-1][: -len(".tar.xz")], built.epoch, os.path.join(to, made[-1]))
     if built.vectors:
         made.append(f"busconf-vectors-{built.version}.tar.xz")
-        write_tar(vectors_tarball_of(built), made[1][: -len(".tar.xz")], built.epoch, os.path.join(to, made[1]))
+        write_tar(vectors_tarball_of(built), made[-1][: -len(".tar.xz")], built.epoch, os.path.join(to, made[-1]))
     for package in packages_of(built):
         made.append(package.file_name(built))
         write_deb(package, built, os.path.join(to, made[-1]), backwards)

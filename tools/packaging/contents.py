@@ -8,7 +8,7 @@ from dataclasses import dataclass
 TOP = os.path.dirname(os.path.dirname(os.path.dirname(os.path.realpath(__file__))))
 PROGRAMS = ("busconf", "busview")
 SONAME = "libbusconf.so.0"
-# Where Debian has the libraries of this processor, below /usr.
+# Where Debian has the libraries of x86-64, below /usr.
 MULTIARCH = "lib/x86_64-linux-gnu"
 NO_LICENCE = "No licence was chosen for busconf yet; it is the owner's to choose."
 COLUMNS = 110
@@ -16,6 +16,25 @@ COLUMNS = 110
 
 class Fault(Exception):
     """Why there is no package, or what is wrong with one."""
+
+
+@dataclass(frozen=True)
+class Machine:
+    """A kind of processor: its name in the names of archives, Debian's name of it, where ./build puts the library for it,
+    and what the names of its binary tools begin with."""
+    name: str
+    debian: str
+    folder: str
+    tool: str = ""
+
+    @property
+    def multiarch(self):
+        """Where Debian has the libraries of this machine, below /usr."""
+        return f"lib/{self.name}-linux-gnu"
+
+
+X86_64 = Machine("x86_64", "amd64", "crates/busconf_c/out/lib")
+AARCH64 = Machine("aarch64", "arm64", "crates/busconf_c/out/lib-aarch64", "aarch64-linux-gnu-")
 
 
 @dataclass
@@ -62,10 +81,9 @@ class Built:
         self.kit = self.kit_now()
         self.revision, self.epoch, self.owner = self.commit()
         self.programs = {name: self.stripped(f"crates/{name}/out/{name}", "--strip-all") for name in PROGRAMS}
-        self.shared = self.stripped(f"crates/busconf_c/out/lib/{SONAME}", "--strip-unneeded")
-        self.archive = self.stripped("crates/busconf_c/out/lib/libbusconf.a", "--strip-debug")
-        self.needs = max(map(glibc_of, [*self.programs.values(), self.shared]))
-        self.calls = calls_of(self.shared)
+        machines = [X86_64, *([AARCH64] if os.path.isdir(os.path.join(TOP, AARCH64.folder)) else [])]
+        self.libraries = [Library(self, machine) for machine in machines]
+        self.needs = max(map(glibc_of, [*self.programs.values(), self.libraries[0].shared]))
         self.proved = self.tell()
 
     def kit_now(self):
@@ -85,7 +103,7 @@ class Built:
             revision += ", with changes that no commit has"
         return revision, int(os.environ.get("SOURCE_DATE_EPOCH", epoch)), owner
 
-    def stripped(self, path, how):
+    def stripped(self, path, how, tool=""):
         """The bytes of a built file without its symbols, once it is sure that it was built from these sources."""
         place = os.path.join(TOP, path)
         mark = os.path.join(os.path.dirname(place), path.split(os.sep)[-1].split(".")[0] + ".sources")
@@ -94,11 +112,14 @@ class Built:
         logic = logic_of(place)
         if not logic.startswith(self.kit.split()[-1]):
             raise Fault(f"{path} says that it was proved in the logic '{logic}', and the kit is {self.kit}")
-        return changed(place, "strip", "--enable-deterministic-archives", how)
+        return changed(place, f"{tool}strip", "--enable-deterministic-archives", how)
 
     def tell(self):
         """The file that says what proved the package, and which clauses hold."""
-        packed = {**self.programs, SONAME: self.shared, "libbusconf.a": self.archive}
+        packed = dict(self.programs)
+        for library in self.libraries:
+            packed[f"{SONAME} for {library.machine.name}"] = library.shared
+            packed[f"libbusconf.a for {library.machine.name}"] = library.archive
         sums = "\n".join(f"    {hashlib.sha256(data).hexdigest()}  {name}" for name, data in packed.items())
         logic = logic_of(os.path.join(TOP, "crates/busconf/out/busconf"))
         return f"""What proved busconf {self.version}, and what is proved of it
@@ -122,6 +143,17 @@ hold, crate by crate: the public functions, methods and laws, and behind each th
 
 {clauses()}
 """.encode()
+
+
+class Library:
+    """The library for a machine."""
+
+    def __init__(self, built, machine):
+        self.machine = machine
+        self.shared = built.stripped(f"{machine.folder}/{SONAME}", "--strip-unneeded", machine.tool)
+        self.archive = built.stripped(f"{machine.folder}/libbusconf.a", "--strip-debug", machine.tool)
+        self.needs = glibc_of(self.shared)
+        self.calls = calls_of(self.shared, machine.tool)
 
 
 def clauses():
@@ -177,9 +209,9 @@ def glibc_of(data):
     return max((int(major), int(minor)) for major, minor in found)
 
 
-def calls_of(data):
+def calls_of(data, tool):
     """The calls that a shared object exports."""
-    return sorted(line.split()[-1] for line in read_by(["nm", "-D", "--defined-only"], data).splitlines())
+    return sorted(line.split()[-1] for line in read_by([f"{tool}nm", "-D", "--defined-only"], data).splitlines())
 
 
 def zipped(data):
@@ -232,12 +264,28 @@ def tarball_of(built):
     for name in PROGRAMS:
         files[f"bin/{name}"] = Entry(built.programs[name], 0o755)
         files[f"share/man/man1/{name}.1"] = Entry(data_of(f"man/{name}.1"))
-    files["include/busconf.h"] = Entry(data_of("include/busconf.h"))
-    files["lib/libbusconf.a"] = Entry(built.archive)
-    files[f"lib/{SONAME}"] = Entry(built.shared)
-    files["lib/libbusconf.so"] = Entry(link=SONAME)
-    files["lib/pkgconfig/busconf.pc"] = pc_of("${pcfiledir}/../..", "lib")
-    files["lib/python/busconf.py"] = Entry(data_of("python/busconf.py"))
+    files.update(library_tarball_of(built.libraries[0]))
+    files[f"{doc}/PROVED"] = Entry(built.proved)
+    files[f"{doc}/copyright"] = copyright_of(built)
+    return with_sums(files, "SHA256SUMS")
+
+
+def library_tarball_of(library):
+    """The files of the library, by their paths in an archive."""
+    return {
+        "include/busconf.h": Entry(data_of("include/busconf.h")),
+        "lib/libbusconf.a": Entry(library.archive),
+        f"lib/{SONAME}": Entry(library.shared),
+        "lib/libbusconf.so": Entry(link=SONAME),
+        "lib/pkgconfig/busconf.pc": pc_of("${pcfiledir}/../..", "lib"),
+        "lib/python/busconf.py": Entry(data_of("python/busconf.py")),
+    }
+
+
+def machine_tarball_of(built, library):
+    """The files of the archive that has the library alone, for a machine that has no programs."""
+    doc = "share/doc/busconf"
+    files = {**pages_of(doc), **library_tarball_of(library)}
     files[f"{doc}/PROVED"] = Entry(built.proved)
     files[f"{doc}/copyright"] = copyright_of(built)
     return with_sums(files, "SHA256SUMS")

@@ -5,7 +5,7 @@ import os
 import textwrap
 from dataclasses import dataclass, field
 
-from contents import (MULTIARCH, PROGRAMS, SONAME, TOP, Entry, completion, copyright_of, data_of, pages_of, pc_of,
+from contents import (PROGRAMS, SONAME, TOP, Entry, completion, copyright_of, data_of, pages_of, pc_of,
                       sums_of, vectors_of, vectors_tool, with_sums, zipped)
 
 ABOUT = """busconf configures FireWire cable buses (IEEE Std 1394-1995 and 1394a-2000) as their nodes do. It runs a bus
@@ -83,37 +83,39 @@ def programs_of(built):
         files[f"usr/share/man/man1/{name}.1.gz"] = Entry(zipped(data_of(f"man/{name}.1")))
     return Package(
         "busconf",
-        {"Depends": libc_of(built), "Suggests": "busconf-vectors, libbusconf-dev", "Section": "utils"},
+        {"Depends": libc_of(built.needs), "Suggests": "busconf-vectors, libbusconf-dev", "Section": "utils"},
         "The programs busconf, which runs and reads buses, and busview, which shows them; with their manual pages, "
         "the pages of the repository and examples.",
         "FireWire cable buses, run from scripts and read from captures",
         files)
 
 
-def library_of(built):
-    """The package of the shared library."""
-    symbols = f"{SONAME} libbusconf0 #MINVER#\n" + "".join(f" {call}@Base {built.version}\n" for call in built.calls)
+def library_of(built, library):
+    """The package of the shared library for a machine."""
+    symbols = f"{SONAME} libbusconf0 #MINVER#\n" + "".join(f" {call}@Base {built.version}\n" for call in library.calls)
     return Package(
         "libbusconf0",
-        {"Depends": libc_of(built), "Section": "libs", "Multi-Arch": "same"},
+        {"Depends": libc_of(library.needs), "Section": "libs", "Multi-Arch": "same"},
         "The shared library of the proved calls for C, C++ and Python.",
         "FireWire cable buses, read, planned and run: the shared library",
-        {f"usr/{MULTIARCH}/{SONAME}": Entry(built.shared)},
+        {f"usr/{library.machine.multiarch}/{SONAME}": Entry(library.shared)},
         {
             "shlibs": f"libbusconf 0 libbusconf0 (>= {built.version})\n".encode(),
             "symbols": symbols.encode(),
             "triggers": b"activate-noawait ldconfig\n",
-        })
+        },
+        library.machine.debian)
 
 
-def header_of(built):
-    """The package for who compiles against the library."""
+def header_of(built, library):
+    """The package for who compiles against the library for a machine."""
     doc = "usr/share/doc/libbusconf-dev"
+    below = library.machine.multiarch
     files = {
         "usr/include/busconf.h": Entry(data_of("include/busconf.h")),
-        f"usr/{MULTIARCH}/libbusconf.a": Entry(built.archive),
-        f"usr/{MULTIARCH}/libbusconf.so": Entry(link=SONAME),
-        f"usr/{MULTIARCH}/pkgconfig/busconf.pc": pc_of("/usr", MULTIARCH),
+        f"usr/{below}/libbusconf.a": Entry(library.archive),
+        f"usr/{below}/libbusconf.so": Entry(link=SONAME),
+        f"usr/{below}/pkgconfig/busconf.pc": pc_of("/usr", below),
         f"{doc}/LIBRARY.md": Entry(data_of("docs/LIBRARY.md")),
     }
     examples = pages_of(doc)
@@ -129,7 +131,7 @@ def header_of(built):
         "The header, the static library and the file for pkg-config, with the page on the calls and examples in C and "
         "Python.",
         "FireWire cable buses, read, planned and run: for who compiles",
-        files)
+        files, architecture=library.machine.debian)
 
 
 def python_of(built):
@@ -165,14 +167,16 @@ def vectors_package_of(built):
         "FireWire cable buses: inputs with proved answers", files, architecture="all")
 
 
-def libc_of(built):
-    major, minor = built.needs
+def libc_of(needs):
+    major, minor = needs
     return f"libc6 (>= {major}.{minor})"
 
 
 def packages_of(built):
     """All Debian packages, each with its pages and checksums."""
-    found = [programs_of(built), library_of(built), header_of(built), python_of(built)]
+    found = [programs_of(built), python_of(built)]
+    for library in built.libraries:
+        found += [library_of(built, library), header_of(built, library)]
     if built.vectors:
         found.append(vectors_package_of(built))
     for package in found:

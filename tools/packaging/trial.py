@@ -8,13 +8,18 @@ import sys
 import tempfile
 
 from archives import make, sum_of
-from contents import MULTIARCH, PROGRAMS, SONAME, TOP, Fault, data_of, files_below, run
+from contents import AARCH64, MULTIARCH, PROGRAMS, SONAME, TOP, X86_64, Fault, data_of, files_below, run
 
 # The commands that the checks call, and Debian's package that has each.
 TOOLS = {
     "lintian": "lintian", "pkg-config": "pkg-config", "man": "man-db", "groff": "groff-base", "cc": "gcc",
     "dpkg": "dpkg", "dpkg-deb": "dpkg", "xz": "xz-utils", "strip": "binutils",
+    "aarch64-linux-gnu-gcc": "gcc-aarch64-linux-gnu libc6-dev-arm64-cross", "qemu-aarch64": "qemu-user",
 }
+# Those without which the rest can be tried.
+SPARED = ("lintian", "aarch64-linux-gnu-gcc", "qemu-aarch64")
+# Where Debian has glibc for AArch64 on other machines.
+CROSS = "/usr/aarch64-linux-gnu/lib"
 STATUSES = range(7)
 
 
@@ -24,17 +29,32 @@ def is_here(command):
 
 class Root:
     """An empty root: a folder with glibc's loader and libc.so.6 of this machine, and then what is unpacked into it."""
+    machine = X86_64
+    cc = "cc"
 
     def __init__(self, folder):
         self.folder = folder
         self.as_root = [] if os.geteuid() == 0 else ["unshare", "--user", "--map-root-user"]
-        for path in ("usr/bin", "usr/lib64", f"usr/{MULTIARCH}", "tmp"):
+        for path in ("usr/bin", "usr/lib64", f"usr/{self.machine.multiarch}", "tmp"):
             os.makedirs(os.path.join(folder, path), exist_ok=True)
         for name in ("bin", "lib", "lib64"):
             os.symlink(f"usr/{name}", os.path.join(folder, name))
+        self.lay_libc()
+
+    def lay_libc(self):
         libc = re.search(r"libc\.so\.6 => (\S+)", run("ldd", shutil.which("xz")).decode()).group(1)
-        shutil.copy("/lib64/ld-linux-x86-64.so.2", os.path.join(folder, "usr/lib64"))
-        shutil.copy(libc, os.path.join(folder, f"usr/{MULTIARCH}"))
+        shutil.copy("/lib64/ld-linux-x86-64.so.2", os.path.join(self.folder, "usr/lib64"))
+        shutil.copy(libc, os.path.join(self.folder, f"usr/{MULTIARCH}"))
+
+    def knows(self, *packages):
+        """Lets dpkg take packages of this machine for installed in the root."""
+        state = os.path.join(self.folder, "var/lib/dpkg")
+        for part in ("info", "updates", "triggers"):
+            os.makedirs(os.path.join(state, part))
+        known = b"\n".join(run("dpkg-query", "--status", it) for it in packages)
+        known = known.replace(b"\nArchitecture: amd64\n", f"\nArchitecture: {self.machine.debian}\n".encode())
+        with open(os.path.join(state, "status"), "wb") as file:
+            file.write(known)
 
     def call(self, *words, data=b"", env=None):
         """Runs a program of the root in it, with these bytes on its standard input."""
@@ -52,6 +72,22 @@ class Root:
         done = self.call(*words, data=data, env=env)
         if done.returncode != 0 or done.stdout != wanted:
             raise Fault(f"{' '.join(words)}: status {done.returncode}, and it wrote {(done.stdout + done.stderr)[:300]!r}")
+
+
+class ForeignRoot(Root):
+    """The same with glibc for AArch64, in which qemu runs the programs."""
+    machine = AARCH64
+    cc = "aarch64-linux-gnu-gcc"
+
+    def lay_libc(self):
+        shutil.copy(f"{CROSS}/ld-linux-aarch64.so.1", os.path.join(self.folder, "usr/lib"))
+        shutil.copy(f"{CROSS}/libc.so.6", os.path.join(self.folder, f"usr/{AARCH64.multiarch}"))
+
+    def call(self, *words, data=b"", env=None):
+        inside = [self.folder + it if it.startswith("/") else it for it in words]
+        how = {**os.environ, **{name: self.folder + path for name, path in (env or {}).items()}}
+        into = ["qemu-aarch64", "-L", self.folder]
+        return subprocess.run([*into, *inside], input=data, capture_output=True, check=False, env=how)
 
 
 def words_of(case):
@@ -123,7 +159,7 @@ def compile_examples(root, room, config, prefix, way):
         os.makedirs(to)
         for path in [os.path.join(room, "first.c"), *glob.glob(os.path.join(TOP, "examples", "c", "*.c"))]:
             program = os.path.join(to, os.path.basename(path)[:-2])
-            run("cc", "-std=c99", "-Wall", "-Wextra", "-Werror", "-pedantic", *flags, path, *libraries, "-o", program)
+            run(root.cc, "-std=c99", "-Wall", "-Wextra", "-Werror", "-pedantic", *flags, path, *libraries, "-o", program)
         shutil.copy(os.path.join(TOP, "examples", "hub.script"), to)
         at, env = f"/tmp/{way}-{name}", {"LD_LIBRARY_PATH": prefix} if prefix else {}
         root.wants(said.encode(), f"{at}/first", data=capture, env=env)
@@ -133,11 +169,15 @@ def compile_examples(root, room, config, prefix, way):
             done = root.call(f"{at}/recorder", data=data_of(case), env=env)
             if done.stdout != data_of(case + ".stdout") or done.returncode not in (0, 1):
                 raise Fault(f"recorder with the {name} library, on {os.path.relpath(case, TOP)}: not what is wanted")
+
+
+def read_in_python(library):
+    """The example in Python reads the buses of the cases by a packaged library."""
     for case in cases_of("busconf/read"):
         wanted = data_of(case + ".stdout")
         if wanted.startswith(b"node "):
             reader = os.path.join(TOP, "examples", "python", "read.py")
-            said = run(sys.executable, reader, f"{folder}/{SONAME}", "2000", input=data_of(case))
+            said = run(sys.executable, reader, library, "2000", input=data_of(case))
             if said != wanted:
                 raise Fault(f"examples/python/read.py on {os.path.relpath(case, TOP)}: not what is wanted")
 
@@ -199,36 +239,53 @@ class Trial:
         config = {**os.environ, "PKG_CONFIG_PATH": f"{folder}/lib/pkgconfig"}
         compile_examples(root, self.room, config, f"/tmp/{name}/lib", "archive")
         try_module(f"{folder}/lib/python", f"{folder}/lib/{SONAME}")
+        read_in_python(f"{folder}/lib/{SONAME}")
         return f"the archive: {count} cases in an empty root, its pages, the examples in C and Python, and the module"
 
     def packages(self):
         """The Debian packages, installed by dpkg into an empty root that has nothing but this machine's libc6, and of
         python3 the name."""
         root = Root(tempfile.mkdtemp(dir=self.room))
-        state = os.path.join(root.folder, "var/lib/dpkg")
-        for part in ("info", "updates", "triggers"):
-            os.makedirs(os.path.join(state, part))
-        known = run("dpkg-query", "--status", "libc6") + b"\n"
-        known += run("dpkg-query", "--status", "python3") + b"\n"
-        with open(os.path.join(state, "status"), "wb") as file:
-            file.write(known)
-        root.dpkg("--install", *self.debs)
+        root.knows("libc6", "python3")
+        debs = [it for it in self.debs if not it.endswith(f"_{AARCH64.debian}.deb")]
+        root.dpkg("--install", *debs)
         for sums in glob.glob(f"{root.folder}/usr/share/doc/*/SHA256SUMS"):
             check_sums(root.folder, sums)
         count = run_cases(root, "/usr/bin")
         read_pages(glob.glob(f"{root.folder}/usr/share/man/man1/*.gz"))
-        config = {**os.environ, "PKG_CONFIG_LIBDIR": f"{root.folder}/usr/{MULTIARCH}/pkgconfig",
-                  "PKG_CONFIG_SYSROOT_DIR": root.folder, "PKG_CONFIG_ALLOW_SYSTEM_CFLAGS": "1",
-                  "PKG_CONFIG_ALLOW_SYSTEM_LIBS": "1"}
-        compile_examples(root, self.room, config, "", "packages")
+        compile_examples(root, self.room, config_of(root), "", "packages")
+        read_in_python(f"{root.folder}/usr/{MULTIARCH}/{SONAME}")
         try_module(f"{root.folder}/usr/lib/python3/dist-packages", f"{root.folder}/usr/{MULTIARCH}/{SONAME}")
-        names = [os.path.basename(it).split("_")[0] for it in self.debs]
-        root.dpkg("--purge", *names)
-        left = [it for it in files_below(os.path.join(root.folder, "usr")) if "busconf" in it or "busview" in it]
-        if left:
-            raise Fault(f"dpkg --purge left {left[0]}")
+        names = [os.path.basename(it).split("_")[0] for it in debs]
+        purge(root, names)
         said = f"{count} cases, their pages, the examples in C and Python, and the module"
         return f"{' '.join(names)}: installed by dpkg into an empty root, {said}"
+
+    def foreign(self, has_to):
+        """The archive and the packages for AArch64, each in an empty root that has glibc for AArch64."""
+        if AARCH64 not in [it.machine for it in self.built.libraries]:
+            if has_to:
+                raise Fault("no library for AArch64 is built")
+            return "no library for AArch64 is built, so none is packed"
+        root = ForeignRoot(tempfile.mkdtemp(dir=self.room))
+        name = next(it for it in self.made if it.endswith("-aarch64-linux.tar.xz"))[: -len(".tar.xz")]
+        run("tar", "-xf", os.path.join(self.to, f"{name}.tar.xz"), "-C", os.path.join(root.folder, "tmp"))
+        folder = os.path.join(root.folder, "tmp", name)
+        check_sums(folder, "SHA256SUMS")
+        config = {**os.environ, "PKG_CONFIG_PATH": f"{folder}/lib/pkgconfig"}
+        compile_examples(root, self.room, config, f"/tmp/{name}/lib", "archive")
+
+        root = ForeignRoot(tempfile.mkdtemp(dir=self.room))
+        root.knows("libc6")
+        debs = [it for it in self.debs if it.endswith(f"_{AARCH64.debian}.deb")]
+        root.dpkg("--add-architecture", AARCH64.debian)
+        root.dpkg("--install", *debs)
+        for sums in glob.glob(f"{root.folder}/usr/share/doc/*/SHA256SUMS"):
+            check_sums(root.folder, sums)
+        compile_examples(root, self.room, config_of(root), "", "packages")
+        names = [os.path.basename(it).split("_")[0] for it in debs]
+        purge(root, [f"{it}:{AARCH64.debian}" for it in names])
+        return f"the archive and the packages {' '.join(names)} for AArch64: the examples in C, run by qemu in empty roots"
 
     def vectors(self):
         """The set of vectors is whole in its package."""
@@ -256,6 +313,21 @@ class Trial:
         return f"lintian: no error and {len(re.findall('^W:', said, re.M))} warnings\n{said.rstrip()}".rstrip()
 
 
+def config_of(root):
+    """What pkg-config is told of the packages that are installed in a root."""
+    return {**os.environ, "PKG_CONFIG_LIBDIR": f"{root.folder}/usr/{root.machine.multiarch}/pkgconfig",
+            "PKG_CONFIG_SYSROOT_DIR": root.folder, "PKG_CONFIG_ALLOW_SYSTEM_CFLAGS": "1",
+            "PKG_CONFIG_ALLOW_SYSTEM_LIBS": "1"}
+
+
+def purge(root, packages):
+    """Removes packages from a root, and finds nothing of them left."""
+    root.dpkg("--purge", *packages)
+    left = [it for it in files_below(os.path.join(root.folder, "usr")) if "busconf" in it or "busview" in it]
+    if left:
+        raise Fault(f"dpkg --purge left {left[0]}")
+
+
 def differing_files(one, other, names):
     """The names of the files that two folders don't both have with the same bytes."""
     def is_same(name):
@@ -266,14 +338,15 @@ def differing_files(one, other, names):
 
 def test(vectors, has_to):
     """Tries everything, says of each part what was seen, and answers whether all is well."""
-    wanted = [it for it in TOOLS if it != "lintian" and not is_here(it)]
+    wanted = [it for it in TOOLS if it not in SPARED and not is_here(it)]
     if wanted:
         raise Fault(f"not on the PATH: {' '.join(wanted)}; tools/package prepare installs what it needs on Debian")
     well = True
     with tempfile.TemporaryDirectory(prefix="busconf-package-") as room:
         os.chmod(room, 0o755)
         trial = Trial(room, vectors or small_set(os.path.join(room, "vectors")))
-        for check in (trial.twice, trial.tarball, trial.packages, trial.vectors, lambda: trial.lintian(has_to)):
+        for check in (trial.twice, trial.tarball, trial.packages, lambda: trial.foreign(has_to), trial.vectors,
+                      lambda: trial.lintian(has_to)):
             try:
                 print(f"package: {check()}", flush=True)
             except Fault as fault:
