@@ -58,15 +58,19 @@ beside_proved() {
     "$top/border/$1.c" -o "$2"
 }
 
-# Proves all crates for the machine, side by side, and makes their archives.
+# Proves all crates for the machine and makes their archives, side by side where there is memory for that.
 archives() {
   local crate made=()
   for crate in "${crates[@]}"; do
     (archive "$crate" "$machine") &
     made+=($!)
+    has_memory || wait $! || return 1
   done
   for crate in "${made[@]}"; do wait "$crate" || { wait; return 1; }; done
 }
+
+# Whether there is memory for all crates at a time, 4 GB each.
+has_memory() { awk '/^MemAvailable:/ { exit $2 < 12000000 }' /proc/meminfo; }
 
 # Whether the object of the calls without memory asks for no function but those that a C compiler may call by itself.
 try_heapless() {
@@ -90,7 +94,7 @@ build() {
   for crate in "${crates[@]}"; do object "$crate" "$made/$crate.o"; done
   rm -f "$into/libbusconf.a" "$into/libbusconf.so" "$into/libbusconf.so.0"
   ar rcsD "$into/libbusconf.a" "$made"/*.o
-  $cc -shared -Wl,-soname,libbusconf.so.0 -Wl,-z,relro,-z,now -o "$into/libbusconf.so.0" "$made"/*.o
+  $cc -shared -Wl,-soname,libbusconf.so.0 -Wl,-z,relro,-z,now,-z,defs -o "$into/libbusconf.so.0" "$made"/*.o
   # Two names of one file, since rt takes no symbolic link below crates/.
   ln "$into/libbusconf.so.0" "$into/libbusconf.so"
   rm -rf "$made"

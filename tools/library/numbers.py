@@ -85,11 +85,11 @@ bad += [f"struct {it}: {in_header.get(it)}, crate {shown.get(it)}" for it in sor
 
 # A call that is handed an allocator says in the header that it takes memory, and no other does. The crate of those that
 # take none names no allocator.
-exports = {}
+exports, homes = {}, {}
 for it in [heapless, crate, scripts]:
     for file in re.findall(r"^mod (\w+);", text(f"{it}/src/lib.rt"), re.M):
         for name, words in re.findall(r'pub extern "C" fn (\w+)\((.*?)\)\s*(?:->|\n|ensures)', text(f"{it}/src/{file}.rt"), re.S):
-            exports[name] = "alloc: Global" in words
+            exports[name], homes[name] = "alloc: Global" in words, os.path.basename(it)
 for it in [records, heapless]:
     for folder, _, files in os.walk(f"{top}/{it}/src"):
         for file in files:
@@ -101,8 +101,13 @@ for said, name in re.findall(r"/\*((?:(?!\*/).)*)\*/\n(?:enum )?\w+ (busconf_\w+
 bad += [f"{it}: only in one of the header and the crates" for it in sorted(set(exports) ^ set(declared))]
 bad += [f"{it}: whether it takes memory" for it in sorted(set(exports) & set(declared)) if exports[it] != declared[it]]
 
-# What takes a length has something before it, which makes a pointer to something of a null one.
-before = re.findall(r"^PROVED\((\w+)\);", "".join(text(f"border/{it}_c.c") for it in ("heapless", "busconf", "script")), re.M)
+# What takes a length has something before it, which makes a pointer to something of a null one, and stands in the file of
+# the call's crate.
+before = []
+for it in ("heapless_c", "busconf_c", "script_c"):
+    found = re.findall(r"^PROVED\((\w+)\);", text(f"border/{it}.c"), re.M)
+    bad += [f"{name}: in border/{it}.c, and not in the crate {it}" for name in found if homes.get(name) != it]
+    before += found
 lengths = re.findall(r"^(?:enum )?\w+ (busconf_\w+)\([^;]*\bsize_t (?:count|room)\b[^;]*\);", header, re.M)
 bad += [f"{it}: a length without border/, or the other way round" for it in sorted(set(before) ^ set(lengths))]
 print("\n".join(bad) or f"numbers: {len(wants)} numbers, {len(shown)} records and {len(exports)} calls of the header are the crates'")
