@@ -6,7 +6,8 @@ import subprocess
 import tarfile
 import tempfile
 
-from contents import Built, Fault, machine_tarball_of, run, tarball_of, vectors_tarball_of
+from contents import (Built, Fault, machine_tarball_of, page_tarball_of, run, tarball_of,
+                      vectors_tarball_of)
 from debian import packages_of
 
 
@@ -62,6 +63,17 @@ def write_deb(package, built, to, backwards=False):
         run("dpkg-deb", "--root-owner-group", "-Zxz", "-z6", "--build", room, to, env=how)
 
 
+def tarballs_of(built):
+    """The archives: the name of each and its files."""
+    yield f"busconf-{built.version}-x86_64-linux", tarball_of(built)
+    for library in built.libraries[1:]:
+        yield f"libbusconf-{built.version}-{library.machine.name}-linux", machine_tarball_of(built, library)
+    if built.page:
+        yield f"busconf-web-{built.version}", page_tarball_of(built)
+    if built.vectors:
+        yield f"busconf-vectors-{built.version}", vectors_tarball_of(built)
+
+
 def make(to, vectors=None, backwards=False):
     """Makes all packages in a folder, with their checksums, and answers what they were made of. What stood there of
     earlier packages is removed."""
@@ -70,14 +82,10 @@ def make(to, vectors=None, backwards=False):
     for name in os.listdir(to):
         if name.endswith((".deb", ".tar.xz")) or name in ("SHA256SUMS", "PROVED"):
             os.remove(os.path.join(to, name))
-    made = [f"busconf-{built.version}-x86_64-linux.tar.xz"]
-    write_tar(tarball_of(built), made[0][: -len(".tar.xz")], built.epoch, os.path.join(to, made[0]))
-    for library in built.libraries[1:]:
-        made.append(f"libbusconf-{built.version}-{library.machine.name}-linux.tar.xz")
-        write_tar(machine_tarball_of(built, library), made[-1][: -len(".tar.xz")], built.epoch, os.path.join(to, made[-1]))
-    if built.vectors:
-        made.append(f"busconf-vectors-{built.version}.tar.xz")
-        write_tar(vectors_tarball_of(built), made[-1][: -len(".tar.xz")], built.epoch, os.path.join(to, made[-1]))
+    made = []
+    for name, files in tarballs_of(built):
+        made.append(f"{name}.tar.xz")
+        write_tar(files, name, built.epoch, os.path.join(to, made[-1]))
     for package in packages_of(built):
         made.append(package.file_name(built))
         write_deb(package, built, os.path.join(to, made[-1]), backwards)

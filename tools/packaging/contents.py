@@ -7,6 +7,8 @@ from dataclasses import dataclass
 
 TOP = os.path.dirname(os.path.dirname(os.path.dirname(os.path.realpath(__file__))))
 PROGRAMS = ("busconf", "busview")
+# Where ./build puts the page with its module.
+PAGE = "crates/heapless_c/out/web"
 SONAME = "libbusconf.so.0"
 # Where Debian has the libraries of x86-64, below /usr.
 MULTIARCH = "lib/x86_64-linux-gnu"
@@ -83,6 +85,7 @@ class Built:
         self.programs = {name: self.stripped(f"crates/{name}/out/{name}", "--strip-all") for name in PROGRAMS}
         machines = [X86_64, *([AARCH64] if os.path.isdir(os.path.join(TOP, AARCH64.folder)) else [])]
         self.libraries = [Library(self, machine) for machine in machines]
+        self.page = self.page_now() if os.path.isdir(os.path.join(TOP, PAGE)) else {}
         self.needs = max(map(glibc_of, [*self.programs.values(), self.libraries[0].shared]))
         self.proved = self.tell()
 
@@ -114,12 +117,27 @@ class Built:
             raise Fault(f"{path} says that it was proved in the logic '{logic}', and the kit is {self.kit}")
         return changed(place, f"{tool}strip", "--enable-deterministic-archives", how)
 
+    def page_now(self):
+        """The files of the page, once it is sure that its module was built from these sources and the rest is that of web/."""
+        files = {name: Entry(data_of(f"{PAGE}/{name}")) for name in files_below(os.path.join(TOP, PAGE))}
+        ours = {name: Entry(data_of(f"web/{name}")) for name in files_below(os.path.join(TOP, "web"))}
+        mark = os.path.join(TOP, f"{PAGE}.sources")
+        is_same = os.path.exists(mark) and data_of(mark).decode().strip() == self.sources
+        if not is_same or {**files, **ours} != files:
+            raise Fault(f"{PAGE} isn't made from these sources; run ./build first")
+        logic = re.search(rb"rattle logic=([0-9a-f]+)", files["busconf.wasm"].data)
+        if not logic or not logic.group(1).decode().startswith(self.kit.split()[-1]):
+            raise Fault(f"{PAGE}/busconf.wasm doesn't say that it was proved in the logic of {self.kit}")
+        return files
+
     def tell(self):
         """The file that says what proved the package, and which clauses hold."""
         packed = dict(self.programs)
         for library in self.libraries:
             packed[f"{SONAME} for {library.machine.name}"] = library.shared
             packed[f"libbusconf.a for {library.machine.name}"] = library.archive
+        if self.page:
+            packed["busconf.wasm"] = self.page["busconf.wasm"].data
         sums = "\n".join(f"    {hashlib.sha256(data).hexdigest()}  {name}" for name, data in packed.items())
         logic = logic_of(os.path.join(TOP, "crates/busconf/out/busconf"))
         return f"""What proved busconf {self.version}, and what is proved of it
@@ -288,6 +306,16 @@ def machine_tarball_of(built, library):
     files = {**pages_of(doc), **library_tarball_of(library)}
     files[f"{doc}/PROVED"] = Entry(built.proved)
     files[f"{doc}/copyright"] = copyright_of(built)
+    return with_sums(files, "SHA256SUMS")
+
+
+def page_tarball_of(built):
+    """The files of the archive that has the page, for any system."""
+    files = {f"web/{name}": entry for name, entry in built.page.items()}
+    files["WEB.md"] = Entry(data_of("docs/WEB.md"))
+    files["web.png"] = Entry(data_of("docs/web.png"))
+    files["PROVED"] = Entry(built.proved)
+    files["copyright"] = copyright_of(built)
     return with_sums(files, "SHA256SUMS")
 
 

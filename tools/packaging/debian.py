@@ -149,6 +149,21 @@ def python_of(built):
         architecture="all")
 
 
+def page_package_of(built):
+    """The package of the page."""
+    doc = "usr/share/doc/busconf-web"
+    files = {f"usr/share/busconf/web/{name}": entry for name, entry in built.page.items()}
+    files[f"{doc}/WEB.md"] = Entry(data_of("docs/WEB.md"))
+    files[f"{doc}/web.png"] = Entry(data_of("docs/web.png"))
+    return Package(
+        "busconf-web",
+        {"Suggests": "chromium | firefox-esr (>= 134)", "Section": "web", "Multi-Arch": "foreign"},
+        "A page for a browser, which shows self-ID packets field by field and the tree that they tell, with the proved "
+        "calls as a module of WebAssembly.",
+        "FireWire cable buses: a page that reads self-ID packets",
+        files, architecture="all")
+
+
 def vectors_package_of(built):
     """The package of the vectors."""
     files = {f"usr/share/busconf/vectors/{path}": entry for path, entry in vectors_of(built).items()}
@@ -177,6 +192,8 @@ def packages_of(built):
     found = [programs_of(built), python_of(built)]
     for library in built.libraries:
         found += [library_of(built, library), header_of(built, library)]
+    if built.page:
+        found.append(page_package_of(built))
     if built.vectors:
         found.append(vectors_package_of(built))
     for package in found:

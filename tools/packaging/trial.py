@@ -15,9 +15,10 @@ TOOLS = {
     "lintian": "lintian", "pkg-config": "pkg-config", "man": "man-db", "groff": "groff-base", "cc": "gcc",
     "dpkg": "dpkg", "dpkg-deb": "dpkg", "xz": "xz-utils", "strip": "binutils",
     "aarch64-linux-gnu-gcc": "gcc-aarch64-linux-gnu libc6-dev-arm64-cross", "qemu-aarch64": "qemu-user",
+    "chromium": "chromium",
 }
 # Those without which the rest can be tried.
-SPARED = ("lintian", "aarch64-linux-gnu-gcc", "qemu-aarch64")
+SPARED = ("lintian", "aarch64-linux-gnu-gcc", "qemu-aarch64", "chromium")
 # Where Debian has glibc for AArch64 on other machines.
 CROSS = "/usr/aarch64-linux-gnu/lib"
 STATUSES = range(7)
@@ -287,6 +288,23 @@ class Trial:
         purge(root, [f"{it}:{AARCH64.debian}" for it in names])
         return f"the archive and the packages {' '.join(names)} for AArch64: the examples in C, run by qemu in empty roots"
 
+    def page(self, has_to):
+        """The page is whole in its archive and in its package."""
+        if not self.built.page:
+            if has_to:
+                raise Fault("the page isn't made")
+            return "the page isn't made, so it isn't packed"
+        folder = tempfile.mkdtemp(dir=self.room)
+        run("dpkg-deb", "-x", next(it for it in self.debs if "busconf-web_" in it), folder)
+        name = f"busconf-web-{self.built.version}"
+        run("tar", "-xf", os.path.join(self.to, f"{name}.tar.xz"), "-C", folder)
+        check_sums(os.path.join(folder, name), "SHA256SUMS")
+        wanted = {path: entry.data for path, entry in self.built.page.items()}
+        for place in (os.path.join(folder, "usr/share/busconf/web"), os.path.join(folder, name, "web")):
+            if {path: data_of(os.path.join(place, path)) for path in files_below(place)} != wanted:
+                raise Fault("a package doesn't hold the files of the page")
+        return f"busconf-web has the {len(self.built.page)} files of the page"
+
     def vectors(self):
         """The set of vectors is whole in its package."""
         if not self.built.vectors:
@@ -345,8 +363,8 @@ def test(vectors, has_to):
     with tempfile.TemporaryDirectory(prefix="busconf-package-") as room:
         os.chmod(room, 0o755)
         trial = Trial(room, vectors or small_set(os.path.join(room, "vectors")))
-        for check in (trial.twice, trial.tarball, trial.packages, lambda: trial.foreign(has_to), trial.vectors,
-                      lambda: trial.lintian(has_to)):
+        for check in (trial.twice, trial.tarball, trial.packages, lambda: trial.foreign(has_to), lambda: trial.page(has_to),
+                      trial.vectors, lambda: trial.lintian(has_to)):
             try:
                 print(f"package: {check()}", flush=True)
             except Fault as fault:
