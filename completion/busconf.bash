@@ -10,11 +10,20 @@ _busconf() {
     mapfile -t COMPREPLY < <(compgen -W "$forms" -- "${COMP_WORDS[1]}")
   elif [ "$COMP_CWORD" -eq 2 ]; then
     case ${1##*/}:${COMP_WORDS[1]} in
-    busview:packets | busview:tree | busview:dot | busview:json | busview:resets | busview:nosy | busview:diff)
+    busview:packets | busview:tree | busview:dot | busview:json | busview:diff)
       mapfile -t COMPREPLY < <(compgen -W "--1995" -- "${COMP_WORDS[2]}")
+      ;;
+    busview:resets | busview:nosy)
+      mapfile -t COMPREPLY < <(compgen -W "--1995 --json" -- "${COMP_WORDS[2]}")
       ;;
     busview:flawed)
       mapfile -t COMPREPLY < <(compgen -W "BadLength BadInverse NotSelfId WrongId BadOrder Cut TwoParents Empty TooFewChildren TreesLeft AfterRoot NoRoot TooMany" -- "${COMP_WORDS[2]}")
+      ;;
+    esac
+  elif [ "$COMP_CWORD" -eq 3 ]; then
+    case ${1##*/}:${COMP_WORDS[1]}:${COMP_WORDS[2]} in
+    busview:resets:--1995 | busview:nosy:--1995)
+      mapfile -t COMPREPLY < <(compgen -W "--json" -- "${COMP_WORDS[3]}")
       ;;
     esac
   fi

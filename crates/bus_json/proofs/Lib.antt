@@ -2,3 +2,4 @@ pub mod ReadBack
 pub mod Slots
 pub mod Names
 pub mod Nodes
+pub mod Lemmas

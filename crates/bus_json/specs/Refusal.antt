@@ -11,12 +11,18 @@ counts_members None = no_members
 counts_members (Some c) =
     member (codes "found") (numeral c.found) (member (codes "wanted") (numeral c.wanted) no_members)
 
--- an object with the one member `refused`
-abbrev pub with_refusal : Members → Json
-with_refusal members = with_schema (member (codes "refused") (object members) no_members)
-
 -- the pair at fault and the kind of its fault
+abbrev pub fault_members : ℕ → List ℕ → Option Counts → Members
+fault_members pair kind counts =
+    member (codes "pair") (numeral pair)
+    (member (codes "kind") (string kind) (counts_members counts))
+
+-- the one member `refused`
+abbrev pub refused_members : Members → Members
+refused_members members = member (codes "refused") (object members) no_members
+
+abbrev pub with_refusal : Members → Json
+with_refusal members = with_schema (refused_members members)
+
 abbrev pub refusal_value : ℕ → List ℕ → Option Counts → Json
-refusal_value pair kind counts =
-    with_refusal (member (codes "pair") (numeral pair)
-    (member (codes "kind") (string kind) (counts_members counts)))
+refusal_value pair kind counts = with_refusal (fault_members pair kind counts)

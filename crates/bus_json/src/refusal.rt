@@ -4,7 +4,7 @@ ghost use Rattle.json.specs.Token.{begin_object, end_object, key};
 ghost use Rattle.json.specs.Json.{document};
 ghost use Rattle.json.specs.Tree.{members_tokens};
 ghost use Rattle.bus_json.specs.Text.{json_line, json_text};
-ghost use Rattle.bus_json.specs.Refusal.{counts_members, refusal_value};
+ghost use Rattle.bus_json.specs.Refusal.{counts_members, fault_members, refused_members, refusal_value};
 
 use crate::json_text::JsonText;
 use std::alloc::Global;
@@ -30,6 +30,26 @@ fn put_counts(out: &mut JsonText, counts: Option<Counts>) -> Result<(), OutOfMem
     out.close_object()
 }
 
+/// Writes why a list of self-ID packets is refused, as the member `refused` of an object, and ends the
+/// object: the pair at fault, the kind of its fault, and what was found and wanted where both are known.
+pub fn put_refusal(
+    out: &mut JsonText,
+    pair: usize,
+    kind: &str,
+    counts: Option<Counts>,
+) -> Result<(), OutOfMemory>
+    ensures { OnOk result (out.new ≡ out.old
+        ++ members_tokens (refused_members (fault_members pair kind.now counts))) }
+{
+    out.key("refused")?;
+    out.open_object()?;
+    out.number_member("pair", pair as u64)?;
+    out.string_member("kind", kind)?;
+    put_counts(out, counts)?;
+    out.close_object()?;
+    Ok(())
+}
+
 /// The line of a refused capture: the pair at fault, the kind of its fault, and what was found and
 /// wanted where both are known.
 ///
@@ -47,12 +67,7 @@ pub fn refusal_line(
 {
     let mut out = JsonText::new(alloc);
     out.open_schema()?;
-    out.key("refused")?;
-    out.open_object()?;
-    out.number_member("pair", pair as u64)?;
-    out.string_member("kind", kind)?;
-    put_counts(&mut out, counts)?;
-    out.close_object()?;
+    put_refusal(&mut out, pair, kind, counts)?;
     let line = out.into_line()?;
     Ok(line)
 }

@@ -61,8 +61,8 @@ few_status Explain bytes status text (has_fault fault e x t) = omega (arith, e)
 few_status (Script nodes seed) bytes status text x = let e = x.0 in omega (arith, e)
 few_status (ListOf name) bytes status text (has_list list e x t) = omega (arith, e)
 few_status (ListOf name) bytes status text (has_none fault e x t) = omega (arith, e)
-few_status (Resets standard) bytes status text (bad, is, e) = omega (arith, e, few_bad bad)
-few_status (Nosy standard) bytes status text (bad, is, e) = omega (arith, e, few_bad bad)
+few_status (Resets form) bytes status text (bad, is, e) = omega (arith, e, few_bad bad)
+few_status (Nosy form) bytes status text (bad, is, e) = omega (arith, e, few_bad bad)
 few_status (OfItself about) bytes status text x = let e = x.0 in omega (arith, e)
 
 -- it isn't 6, where not too many bytes were taken

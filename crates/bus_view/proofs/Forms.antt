@@ -4,6 +4,9 @@ use Rattle.std.specs.Prelude.{String, map, string_bytes, codes, nat_lt}
 use Rattle.std.specs.Global.{Global}
 use Rattle.about.specs.declared.asked.About.TheVariants.{Help, Version}
 use Rattle.self_id.specs.declared.standard.Standard.{Standard}
+use Rattle.reset_log.specs.declared.form.LogForm.{LogForm}
+use Rattle.reset_log.specs.declared.form.LogForm.TheVariants.{Text, Json as Lines}
+use Rattle.reset_log.specs.Form.{options}
 use Rattle.self_id.specs.declared.standard.Standard.TheVariants.{Ieee1995, Ieee2000}
 use Rattle.bus_view.specs.declared.form.CaptureView.{CaptureView}
 use Rattle.bus_view.specs.declared.form.CaptureView.TheVariants.{Packets, Tree, Dot, Json}
@@ -47,11 +50,11 @@ capture_of (Some view) standard = Some (Capture view standard)
 abbrev named : Bool → List ℕ → Option ViewForm
 named test name = cond test (Some (ListOf name)) None
 
--- a log or a dump by a standard, or something else
-abbrev log_of : List ℕ → Standard → Option ViewForm → Option ViewForm
-log_of word standard rest =
-    cond (same word (codes "resets")) (Some (Resets standard))
-    (cond (same word (codes "nosy")) (Some (Nosy standard)) rest)
+-- a log or a dump in a form, or something else
+abbrev log_of : List ℕ → LogForm → Option ViewForm → Option ViewForm
+log_of word form rest =
+    cond (same word (codes "resets")) (Some (Resets form))
+    (cond (same word (codes "nosy")) (Some (Nosy form)) rest)
 
 form_of : List (List ℕ) → Option ViewForm
 form_of [] = None
@@ -62,11 +65,14 @@ form_of (word ∷ []) =
     (cond (same word (codes "--help")) (Some (OfItself Help))
     (cond (same word (codes "-h")) (Some (OfItself Help))
     (cond (same word (codes "--version")) (Some (OfItself Version))
-    (log_of word Ieee2000 (capture_of (view_of word) Ieee2000)))))))
+    (log_of word (Text Ieee2000) (capture_of (view_of word) Ieee2000)))))))
 form_of (word ∷ next ∷ []) =
     cond (same word (codes "capture")) (named (is_name next) next)
-    (cond (same next (codes "--1995")) (log_of word Ieee1995 (capture_of (view_of word) Ieee1995)) None)
-form_of (word ∷ a ∷ b ∷ []) = cond (same word (codes "script")) (of_numbers (number_of a) (number_of b)) None
+    (cond (same next (codes "--1995")) (log_of word (Text Ieee1995) (capture_of (view_of word) Ieee1995))
+    (cond (same next (codes "--json")) (log_of word (Lines Ieee2000) None) None))
+form_of (word ∷ a ∷ b ∷ []) =
+    cond (same word (codes "script")) (of_numbers (number_of a) (number_of b))
+    (cond (same a (codes "--1995")) (cond (same b (codes "--json")) (log_of word (Lines Ieee1995) None) None) None)
 form_of (word ∷ a ∷ b ∷ c ∷ words) = None
 
 in_range : (low high : Bool) (nodes seed : ℕ) → nat_lt 0 nodes ≡ low → nat_lt nodes 64 ≡ high →
@@ -98,10 +104,14 @@ is_found (Capture Json Ieee2000) words e = ap (λ (ws : List (List ℕ)). form_o
 is_found Trace words e = ap (λ (ws : List (List ℕ)). form_of ws) e
 is_found Waves words e = ap (λ (ws : List (List ℕ)). form_of ws) e
 is_found Explain words e = ap (λ (ws : List (List ℕ)). form_of ws) e
-is_found (Resets Ieee1995) words e = ap (λ (ws : List (List ℕ)). form_of ws) e
-is_found (Resets Ieee2000) words e = ap (λ (ws : List (List ℕ)). form_of ws) e
-is_found (Nosy Ieee1995) words e = ap (λ (ws : List (List ℕ)). form_of ws) e
-is_found (Nosy Ieee2000) words e = ap (λ (ws : List (List ℕ)). form_of ws) e
+is_found (Resets (Text Ieee1995)) words e = ap (λ (ws : List (List ℕ)). form_of ws) e
+is_found (Resets (Text Ieee2000)) words e = ap (λ (ws : List (List ℕ)). form_of ws) e
+is_found (Resets (Lines Ieee1995)) words e = ap (λ (ws : List (List ℕ)). form_of ws) e
+is_found (Resets (Lines Ieee2000)) words e = ap (λ (ws : List (List ℕ)). form_of ws) e
+is_found (Nosy (Text Ieee1995)) words e = ap (λ (ws : List (List ℕ)). form_of ws) e
+is_found (Nosy (Text Ieee2000)) words e = ap (λ (ws : List (List ℕ)). form_of ws) e
+is_found (Nosy (Lines Ieee1995)) words e = ap (λ (ws : List (List ℕ)). form_of ws) e
+is_found (Nosy (Lines Ieee2000)) words e = ap (λ (ws : List (List ℕ)). form_of ws) e
 is_found (OfItself Help) words (inl e) = ap (λ (ws : List (List ℕ)). form_of ws) e
 is_found (OfItself Help) words (inr e) = ap (λ (ws : List (List ℕ)). form_of ws) e
 is_found (OfItself Version) words e = ap (λ (ws : List (List ℕ)). form_of ws) e
@@ -163,24 +173,17 @@ with_standard : (standard : Standard) (word wanted : List ℕ) → same word wan
     word ∷ standard_words standard ≡ wanted ∷ standard_words standard
 with_standard standard word wanted e = ap (λ (w : List ℕ). w ∷ standard_words standard) (same-true word wanted e)
 
-resets_words : (standard : Standard) (words : List (List ℕ)) → words ≡ codes "resets" ∷ standard_words standard →
-    AreWordsOf (Resets standard) words
-resets_words Ieee1995 words e = e
-resets_words Ieee2000 words e = e
+log_words : (word : List ℕ) (log : LogForm) (form : ViewForm) (rest : Option ViewForm) →
+    (rest ≡ Some form → AreWordsOf form (word ∷ options log)) →
+    log_of word log rest ≡ Some form → AreWordsOf form (word ∷ options log)
+log_words word log form rest go =
+    or_rest (same word (codes "resets")) (word ∷ options log) (Resets log) form _
+    (λ e. ap (λ (w : List ℕ). w ∷ options log) (same-true word (codes "resets") e))
+    (or_rest (same word (codes "nosy")) (word ∷ options log) (Nosy log) form rest
+    (λ e. ap (λ (w : List ℕ). w ∷ options log) (same-true word (codes "nosy") e)) go)
 
-nosy_words : (standard : Standard) (words : List (List ℕ)) → words ≡ codes "nosy" ∷ standard_words standard →
-    AreWordsOf (Nosy standard) words
-nosy_words Ieee1995 words e = e
-nosy_words Ieee2000 words e = e
-
-log_words : (word : List ℕ) (standard : Standard) (form : ViewForm) (rest : Option ViewForm) →
-    (rest ≡ Some form → AreWordsOf form (word ∷ standard_words standard)) →
-    log_of word standard rest ≡ Some form → AreWordsOf form (word ∷ standard_words standard)
-log_words word standard form rest go =
-    or_rest (same word (codes "resets")) (word ∷ standard_words standard) (Resets standard) form _
-    (λ e. resets_words standard _ (with_standard standard word (codes "resets") e))
-    (or_rest (same word (codes "nosy")) (word ∷ standard_words standard) (Nosy standard) form rest
-    (λ e. nosy_words standard _ (with_standard standard word (codes "nosy") e)) go)
+no_form : (form : ViewForm) (P : Type 0) → None ≡ Some form → P
+no_form form P e = absurd cc
 
 one_word : (word : List ℕ) (form : ViewForm) →
     cond (same word (codes "trace")) (Some Trace)
@@ -189,7 +192,7 @@ one_word : (word : List ℕ) (form : ViewForm) →
     (cond (same word (codes "--help")) (Some (OfItself Help))
     (cond (same word (codes "-h")) (Some (OfItself Help))
     (cond (same word (codes "--version")) (Some (OfItself Version))
-    (log_of word Ieee2000 (capture_of (view_of word) Ieee2000))))))) ≡ Some form →
+    (log_of word (Text Ieee2000) (capture_of (view_of word) Ieee2000))))))) ≡ Some form →
     AreWordsOf form (word ∷ [])
 one_word word form =
     or_rest _ (word ∷ []) Trace form _ (with_standard Ieee2000 word (codes "trace"))
@@ -198,7 +201,7 @@ one_word word form =
     (or_rest _ (word ∷ []) (OfItself Help) form _ (λ e. inl (with_standard Ieee2000 word (codes "--help") e))
     (or_rest _ (word ∷ []) (OfItself Help) form _ (λ e. inr (with_standard Ieee2000 word (codes "-h") e))
     (or_rest _ (word ∷ []) (OfItself Version) form _ (with_standard Ieee2000 word (codes "--version"))
-    (log_words word Ieee2000 form _ (of_capture (view_of word) Ieee2000 word form (view_is word))))))))
+    (log_words word (Text Ieee2000) form _ (of_capture (view_of word) Ieee2000 word form (view_is word))))))))
 
 by_name : (test : Bool) (word next : List ℕ) (form : ViewForm) → is_name next ≡ test →
     word ≡ codes "capture" → named test next ≡ Some form → AreWordsOf form (word ∷ next ∷ [])
@@ -207,14 +210,16 @@ by_name true word next form is w e =
     subst (λ (g : ViewForm). AreWordsOf g (word ∷ next ∷ [])) f (ap (λ (v : List ℕ). v ∷ next ∷ []) w, is)
 by_name false word next form is w e = absurd cc
 
-two_words : (first test : Bool) (word next : List ℕ) (form : ViewForm) → (first ≡ true → word ≡ codes "capture") →
-    (test ≡ true → next ≡ codes "--1995") →
-    cond first (named (is_name next) next) (cond test (log_of word Ieee1995 (capture_of (view_of word) Ieee1995)) None) ≡ Some form →
+two_words : (first test lines : Bool) (word next : List ℕ) (form : ViewForm) → (first ≡ true → word ≡ codes "capture") →
+    (test ≡ true → next ≡ codes "--1995") → (lines ≡ true → next ≡ codes "--json") →
+    cond first (named (is_name next) next) (cond test (log_of word (Text Ieee1995) (capture_of (view_of word) Ieee1995)) (cond lines (log_of word (Lines Ieee2000) None) None)) ≡ Some form →
     AreWordsOf form (word ∷ next ∷ [])
-two_words true test word next form w is e = by_name (is_name next) word next form refl (w refl) e
-two_words false true word next form w is e =
-    rw (is refl) (log_words word Ieee1995 form _ (of_capture (view_of word) Ieee1995 word form (view_is word)) e)
-two_words false false word next form w is e = absurd cc
+two_words true test lines word next form w is js e = by_name (is_name next) word next form refl (w refl) e
+two_words false true lines word next form w is js e =
+    rw (is refl) (log_words word (Text Ieee1995) form _ (of_capture (view_of word) Ieee1995 word form (view_is word)) e)
+two_words false false true word next form w is js e =
+    rw (js refl) (log_words word (Lines Ieee2000) form None (no_form form _) e)
+two_words false false false word next form w is js e = absurd cc
 
 -- 1 to 63 nodes and a seed that are found stand there
 by_range : (low high : Bool) (word a b : List ℕ) (nodes seed : ℕ) (form : ViewForm) →
@@ -242,10 +247,15 @@ by_numbers (Some nodes) None word a b form w x y e = absurd cc
 by_numbers (Some nodes) (Some seed) word a b form w x y e =
     by_range (nat_lt 0 nodes) (nat_lt nodes 64) word a b nodes seed form refl refl w x y e
 
-three_words : (test : Bool) (word a b : List ℕ) (form : ViewForm) → (test ≡ true → word ≡ codes "script") →
-    cond test (of_numbers (number_of a) (number_of b)) None ≡ Some form → AreWordsOf form (word ∷ a ∷ b ∷ [])
-three_words true word a b form is e = by_numbers (number_of a) (number_of b) word a b form (is refl) refl refl e
-three_words false word a b form is e = absurd cc
+three_words : (test year lines : Bool) (word a b : List ℕ) (form : ViewForm) → (test ≡ true → word ≡ codes "script") →
+    (year ≡ true → a ≡ codes "--1995") → (lines ≡ true → b ≡ codes "--json") →
+    cond test (of_numbers (number_of a) (number_of b)) (cond year (cond lines (log_of word (Lines Ieee1995) None) None) None) ≡ Some form →
+    AreWordsOf form (word ∷ a ∷ b ∷ [])
+three_words true year lines word a b form is old js e = by_numbers (number_of a) (number_of b) word a b form (is refl) refl refl e
+three_words false true true word a b form is old js e =
+    rw (old refl, js refl) (log_words word (Lines Ieee1995) form None (no_form form _) e)
+three_words false true false word a b form is old js e = absurd cc
+three_words false false lines word a b form is old js e = absurd cc
 
 are_words : (words : List (List ℕ)) (form : ViewForm) → form_of words ≡ Some form →
     AreWordsOf form words
@@ -254,8 +264,9 @@ are_words [] form e = absurd cc
 are_words (word ∷ []) form e =
     one_word word form e
 are_words (word ∷ next ∷ []) form e =
-    two_words _ _ word next form (same-true word (codes "capture")) (same-true next (codes "--1995")) e
-are_words (word ∷ a ∷ b ∷ []) form e = three_words _ word a b form (same-true word (codes "script")) e
+    two_words _ _ _ word next form (same-true word (codes "capture")) (same-true next (codes "--1995")) (same-true next (codes "--json")) e
+are_words (word ∷ a ∷ b ∷ []) form e =
+    three_words _ _ _ word a b form (same-true word (codes "script")) (same-true a (codes "--1995")) (same-true b (codes "--json")) e
 are_words (word ∷ a ∷ b ∷ c ∷ words) form e = absurd cc
 
 pub form_or_none : (words : List (String Global)) → IsForm words ⊎ (IsForm words → ⊥)
@@ -270,11 +281,11 @@ form_or_none words = go (form_of (map string_bytes words)) refl
 -- a form whose input is shown as it comes is none of the others
 pub log_apart : (words : List (String Global)) (form : ViewForm) → IsHeld form → Asks words form →
     AsksLog words → ⊥
-log_apart words form held asks (standard, inl log) =
-    let e : Resets standard ≡ form = one_form words (Resets standard) form log asks in
+log_apart words form held asks (shown, inl log) =
+    let e : Resets shown ≡ form = one_form words (Resets shown) form log asks in
     subst (λ (f : ViewForm). IsHeld f → ⊥) e (λ none. none) held
-log_apart words form held asks (standard, inr dump) =
-    let e : Nosy standard ≡ form = one_form words (Nosy standard) form dump asks in
+log_apart words form held asks (shown, inr dump) =
+    let e : Nosy shown ≡ form = one_form words (Nosy shown) form dump asks in
     subst (λ (f : ViewForm). IsHeld f → ⊥) e (λ none. none) held
 
 -- nor is one that reads nothing
@@ -283,15 +294,15 @@ input_apart words (inl script) log =
     log_apart words (Script script.0 script.1) (script.2.some_nodes, script.2.few_nodes) script.2 log
 input_apart words (inr itself) log = log_apart words (OfItself itself.0) tt itself.1 log
 
--- the standards of a log's words are one, and so are those of a dump's
-pub one_resets : (words : List (String Global)) (a b : Standard) → Asks words (Resets a) → Asks words (Resets b) → a ≡ b
+-- the forms of a log's words are one, and so are those of a dump's
+pub one_resets : (words : List (String Global)) (a b : LogForm) → Asks words (Resets a) → Asks words (Resets b) → a ≡ b
 one_resets words a b x y = let e : Resets a ≡ Resets b = one_form words (Resets a) (Resets b) x y in cc
 
-pub one_nosy : (words : List (String Global)) (a b : Standard) → Asks words (Nosy a) → Asks words (Nosy b) → a ≡ b
+pub one_nosy : (words : List (String Global)) (a b : LogForm) → Asks words (Nosy a) → Asks words (Nosy b) → a ≡ b
 one_nosy words a b x y = let e : Nosy a ≡ Nosy b = one_form words (Nosy a) (Nosy b) x y in cc
 
 -- and they are apart
-pub no_dump : (words : List (String Global)) (a b : Standard) → Asks words (Resets a) → Asks words (Nosy b) → ⊥
+pub no_dump : (words : List (String Global)) (a b : LogForm) → Asks words (Resets a) → Asks words (Nosy b) → ⊥
 no_dump words a b x y = let e : Resets a ≡ Nosy b = one_form words (Resets a) (Nosy b) x y in cc
 
 -- with words that need an input, and that isn't shown as it comes, it is read
@@ -303,8 +314,8 @@ is_read words Waves asks no_log none = tt
 is_read words Explain asks no_log none = tt
 is_read words (Script nodes seed) asks no_log none = absurd (none (inl (nodes, seed, asks)))
 is_read words (ListOf name) asks no_log none = tt
-is_read words (Resets standard) asks no_log none = absurd (no_log (standard, inl asks))
-is_read words (Nosy standard) asks no_log none = absurd (no_log (standard, inr asks))
+is_read words (Resets form) asks no_log none = absurd (no_log (form, inl asks))
+is_read words (Nosy form) asks no_log none = absurd (no_log (form, inr asks))
 is_read words (OfItself about) asks no_log none = absurd (none (inr (about, asks)))
 
 -- with words that need none it isn't
@@ -326,6 +337,6 @@ is_held words Waves asks no_log = tt
 is_held words Explain asks no_log = tt
 is_held words (Script nodes seed) asks no_log = (asks.some_nodes, asks.few_nodes)
 is_held words (ListOf name) asks no_log = tt
-is_held words (Resets standard) asks no_log = absurd (no_log (standard, inl asks))
-is_held words (Nosy standard) asks no_log = absurd (no_log (standard, inr asks))
+is_held words (Resets form) asks no_log = absurd (no_log (form, inl asks))
+is_held words (Nosy form) asks no_log = absurd (no_log (form, inr asks))
 is_held words (OfItself about) asks no_log = tt

@@ -205,10 +205,10 @@ same_view one (Capture view standard) bytes s r a b x y =
     same_capture one view standard bytes s r a b x y
 same_view one (Script nodes seed) bytes s r a b x y = (x.0 ∙ sym y.0, x.1 ∙ sym y.1)
 same_view one (ListOf name) bytes s r a b x y = same_list one name bytes s r a b x y
-same_view one (Resets standard) bytes s r a b (p, x, e) (q, y, f) =
-    let t = one.logs standard bytes a b p q x y in (e ∙ ap status_if t.1 ∙ sym f, t.0)
-same_view one (Nosy standard) bytes s r a b (p, x, e) (q, y, f) =
-    let t = one.bus_dumps standard bytes a b p q x y in (e ∙ ap status_if t.1 ∙ sym f, t.0)
+same_view one (Resets form) bytes s r a b (p, x, e) (q, y, f) =
+    let t = one.logs form bytes a b p q x y in (e ∙ ap status_if t.1 ∙ sym f, t.0)
+same_view one (Nosy form) bytes s r a b (p, x, e) (q, y, f) =
+    let t = one.bus_dumps form bytes a b p q x y in (e ∙ ap status_if t.1 ∙ sym f, t.0)
 same_view one (OfItself about) bytes s r a b x y = (x.0 ∙ sym y.0, x.1 ∙ sym y.1)
 
 -- ---- words and bytes have one answer

@@ -132,10 +132,10 @@ module _ (have : HasSomeReading) where
   some-view Explain bytes fit = some-explanation bytes
   some-view (Script nodes seed) bytes fit = (0, made_script nodes seed, (refl, refl))
   some-view (ListOf name) bytes fit = some-list name bytes
-  some-view (Resets standard) bytes fit =
-      let t = have.logs standard bytes in (status_if t.1, t.0, (t.1, t.2, refl))
-  some-view (Nosy standard) bytes fit =
-      let t = have.bus_dumps standard bytes fit in (status_if t.1, t.0, (t.1, t.2, refl))
+  some-view (Resets form) bytes fit =
+      let t = have.logs form bytes in (status_if t.1, t.0, (t.1, t.2, refl))
+  some-view (Nosy form) bytes fit =
+      let t = have.bus_dumps form bytes fit in (status_if t.1, t.0, (t.1, t.2, refl))
   some-view (OfItself about) bytes fit = (0, about_text about (codes "busview") VIEW_HELP.now, (refl, refl))
 
   pub some-answer : EachInputHasAView

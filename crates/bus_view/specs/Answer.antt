@@ -124,8 +124,8 @@ IsView Waves bytes status text = IsWavesView bytes status text
 IsView Explain bytes status text = IsExplainView bytes status text
 IsView (Script nodes seed) bytes status text = IsScriptView nodes seed status text
 IsView (ListOf name) bytes status text = IsListView name bytes status text
-IsView (Resets standard) bytes status text = IsLogView standard bytes status text
-IsView (Nosy standard) bytes status text = IsDumpView standard bytes status text
+IsView (Resets form) bytes status text = IsLogView form bytes status text
+IsView (Nosy form) bytes status text = IsDumpView form bytes status text
 IsView (OfItself about) bytes status text = IsViewOfItself about status text
 
 -- the status and the text of words and bytes

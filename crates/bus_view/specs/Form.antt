@@ -7,6 +7,7 @@ use Rattle.self_id.specs.declared.standard.Standard.{Standard}
 use Rattle.self_id.specs.declared.standard.Standard.TheVariants.{Ieee1995, Ieee2000}
 use Rattle.script_lines.specs.Name.{is_name}
 use Rattle.script_lines.specs.Number.{number_of}
+use Rattle.reset_log.specs.declared.form.LogForm.{LogForm}
 use Rattle.reset_log.specs.Form.{AreWordsBy as AreResetsWords}
 use Rattle.nosy_dump.specs.Form.{AreWordsBy as AreNosyWords}
 use Rattle.bus_view.specs.declared.form.CaptureView.TheVariants.{Packets, Tree, Dot, Json}
@@ -39,8 +40,8 @@ AreWordsOf Waves words = words ≡ codes "waves" ∷ []
 AreWordsOf Explain words = words ≡ codes "explain" ∷ []
 AreWordsOf (Script nodes seed) words = AreScriptWords nodes seed words
 AreWordsOf (ListOf name) words = (words ≡ codes "capture" ∷ name ∷ []) × IsTrue (is_name name)
-AreWordsOf (Resets standard) words = AreResetsWords standard words
-AreWordsOf (Nosy standard) words = AreNosyWords standard words
+AreWordsOf (Resets form) words = AreResetsWords form words
+AreWordsOf (Nosy form) words = AreNosyWords form words
 AreWordsOf (OfItself about) words = AreWordsFor about words
 
 -- the words are those of the form
@@ -65,4 +66,4 @@ AsksNoInput words = AsksScript words ⊎ AsksOfItself words
 
 -- with these words the input is shown as it comes, without a limit
 abbrev pub AsksLog : List (String Global) → Type 0
-AsksLog words = (standard : Standard) × (Asks words (Resets standard) ⊎ Asks words (Nosy standard))
+AsksLog words = (form : LogForm) × (Asks words (Resets form) ⊎ Asks words (Nosy form))

@@ -3,7 +3,7 @@ use Rattle.std.specs.Prelude.{◌≡◌, ◌≢◌, ◌⊎◌, ℕ, ◌≤◌, �
 use Rattle.std.specs.Io.KnownBytes.{Appends, Consumes, IsAtEnd}
 use Rattle.io_edges.specs.Faults.{Rose}
 use Rattle.io_edges.specs.Told.{AppendsStart, IfTold, TookOver}
-use Rattle.self_id.specs.declared.standard.Standard.{Standard}
+use Rattle.reset_log.specs.declared.form.LogForm.{LogForm}
 use Rattle.reset_log.specs.Noted.{Noted, nothing}
 use Rattle.reset_log.specs.Log.{parted, lines_of, IsLogShown, AreShown}
 use Rattle.nosy_dump.specs.Dump.{IsDumpShown}
@@ -14,20 +14,20 @@ abbrev pub status_if : Bool → ℕ
 status_if false = 0
 status_if true = 1
 
--- `resets`: what is shown of the log by a standard
-abbrev pub IsLogView : Standard → List ℕ → ℕ → List ℕ → Type 0
-IsLogView standard bytes status text =
-    (bad : Bool) × IsLogShown standard (lines_of bytes) text bad × (status ≡ status_if bad)
+-- `resets`: what is shown of the log in a form
+abbrev pub IsLogView : LogForm → List ℕ → ℕ → List ℕ → Type 0
+IsLogView form bytes status text =
+    (bad : Bool) × IsLogShown form (lines_of bytes) text bad × (status ≡ status_if bad)
 
--- `nosy`: what is shown of the dump by a standard
-abbrev pub IsDumpView : Standard → List ℕ → ℕ → List ℕ → Type 0
-IsDumpView standard bytes status text =
-    (bad : Bool) × IsDumpShown standard bytes text bad × (status ≡ status_if bad)
+-- `nosy`: what is shown of the dump in a form
+abbrev pub IsDumpView : LogForm → List ℕ → ℕ → List ℕ → Type 0
+IsDumpView form bytes status text =
+    (bad : Bool) × IsDumpShown form bytes text bad × (status ≡ status_if bad)
 
 -- what is shown of the whole lines of a log that goes on
-abbrev pub IsLogBegun : Standard → List ℕ → List ℕ → Type 0
-IsLogBegun standard bytes text =
-    (bad : Bool) × (known : Noted) × AreShown standard 1 nothing (parted bytes).lines text bad known
+abbrev pub IsLogBegun : LogForm → List ℕ → List ℕ → Type 0
+IsLogBegun form bytes text =
+    (bad : Bool) × (known : Noted) × AreShown form 1 nothing (parted bytes).lines text bad known
 
 -- A call with this status, which writes what `Is` shows of the bytes of a source while they come, and
 -- what `IsBegun` shows of them while they go on. It reads them to the end where `Ends` holds. `left` is

@@ -4,6 +4,7 @@ ghost use Rattle.bus_view.specs.Form.{AreWordsOf, Asks};
 ghost use Rattle.bus_view.specs.declared.form.ViewForm.{ViewForm};
 
 use about::About;
+use reset_log::LogForm;
 use script_lines::{names_are_tested, number_of};
 use self_id::Standard;
 use topology_stack::Name;
@@ -40,10 +41,11 @@ pub enum ViewForm {
     /// script, in the part with the node of this name.
     ListOf(Name),
     /// `resets`: the bus at each reset in a Linux kernel's trace, which is read by IEEE 1394a-2000, or
-    /// with `--1995` behind the word by IEEE Std 1394-1995.
-    Resets(Standard),
+    /// with `--1995` behind the word by IEEE Std 1394-1995; with `--json` behind both a line of JSON for
+    /// each reset.
+    Resets(LogForm),
     /// `nosy`: the bus at each reset in a recording of `nosy-dump`, by the same words.
-    Nosy(Standard),
+    Nosy(LogForm),
     /// `--help`, `-h` or `--version`: what the program says of itself. Nothing is read.
     OfItself(About),
 }
@@ -61,8 +63,8 @@ impl ViewForm {
             "trace" => Some(ViewForm::Trace),
             "waves" => Some(ViewForm::Waves),
             "explain" => Some(ViewForm::Explain),
-            "resets" => Some(ViewForm::Resets(Standard::Ieee2000)),
-            "nosy" => Some(ViewForm::Nosy(Standard::Ieee2000)),
+            "resets" => Some(ViewForm::Resets(LogForm::Text(Standard::Ieee2000))),
+            "nosy" => Some(ViewForm::Nosy(LogForm::Text(Standard::Ieee2000))),
             "--help" | "-h" => Some(ViewForm::OfItself(About::Help)),
             "--version" => Some(ViewForm::OfItself(About::Version)),
             _ => None,
@@ -90,8 +92,10 @@ impl ViewForm {
             ("tree", "--1995") => Some(ViewForm::Capture(CaptureView::Tree, Standard::Ieee1995)),
             ("dot", "--1995") => Some(ViewForm::Capture(CaptureView::Dot, Standard::Ieee1995)),
             ("json", "--1995") => Some(ViewForm::Capture(CaptureView::Json, Standard::Ieee1995)),
-            ("resets", "--1995") => Some(ViewForm::Resets(Standard::Ieee1995)),
-            ("nosy", "--1995") => Some(ViewForm::Nosy(Standard::Ieee1995)),
+            ("resets", "--1995") => Some(ViewForm::Resets(LogForm::Text(Standard::Ieee1995))),
+            ("nosy", "--1995") => Some(ViewForm::Nosy(LogForm::Text(Standard::Ieee1995))),
+            ("resets", "--json") => Some(ViewForm::Resets(LogForm::Json(Standard::Ieee2000))),
+            ("nosy", "--json") => Some(ViewForm::Nosy(LogForm::Json(Standard::Ieee2000))),
             ("capture", name) => ViewForm::of_capture(name.as_bytes()),
             _ => None,
         }
@@ -110,12 +114,18 @@ impl ViewForm {
     }
 
     /// The form of these three words.
-    fn of_three(word: &str, nodes: &str, seed: &str) -> Option<ViewForm>
+    fn of_three(word: &str, first: &str, second: &str) -> Option<ViewForm>
         ensures { (form : ViewForm) → (result ≡ Some form)
-            ↔ AreWordsOf form (word.now ∷ nodes.now ∷ seed.now ∷ []) }
+            ↔ AreWordsOf form (word.now ∷ first.now ∷ second.now ∷ []) }
     {
-        match word {
-            "script" => ViewForm::of_script(nodes.as_bytes(), seed.as_bytes()),
+        match (word, first, second) {
+            ("script", nodes, seed) => ViewForm::of_script(nodes.as_bytes(), seed.as_bytes()),
+            ("resets", "--1995", "--json") => {
+                Some(ViewForm::Resets(LogForm::Json(Standard::Ieee1995)))
+            }
+            ("nosy", "--1995", "--json") => {
+                Some(ViewForm::Nosy(LogForm::Json(Standard::Ieee1995)))
+            }
             _ => None,
         }
     }
@@ -128,8 +138,8 @@ impl ViewForm {
         match words {
             [word] => ViewForm::of_word(word.as_str()),
             [word, standard] => ViewForm::of_two(word.as_str(), standard.as_str()),
-            [word, nodes, seed] => {
-                ViewForm::of_three(word.as_str(), nodes.as_str(), seed.as_str())
+            [word, first, second] => {
+                ViewForm::of_three(word.as_str(), first.as_str(), second.as_str())
             }
             _ => None,
         }
@@ -143,5 +153,6 @@ pub const VIEW_USAGE: &str = "usage: busview packets [--1995] [CAPTURE ..]\n    
     busview trace [SCRIPT]\n       busview waves [SCRIPT]\n       \
     busview explain [SCRIPT]\n       busview capture NAME [SCRIPT]\n       \
     busview script N SEED\n       busview flawed KIND N SEED [--1995]\n       \
-    busview resets [--1995] [LOG ..]\n       busview nosy [--1995] [DUMP ..]\n       \
+    busview resets [--1995] [--json] [LOG ..]\n       \
+    busview nosy [--1995] [--json] [DUMP ..]\n       \
     busview diff [--1995] OLD NEW";

@@ -26,7 +26,8 @@ is read. Of several files each answer stands below a line with the file's name.
 OLD and NEW are captures, of which one may be -.
 
 With --1995 behind packets, tree, dot, json, resets, nosy or diff self-ID
-packets are read by IEEE Std 1394-1995: up to 27 ports a node.
+packets are read by IEEE Std 1394-1995: up to 27 ports a node. With --json
+behind resets or nosy (and behind --1995) each reset is a line of JSON.
 
 A capture is the self-ID packets of one bus reset, each as a big-endian quadlet
 and its bitwise inverse. Input is at most 1,048,576 bytes; a log or a dump may

@@ -7,8 +7,7 @@ ghost use Rattle.bus_view.specs.codings.Log.{log_status};
 use bus_cli::{NO_MEMORY, READ_FAULT, REFUSED, TOO_LONG, VALID, WRITE_FAULT};
 use io_edges::{Sink, Source};
 use nosy_dump::{dumps_have_one_text, show_dump};
-use reset_log::{LogStop, logs_have_one_text, show_log};
-use self_id::Standard;
+use reset_log::{LogForm, LogStop, logs_have_one_text, show_log};
 use std::alloc::Global;
 
 /// The status of a log or a dump that was shown.
@@ -28,29 +27,29 @@ fn status_shown(shown: Result<bool, LogStop>) -> u8
 /// Shows the resets of a log as it comes, and answers the status.
 pub(crate) fn show_resets<S: Source, K: Sink>(
     alloc: Global,
-    standard: Standard,
+    form: LogForm,
     source: &mut S,
     sink: &mut K,
 ) -> u8
     ensures { ShowsAsItComes S.left S.faults K.written K.faults K.surely_takes
-        ((result ≡ 0) ⊎ (result ≡ 1)) (IsLogView standard) (IsLogBegun standard)
+        ((result ≡ 0) ⊎ (result ≡ 1)) (IsLogView form) (IsLogBegun form)
         result source.old source.new sink.old sink.new }
 {
     logs_have_one_text();
-    status_shown(show_log(alloc, standard, source, sink))
+    status_shown(show_log(alloc, form, source, sink))
 }
 
 /// Shows the resets of a dump as it comes, and answers the status.
 pub(crate) fn show_nosy<S: Source, K: Sink>(
     alloc: Global,
-    standard: Standard,
+    form: LogForm,
     source: &mut S,
     sink: &mut K,
 ) -> u8
     ensures { ShowsAsItComes S.left S.faults K.written K.faults K.surely_takes
-        (result ≡ 0) (IsDumpView standard) (IsBegun standard)
+        (result ≡ 0) (IsDumpView form) (IsBegun form)
         result source.old source.new sink.old sink.new }
 {
     dumps_have_one_text();
-    status_shown(show_dump(alloc, standard, source, sink))
+    status_shown(show_dump(alloc, form, source, sink))
 }

@@ -6,6 +6,7 @@ ghost use Rattle.io_edges.specs.Told.{AppendsStart, IfTold, TookOver};
 ghost use Rattle.script_made.specs.Made.{made_script};
 ghost use Rattle.about.specs.declared.asked.About.{About};
 ghost use Rattle.self_id.specs.declared.standard.Standard.{Standard};
+ghost use Rattle.reset_log.specs.declared.form.LogForm.{LogForm};
 ghost use Rattle.nosy_dump.specs.Dump.{IsBegun};
 ghost use Rattle.io_edges.specs.Streams.{IsWritten, KeepsStreams, Writes};
 ghost use Rattle.bus_view.specs.declared.form.CaptureView.{CaptureView};
@@ -23,8 +24,8 @@ use crate::laws::{captures_are_of_reports, make_sums_up_the_script, one_view};
 use crate::logs::{show_nosy, show_resets};
 use bus_cli::{NO_FORM, NO_MEMORY, READ_FAULT, TOO_LONG, WRITE_FAULT};
 use io_edges::{ReadStop, Sink, Source, write_whole};
-use nosy_dump::dump_standard;
-use reset_log::resets_standard;
+use nosy_dump::dump_form;
+use reset_log::resets_form;
 use std::alloc::Global;
 
 /// Answers words that ask for no log and no dump, as `view_main` has it.
@@ -99,13 +100,13 @@ fn view_asked<S: Source, K: Sink>(
         S.left S.faults K.written K.faults K.surely_takes (AsksNoInput words.now)
         (Answers words.now) result source.old source.new sink.old sink.new }
     ensures no_form { (result ≡ 2) ↔ (¬ IsForm words.now) }
-    ensures resets { (standard : Standard) → Asks words.now (ViewForm.Resets standard) →
+    ensures resets { (form : LogForm) → Asks words.now (ViewForm.Resets form) →
         ShowsAsItComes S.left S.faults K.written K.faults K.surely_takes
-        ((result ≡ 0) ⊎ (result ≡ 1)) (IsLogView standard) (IsLogBegun standard)
+        ((result ≡ 0) ⊎ (result ≡ 1)) (IsLogView form) (IsLogBegun form)
         result source.old source.new sink.old sink.new }
-    ensures nosy { (standard : Standard) → Asks words.now (ViewForm.Nosy standard) →
+    ensures nosy { (form : LogForm) → Asks words.now (ViewForm.Nosy form) →
         ShowsAsItComes S.left S.faults K.written K.faults K.surely_takes
-        (result ≡ 0) (IsDumpView standard) (IsBegun standard)
+        (result ≡ 0) (IsDumpView form) (IsBegun form)
         result source.old source.new sink.old sink.new }
     ensures unfailing { AsksNoInput words.now → (result ≢ 1) × (result ≢ 3) × (result ≢ 6) }
     ensures script { (nodes seed : ℕ) → Asks words.now (ViewForm.Script nodes seed) → result ≡ 0 →
@@ -115,11 +116,11 @@ fn view_asked<S: Source, K: Sink>(
         × Appends (K.written sink.old) (K.written sink.new) text }
 {
     one_view();
-    if let Some(standard) = resets_standard(words) {
-        return show_resets(alloc, standard, source, sink);
+    if let Some(form) = resets_form(words) {
+        return show_resets(alloc, form, source, sink);
     }
-    if let Some(standard) = dump_standard(words) {
-        return show_nosy(alloc, standard, source, sink);
+    if let Some(form) = dump_form(words) {
+        return show_nosy(alloc, form, source, sink);
     }
     view_words(alloc, words, source, sink)
 }
@@ -188,15 +189,16 @@ pub fn view_main<S: Source, K: Sink>(
         IsWritten (AnswersCapture name)
         result (S.left source.old) (K.written sink.old) (K.written sink.new) }
 
-    // With `resets` and `nosy` it is what is shown of the log or the dump by the standard, while it comes.
+    // With `resets` and `nosy` it is what is shown of the log or the dump in the form, while it comes: as
+    // text, or with `--json` as lines of JSON.
     // A log is read to its end, and a dump up to a record with a length that can't be.
-    ensures resets { (standard : Standard) → Asks words.now (ViewForm.Resets standard) →
+    ensures resets { (form : LogForm) → Asks words.now (ViewForm.Resets form) →
         ShowsAsItComes S.left S.faults K.written K.faults K.surely_takes
-        ((result ≡ 0) ⊎ (result ≡ 1)) (IsLogView standard) (IsLogBegun standard)
+        ((result ≡ 0) ⊎ (result ≡ 1)) (IsLogView form) (IsLogBegun form)
         result source.old source.new sink.old sink.new }
-    ensures nosy { (standard : Standard) → Asks words.now (ViewForm.Nosy standard) →
+    ensures nosy { (form : LogForm) → Asks words.now (ViewForm.Nosy form) →
         ShowsAsItComes S.left S.faults K.written K.faults K.surely_takes
-        (result ≡ 0) (IsDumpView standard) (IsBegun standard)
+        (result ≡ 0) (IsDumpView form) (IsBegun form)
         result source.old source.new sink.old sink.new }
 
     // With `script` there is no fault, and what is written at status 0 is the script that is made for

@@ -4,9 +4,20 @@ use bus_cli::{MAX_INPUT, NO_MEMORY, READ_FAULT, REFUSED, TOO_LONG, WRITE_FAULT};
 use bus_view::{CaptureView, ViewForm};
 use capture_hint::{begins_capture, hint_text, likeness_of, other_hint};
 use io_edges::{WriteSink, write_whole};
+use reset_log::LogForm;
 
 /// All that is shown of a log without an event.
-const NO_RESETS: &[u8] = b"resets 0 refused 0 cards 0\n";
+const NO_EVENTS: &[u8] = b"resets 0 refused 0 cards 0\n";
+
+/// The same as JSON.
+const NO_EVENTS_JSON: &[u8] =
+    b"{\"schema\":1,\"totals\":{\"resets\":0,\"refused\":0,\"cards\":0}}\n";
+
+/// All that is shown of a dump without a bus reset, where nothing is at fault.
+const NO_RESETS: &[u8] = b"resets 0 refused 0\n";
+
+/// The same as JSON.
+const NO_RESETS_JSON: &[u8] = b"{\"schema\":1,\"totals\":{\"resets\":0,\"refused\":0}}\n";
 
 /// Whether these bytes stand among others.
 fn has(bytes: &[u8], part: &[u8]) -> bool {
@@ -16,6 +27,24 @@ fn has(bytes: &[u8], part: &[u8]) -> bool {
         }
     }
     false
+}
+
+/// Whether this is shown of a log without an event.
+fn has_no_event(form: &ViewForm, output: &[u8]) -> bool {
+    match form {
+        ViewForm::Resets(LogForm::Text(_)) => output == NO_EVENTS,
+        ViewForm::Resets(LogForm::Json(_)) => output == NO_EVENTS_JSON,
+        _ => false,
+    }
+}
+
+/// Whether this is shown of a dump without a bus reset, where nothing is at fault.
+fn has_no_reset(form: &ViewForm, output: &[u8]) -> bool {
+    match form {
+        ViewForm::Nosy(LogForm::Text(_)) => output == NO_RESETS,
+        ViewForm::Nosy(LogForm::Json(_)) => output == NO_RESETS_JSON,
+        _ => false,
+    }
 }
 
 /// What is said of a log that begins so and has no event.
@@ -28,6 +57,15 @@ fn why_no_event(front: &[u8]) -> &'static str {
         "busview: no line of this log is an event bus_reset_handle or self_id_complete; self_id_sequence is passed over, since it has no whole list (docs/CAPTURES.md)"
     } else {
         "busview: no line of this log is an event bus_reset_handle or self_id_complete (docs/CAPTURES.md says how to switch them on)"
+    }
+}
+
+/// What is said of a dump that begins so and has no bus reset.
+fn why_no_reset(front: &[u8]) -> &'static str {
+    if front.is_empty() {
+        "busview: the dump is empty"
+    } else {
+        "busview: no record of this dump is a bus reset: nosy-dump records one only where it comes while it runs"
     }
 }
 
@@ -64,7 +102,7 @@ fn hint_of(form: &ViewForm, front: &[u8]) -> &'static [u8] {
 }
 
 /// Says on standard error what input looks like that was refused, with the refusal where another program reads
-/// standard output; and why a log has no event. The input and the output began so.
+/// standard output; and why a log has no event, and a dump no reset. The input and the output began so.
 pub(crate) fn say_hints(
     rt: &HostRuntime,
     form: &ViewForm,
@@ -79,8 +117,11 @@ pub(crate) fn say_hints(
     if status == REFUSED {
         let _ = write_whole(&mut errors, hint_of(form, input));
     }
-    if matches!(form, ViewForm::Resets(_)) && output == NO_RESETS {
+    if has_no_event(form, output) {
         put_no_event(rt, input);
+    }
+    if has_no_reset(form, output) {
+        let _ = eprintln!(rt; "{}", why_no_reset(input));
     }
 }
 

@@ -1,7 +1,7 @@
 //! Tests of lines and of logs in memory, with faults of the source and of the sink.
 
 use io_edges::{MemSink, MemSource};
-use reset_log::{LogLine, LogStop, Origin, line_of, show_log};
+use reset_log::{LogForm, LogLine, LogStop, Origin, line_of, show_log};
 use self_id::Standard;
 use std::test::Fail;
 
@@ -63,6 +63,7 @@ const LOG: &[u8] = b"bus_reset_handle: card_index=x\nself_id_complete:";
 #[test]
 fn logs_with_faults(rt: HostRuntime) -> Result<(), Fail> {
     let alloc = rt.alloc();
+    let form = LogForm::Text(Standard::Ieee2000);
     for (read, room, answer, written) in [
         (
             9,
@@ -79,7 +80,7 @@ fn logs_with_faults(rt: HostRuntime) -> Result<(), Fail> {
         let log = Vec::from_slice(alloc, LOG)?;
         let mut source = MemSource::new(log, vec![in alloc; read]?, 7);
         let mut sink = MemSink::new(alloc, room, Vec::new(alloc), 5)?;
-        assert!(rt; show_log(alloc, Standard::Ieee2000, &mut source, &mut sink) == answer);
+        assert!(rt; show_log(alloc, form, &mut source, &mut sink) == answer);
         assert!(rt; sink.written() == written);
     }
     Ok(())

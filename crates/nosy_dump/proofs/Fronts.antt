@@ -4,8 +4,7 @@ use Rattle.std.specs.Prelude.{IfSome, IfOk, IfErr, OnErr, slice_index}
 use Rattle.std.specs.Io.KnownBytes.{Appends, Consumes, IsAtEnd}
 use Rattle.io_edges.specs.Faults.{Rose}
 use Rattle.io_edges.specs.Told.{StayTold}
-use Rattle.self_id.specs.declared.standard.Standard.{Standard}
-use Rattle.topology_stack.specs.Tree.{Tree}
+use Rattle.reset_log.specs.declared.form.LogForm.{LogForm}
 use Rattle.reset_log.specs.declared.stop.LogStop.{LogStop}
 use Rattle.reset_log.specs.InOrder.{AreTold}
 use Rattle.reset_log.specs.Cause.{StoppedWriting}
@@ -20,8 +19,9 @@ use Rattle.nosy_dump.specs.declared.record.DumpFault.{DumpFault}
 use Rattle.nosy_dump.specs.declared.record.DumpFault.TheVariants.{BadLength}
 use Rattle.nosy_dump.specs.Record.{dump_of, record_of, IsOpen, EndsSo}
 use Rattle.nosy_dump.specs.Resets.{resets_from}
-use Rattle.nosy_dump.specs.Texts.{fault_text}
-use Rattle.nosy_dump.specs.Dump.{IsResetShown, IsDumpShown, IsWritten}
+use Rattle.nosy_dump.specs.Noted.{Noted, nothing}
+use Rattle.nosy_dump.specs.Notes.{noted}
+use Rattle.nosy_dump.specs.Dump.{last_text, IsResetShown, IsDumpShown, IsWritten}
 use Rattle.nosy_dump.specs.codings.Going.{AreResets, Stands, IsWhole, HasBadLength, ShowsBy, Goes, BreaksOff, Solid, Broke, ShowsAll, Reads}
 use Rattle.nosy_dump.proofs.Records.{sized_more, resets_other, resets_reset, resets_packet, fresh, last_with}
 use Rattle.nosy_dump.proofs.OneText.{front_records, one_parting, same_reset, one_text}
@@ -90,33 +90,33 @@ later rs (m ∷ more) first h =
 -- ---- a front of a dump
 
 -- what was told of the first resets stands in front of the text
-first_text : (standard : Standard) (records : List (List ℕ)) (first others : List DumpReset) (text all : List ℕ) (b c : Bool) (t u : Option Tree) →
-    AreTold (IsResetShown standard) 1 None first text b t →
+first_text : (form : LogForm) (records : List (List ℕ)) (first others : List DumpReset) (text all : List ℕ) (b c : Bool) (t u : Noted) →
+    AreTold (IsResetShown form) 1 nothing first text b t →
     resets_from 0 records ≡ first ++ others →
-    AreTold (IsResetShown standard) 1 None (resets_from 0 records) all c u →
+    AreTold (IsResetShown form) 1 nothing (resets_from 0 records) all c u →
     (behind : List ℕ) × (all ≡ text ++ behind)
-first_text standard records first others text all b c t u told is whole =
-    let f = told_first (IsResetShown standard) 1 None u first others all c (subst (λ (l : List DumpReset). AreTold (IsResetShown standard) 1 None l all c u) is whole) in
+first_text form records first others text all b c t u told is whole =
+    let f = told_first (IsResetShown form) 1 nothing u first others all c (subst (λ (l : List DumpReset). AreTold (IsResetShown form) 1 nothing l all c u) is whole) in
     let same =
-    told_once (IsResetShown standard) (λ n s r e g h k p q. same_reset standard n s r e g h k p q) 1 None first f.0 text f.2 b f.3 t f.4 told
+    told_once (IsResetShown form) (λ n s r e g h k p q. same_reset form n s r e g h k p q) 1 nothing first f.0 text f.2 b f.3 t f.4 told
     in (f.1, f.5 ∙ ap (λ (l : List ℕ). l ++ f.1) same.0)
 
-pub front_of : {K : Type 0} {w : K → Option (List ℕ)} {f : K → ℕ} {t : K → ℕ → Type 0} (standard : Standard) (done left : List ℕ) (old new : K) →
-    Broke w f t standard done old new →
-    WroteFrontOf w f t (IsDumpShown standard (done ++ left)) old new
-front_of standard done left old new b = λ text bad is.
+pub front_of : {K : Type 0} {w : K → Option (List ℕ)} {f : K → ℕ} {t : K → ℕ → Type 0} (form : LogForm) (done left : List ℕ) (old new : K) →
+    Broke w f t form done old new →
+    WroteFrontOf w f t (IsDumpShown form (done ++ left)) old new
+front_of form done left old new b = λ text bad is.
     let h = front_records b.records is.records (b.behind ++ left) is.rest is.fault b.sized is.sized is.ends
     (sym (append_assoc (dump_of b.records) b.behind left) ∙ ap (λ (l : List ℕ). l ++ left) (sym b.done_is) ∙ is.dump_is)
     in
     let on = later b.records h.0 b.first (record { others = b.others; all_are = b.resets_are; solid = b.solid }) in
-    let first = first_text standard is.records b.first on.others b.text is.resets_text b.bad is.is_refused b.last is.last b.told (ap (resets_from 0) h.1 ∙ on.all_are) is.told in
-    let fault = fault_text (length (dump_of is.records)) is.fault in
+    let first = first_text form is.records b.first on.others b.text is.resets_text b.bad is.is_refused b.known is.known b.told (ap (resets_from 0) h.1 ∙ on.all_are) is.told in
+    let fault = last_text form (length (dump_of is.records)) is.fault is.known in
     front_more old new b.text (first.0 ++ fault) text
     (is.text_is ∙ ap (λ (l : List ℕ). l ++ fault) first.1 ∙ append_assoc b.text first.0 fault) b.wrote
 
-pub broke_more : {K : Type 0} {w : K → Option (List ℕ)} {f : K → ℕ} {t : K → ℕ → Type 0} (standard : Standard) (done more : List ℕ) (old new : K) →
-    Broke w f t standard done old new → Broke w f t standard (done ++ more) old new
-broke_more standard done more old new b = record {
+pub broke_more : {K : Type 0} {w : K → Option (List ℕ)} {f : K → ℕ} {t : K → ℕ → Type 0} (form : LogForm) (done more : List ℕ) (old new : K) →
+    Broke w f t form done old new → Broke w f t form (done ++ more) old new
+broke_more form done more old new b = record {
   records = b.records;
   behind = b.behind ++ more;
   done_is = ap (λ (l : List ℕ). l ++ more) b.done_is ∙ append_assoc (dump_of b.records) b.behind more;
@@ -127,7 +127,7 @@ broke_more standard done more old new b = record {
   solid = b.solid;
   text = b.text;
   bad = b.bad;
-  last = b.last;
+  known = b.known;
   told = b.told;
   wrote = b.wrote;
 }
@@ -147,7 +147,7 @@ waits_behind records ended (Some p) are = record { others = p ∷ []; all_are = 
 
 -- all resets were shown that another one followed
 pub stood : {K : Type 0} {w : K → Option (List ℕ)} {f : K → ℕ} {t : K → ℕ → Type 0} (Holds : List ℕ → Type 0) (r : DumpReader) (done : List ℕ) (start was : K) →
-    Stands w f t Holds r done start was → Broke w f t r.standard done start was
+    Stands w f t Holds r done start was → Broke w f t r.form done start was
 stood Holds r done start was st =
     let on = waits_behind st.records st.ended r.pending st.resets_are in
     record {
@@ -161,18 +161,18 @@ stood Holds r done start was st =
       solid = on.solid;
       text = st.text;
       bad = r.bad;
-      last = r.tree;
+      known = noted r.notes;
       told = st.told;
       wrote = front_whole start was st.text st.wrote;
     }
 
 -- among bytes
-pub broke_within : {K : Type 0} {w : K → Option (List ℕ)} {f : K → ℕ} {t : K → ℕ → Type 0} (standard : Standard) (done bytes : List ℕ) (at : ℕ) (start is : K) →
-    Broke w f t standard ((done ++ take at bytes) ++ slice_index bytes at ∷ []) start is →
-    at < length bytes → Broke w f t standard (done ++ bytes) start is
-broke_within {w = w} {f = f} {t = t} standard done bytes at start is b few =
-    subst (λ (l : List ℕ). Broke w f t standard l start is) (sym joined)
-    (broke_more standard ((done ++ take at bytes) ++ slice_index bytes at ∷ []) (drop (at + 1) bytes) start is b)
+pub broke_within : {K : Type 0} {w : K → Option (List ℕ)} {f : K → ℕ} {t : K → ℕ → Type 0} (form : LogForm) (done bytes : List ℕ) (at : ℕ) (start is : K) →
+    Broke w f t form ((done ++ take at bytes) ++ slice_index bytes at ∷ []) start is →
+    at < length bytes → Broke w f t form (done ++ bytes) start is
+broke_within {w = w} {f = f} {t = t} form done bytes at start is b few =
+    subst (λ (l : List ℕ). Broke w f t form l start is) (sym joined)
+    (broke_more form ((done ++ take at bytes) ++ slice_index bytes at ∷ []) (drop (at + 1) bytes) start is b)
   where
     joined : done ++ bytes ≡ ((done ++ take at bytes) ++ slice_index bytes at ∷ []) ++ drop (at + 1) bytes
     joined =
@@ -184,28 +184,28 @@ broke_within {w = w} {f = f} {t = t} standard done bytes at start is b few =
 
 -- what is told with it, and the front of that which was written
 record PartMore {K : Type 0} (w : K → Option (List ℕ)) (f : K → ℕ) (t : K → ℕ → Type 0)
-    (standard : Standard) (ended : List DumpReset) (p : DumpReset) (start is : K) : Type 0
+    (form : LogForm) (ended : List DumpReset) (p : DumpReset) (start is : K) : Type 0
   where
     text : List ℕ
     bad : Bool
-    last : Option Tree
-    told : AreTold (IsResetShown standard) 1 None (ended ++ p ∷ []) text bad last
+    known : Noted
+    told : AreTold (IsResetShown form) 1 nothing (ended ++ p ∷ []) text bad known
     wrote : WroteFront w f t start is text
 
-part_more : {K : Type 0} {w : K → Option (List ℕ)} {f : K → ℕ} {t : K → ℕ → Type 0} (Holds : List ℕ → Type 0) (old : DumpReader) (done : List ℕ) (p : DumpReset) (n : ℕ) (x u : Option Tree) (more : List ℕ) (here : Bool) (start was is : K) →
-    (st : Stands w f t Holds old done start was) → n ≡ old.number → x ≡ old.tree →
-    IsResetShown old.standard n x p more here u → WroteFront w f t was is more →
-    PartMore w f t old.standard st.ended p start is
+part_more : {K : Type 0} {w : K → Option (List ℕ)} {f : K → ℕ} {t : K → ℕ → Type 0} (Holds : List ℕ → Type 0) (old : DumpReader) (done : List ℕ) (p : DumpReset) (n : ℕ) (x u : Noted) (more : List ℕ) (here : Bool) (start was is : K) →
+    (st : Stands w f t Holds old done start was) → n ≡ old.number → x ≡ noted old.notes →
+    IsResetShown old.form n x p more here u → WroteFront w f t was is more →
+    PartMore w f t old.form st.ended p start is
 part_more Holds old done p n x u more here start was is st en et shown part =
     let place : n ≡ 1 + length st.ended = omega (arith, en, st.number_is) in
-    let one : IsResetShown old.standard (1 + length st.ended) old.tree p more here u =
-    subst (λ (k : ℕ). IsResetShown old.standard k old.tree p more here u) place
-    (subst (λ (y : Option Tree). IsResetShown old.standard n y p more here u) et shown) in
+    let one : IsResetShown old.form (1 + length st.ended) (noted old.notes) p more here u =
+    subst (λ (k : ℕ). IsResetShown old.form k (noted old.notes) p more here u) place
+    (subst (λ (y : Noted). IsResetShown old.form n y p more here u) et shown) in
     record {
       text = st.text ++ more;
       bad = old.bad || here;
-      last = u;
-      told = one_more (IsResetShown old.standard) 1 None old.tree u st.ended p st.text more old.bad here st.told one;
+      known = u;
+      told = one_more (IsResetShown old.form) 1 nothing (noted old.notes) u st.ended p st.text more old.bad here st.told one;
       wrote = front_then start was is st.text more st.wrote part;
     }
 
@@ -216,13 +216,13 @@ waits_so records ended pending p are e = subst (λ (o : Option DumpReset). AreRe
 -- at the record of the next reset
 pub broke_reset : {K : Type 0} {w : K → Option (List ℕ)} {f : K → ℕ} {t : K → ℕ → Type 0} (old mid : DumpReader) (done : List ℕ) (time : ℕ) (start was is : K) →
     Stands w f t IsWhole old done start was → record_of (drop 4 old.part.items) ≡ Reset time →
-    BreaksOff w f t mid was is → mid.standard ≡ old.standard → mid.pending ≡ old.pending →
-    mid.number ≡ old.number → mid.tree ≡ old.tree → Broke w f t old.standard done start is
+    BreaksOff w f t mid was is → mid.form ≡ old.form → mid.pending ≡ old.pending →
+    mid.number ≡ old.number → noted mid.notes ≡ noted old.notes → Broke w f t old.form done start is
 broke_reset {K = K} {w = w} {f = f} {t = t} old mid done time start was is st kind (inl e) es ep en et =
-    subst (λ (o : K). Broke w f t old.standard done start o) (sym e) (stood IsWhole old done start was st)
+    subst (λ (o : K). Broke w f t old.form done start o) (sym e) (stood IsWhole old done start was st)
 broke_reset old mid done time start was is st kind (inr b) es ep en et =
-    let shown : IsResetShown old.standard mid.number mid.tree b.reset b.part.text b.part.here b.part.known = subst (λ (s : Standard). IsResetShown s mid.number mid.tree b.reset b.part.text b.part.here b.part.known) es b.part.shown in
-    let part = part_more IsWhole old done b.reset mid.number mid.tree b.part.known b.part.text b.part.here start was is st en et shown b.part.wrote in
+    let shown : IsResetShown old.form mid.number (noted mid.notes) b.reset b.part.text b.part.here b.part.known = subst (λ (s : LogForm). IsResetShown s mid.number (noted mid.notes) b.reset b.part.text b.part.here b.part.known) es b.part.shown in
+    let part = part_more IsWhole old done b.reset mid.number (noted mid.notes) b.part.known b.part.text b.part.here start was is st en et shown b.part.wrote in
     let are = waits_so st.records st.ended old.pending b.reset st.resets_are (sym ep ∙ b.pending_is) in
     let more = resets_reset 0 st.records (drop 4 old.part.items) time (0 + length (dump_of st.records)) kind refl in
     record {
@@ -236,7 +236,7 @@ broke_reset old mid done time start was is st kind (inr b) es ep en et =
       solid = solid_more (st.ended ++ b.reset ∷ []) [] (fresh (0 + length (dump_of st.records)) time);
       text = part.text;
       bad = part.bad;
-      last = part.last;
+      known = part.known;
       told = part.told;
       wrote = part.wrote;
     }
@@ -245,47 +245,48 @@ broke_reset old mid done time start was is st kind (inr b) es ep en et =
 pub broke_end : {K : Type 0} {w : K → Option (List ℕ)} {f : K → ℕ} {t : K → ℕ → Type 0} (old : DumpReader) (done more : List ℕ) (fault : Option DumpFault) (start was is : K) →
     Stands w f t (λ bytes. EndsSo (bytes ++ more) fault) old done start was →
     BreaksOff w f t old was is →
-    WroteFrontOf w f t (IsDumpShown old.standard (done ++ more)) start is
+    WroteFrontOf w f t (IsDumpShown old.form (done ++ more)) start is
 broke_end {K = K} {w = w} {f = f} {t = t} old done more fault start was is st (inl e) =
-    subst (λ (o : K). WroteFrontOf w f t (IsDumpShown old.standard (done ++ more)) start o) (sym e)
-    (front_of old.standard done more start was (stood (λ bytes. EndsSo (bytes ++ more) fault) old done start was st))
+    subst (λ (o : K). WroteFrontOf w f t (IsDumpShown old.form (done ++ more)) start o) (sym e)
+    (front_of old.form done more start was (stood (λ bytes. EndsSo (bytes ++ more) fault) old done start was st))
 broke_end old done more fault start was is st (inr b) = λ text bad all.
-    let part = part_more (λ bytes. EndsSo (bytes ++ more) fault) old done b.reset old.number old.tree b.part.known b.part.text b.part.here start was is st refl refl b.part.shown b.part.wrote in
+    let part = part_more (λ bytes. EndsSo (bytes ++ more) fault) old done b.reset old.number (noted old.notes) b.part.known b.part.text b.part.here start was is st refl refl b.part.shown b.part.wrote in
     let are = waits_so st.records st.ended old.pending b.reset st.resets_are b.pending_is in
     let same = one_parting st.records all.records (old.part.items ++ more) all.rest fault all.fault st.sized all.sized st.holds all.ends
     (sym (append_assoc (dump_of st.records) old.part.items more) ∙ ap (λ (l : List ℕ). l ++ more) (sym st.done_is) ∙ all.dump_is)
     in
-    let first = first_text old.standard all.records (st.ended ++ b.reset ∷ []) [] part.text all.resets_text part.bad all.is_refused part.last all.last part.told (ap (resets_from 0) (sym same.records) ∙ are ∙ sym (append-nil (st.ended ++ b.reset ∷ []))) all.told in
-    let last = fault_text (length (dump_of all.records)) all.fault in
+    let first = first_text old.form all.records (st.ended ++ b.reset ∷ []) [] part.text all.resets_text part.bad all.is_refused part.known all.known part.told (ap (resets_from 0) (sym same.records) ∙ are ∙ sym (append-nil (st.ended ++ b.reset ∷ []))) all.told in
+    let last = last_text old.form (length (dump_of all.records)) all.fault all.known in
     front_more start is part.text (first.0 ++ last) text
     (all.text_is ∙ ap (λ (l : List ℕ). l ++ last) first.1 ∙ append_assoc part.text first.0 last) part.wrote
 
--- all resets were shown, and the front of the fault's text
-pub broke_fault : {K : Type 0} {w : K → Option (List ℕ)} {f : K → ℕ} {t : K → ℕ → Type 0} (old : DumpReader) (done more : List ℕ) (fault : Option DumpFault) (byte m : ℕ) (u : Option Tree) (c : Bool) (start was is will : K) →
+-- all resets were shown, and the front of what stands behind them
+pub broke_fault : {K : Type 0} {w : K → Option (List ℕ)} {f : K → ℕ} {t : K → ℕ → Type 0} (old : DumpReader) (done more : List ℕ) (fault : Option DumpFault) (byte m : ℕ) (u : Noted) (c : Bool) (start was is will : K) →
     (st : Stands w f t (λ bytes. EndsSo (bytes ++ more) fault) old done start was) →
     length done ≤ 9223372036854775807 → byte ≡ old.taken - length old.part.items →
-    ShowsBy w f t old.standard old.pending old.number old.tree old.bad m u c was is →
-    WroteFront w f t is will (fault_text byte fault) →
-    WroteFrontOf w f t (IsDumpShown old.standard (done ++ more)) start will
+    ShowsBy w f t old.form old.pending old.number (noted old.notes) old.bad m u c was is →
+    WroteFront w f t is will (last_text old.form byte fault u) →
+    WroteFrontOf w f t (IsDumpShown old.form (done ++ more)) start will
 broke_fault {w = w} {f = f} {t = t} old done more fault byte m u c start was is will st few at shows part = λ text bad all.
     let now = shown_now old (λ bytes. EndsSo (bytes ++ more) fault) done start was is m u c st few shows in
     let place : byte ≡ length (dump_of st.records) = place_of old (λ bytes. EndsSo (bytes ++ more) fault) done start was byte st at in
     let same = one_parting st.records all.records (old.part.items ++ more) all.rest fault all.fault st.sized all.sized st.holds all.ends
     (sym (append_assoc (dump_of st.records) old.part.items more) ∙ ap (λ (l : List ℕ). l ++ more) (sym st.done_is) ∙ all.dump_is)
     in
-    let none = told_once (IsResetShown old.standard) (λ n s r e g h k p q. same_reset old.standard n s r e g h k p q) 1 None (resets_from 0 all.records) all.resets_text now.text all.is_refused c all.last u all.told
-    (subst (λ (rs : List (List ℕ)). AreTold (IsResetShown old.standard) 1 None (resets_from 0 rs) now.text c u) same.records now.told)
+    let none = told_once (IsResetShown old.form) (λ n s r e g h k p q. same_reset old.form n s r e g h k p q) 1 nothing (resets_from 0 all.records) all.resets_text now.text all.is_refused c all.known u all.told
+    (subst (λ (rs : List (List ℕ)). AreTold (IsResetShown old.form) 1 nothing (resets_from 0 rs) now.text c u) same.records now.told)
     in
-    let told : fault_text (length (dump_of all.records)) all.fault ≡ fault_text byte fault =
-    ap (λ (g : Option DumpFault). fault_text (length (dump_of all.records)) g) (sym same.fault) ∙ ap (λ (rs : List (List ℕ)). fault_text (length (dump_of rs)) fault) (sym same.records)
-    ∙ ap (λ (k : ℕ). fault_text k fault) (sym place)
+    let told : last_text old.form (length (dump_of all.records)) all.fault all.known ≡ last_text old.form byte fault u =
+    ap (λ (g : Option DumpFault). last_text old.form (length (dump_of all.records)) g all.known) (sym same.fault)
+    ∙ ap (λ (rs : List (List ℕ)). last_text old.form (length (dump_of rs)) fault all.known) (sym same.records)
+    ∙ ap (λ (k : ℕ). last_text old.form k fault all.known) (sym place) ∙ ap (λ (k : Noted). last_text old.form byte fault k) none.2
     in
-    let is_all : text ≡ now.text ++ fault_text byte fault =
-    all.text_is ∙ ap (λ (l : List ℕ). l ++ fault_text (length (dump_of all.records)) all.fault) none.0
+    let is_all : text ≡ now.text ++ last_text old.form byte fault u =
+    all.text_is ∙ ap (λ (l : List ℕ). l ++ last_text old.form (length (dump_of all.records)) all.fault all.known) none.0
     ∙ ap (λ (l : List ℕ). now.text ++ l) told
     in
     subst (λ (l : List ℕ). WroteFront w f t start will l) (sym is_all)
-    (front_then start is will now.text (fault_text byte fault) now.wrote part)
+    (front_then start is will now.text (last_text old.form byte fault u) now.wrote part)
 
 -- ---- a call
 
@@ -294,117 +295,117 @@ pub no_front : {K : Type 0} {w : K → Option (List ℕ)} {f : K → ℕ} {t : K
 no_front a text = front_more a a [] text text refl (front_whole a a [] (wrote_nothing a))
 
 -- what was written whole is a front too
-front_all : {K : Type 0} {w : K → Option (List ℕ)} {f : K → ℕ} {t : K → ℕ → Type 0} (standard : Standard) (dump : List ℕ) (bad : Bool) (old new : K) →
-    ShowsAll w f t standard dump bad old new → WroteFrontOf w f t (IsDumpShown standard dump) old new
-front_all {w = w} {f = f} {t = t} standard dump bad old new all = λ text c is.
-    let same = one_text standard dump all.text text bad c all.is_shown is in
+front_all : {K : Type 0} {w : K → Option (List ℕ)} {f : K → ℕ} {t : K → ℕ → Type 0} (form : LogForm) (dump : List ℕ) (bad : Bool) (old new : K) →
+    ShowsAll w f t form dump bad old new → WroteFrontOf w f t (IsDumpShown form dump) old new
+front_all {w = w} {f = f} {t = t} form dump bad old new all = λ text c is.
+    let same = one_text form dump all.text text bad c all.is_shown is in
     front_whole old new text (subst (λ (l : List ℕ). Wrote w f t old new l) same.0 all.wrote)
 
 -- no more was read
-pub front_left : {K : Type 0} {w : K → Option (List ℕ)} {f : K → ℕ} {t : K → ℕ → Type 0} (r : DumpReader) (standard : Standard) (first now : Option (List ℕ)) (was is : K) (a b : ℕ) →
-    Reads w f t r standard first now was is a b →
-    IfSome first (λ dump. WroteFrontOf w f t (IsDumpShown standard dump) was is)
-front_left {w = w} {f = f} {t = t} r standard first now was is a b h =
-    log_left first now h.done (λ dump. WroteFrontOf w f t (IsDumpShown standard dump) was is) h.came h.told
+pub front_left : {K : Type 0} {w : K → Option (List ℕ)} {f : K → ℕ} {t : K → ℕ → Type 0} (r : DumpReader) (form : LogForm) (first now : Option (List ℕ)) (was is : K) (a b : ℕ) →
+    Reads w f t r form first now was is a b →
+    IfSome first (λ dump. WroteFrontOf w f t (IsDumpShown form dump) was is)
+front_left {w = w} {f = f} {t = t} r form first now was is a b h =
+    log_left first now h.done (λ dump. WroteFrontOf w f t (IsDumpShown form dump) was is) h.came h.told
     (λ left.
-    front_of standard h.done left was is
-    (subst (λ (s : Standard). Broke w f t s h.done was is) h.same (stood IsOpen r h.done was is h.stands)))
+    front_of form h.done left was is
+    (subst (λ (s : LogForm). Broke w f t s h.done was is) h.same (stood IsOpen r h.done was is h.stands)))
 
 -- a piece wasn't shown whole
-pub front_piece : {K : Type 0} {w : K → Option (List ℕ)} {f : K → ℕ} {t : K → ℕ → Type 0} (r : DumpReader) (standard : Standard) (first now next : Option (List ℕ)) (was is will : K) (a b : ℕ) (piece : List ℕ) →
-    Reads w f t r standard first now was is a b → Consumes now next piece → StayTold now next →
+pub front_piece : {K : Type 0} {w : K → Option (List ℕ)} {f : K → ℕ} {t : K → ℕ → Type 0} (r : DumpReader) (form : LogForm) (first now next : Option (List ℕ)) (was is will : K) (a b : ℕ) (piece : List ℕ) →
+    Reads w f t r form first now was is a b → Consumes now next piece → StayTold now next →
     length piece ≤ 9223372036854775807 - r.taken →
-    ((done : List ℕ) (start : K) → length done + length piece ≤ 9223372036854775807 → Stands w f t IsOpen r done start is → Broke w f t r.standard (done ++ piece) start will) →
-    IfSome first (λ dump. WroteFrontOf w f t (IsDumpShown standard dump) was will)
-front_piece {w = w} {f = f} {t = t} r standard first now next was is will a b piece h came told fits part =
-    let fit = room r standard first now was is a b piece h fits in
-    log_left first next (h.done ++ piece) (λ dump. WroteFrontOf w f t (IsDumpShown standard dump) was will)
+    ((done : List ℕ) (start : K) → length done + length piece ≤ 9223372036854775807 → Stands w f t IsOpen r done start is → Broke w f t r.form (done ++ piece) start will) →
+    IfSome first (λ dump. WroteFrontOf w f t (IsDumpShown form dump) was will)
+front_piece {w = w} {f = f} {t = t} r form first now next was is will a b piece h came told fits part =
+    let fit = room r form first now was is a b piece h fits in
+    log_left first next (h.done ++ piece) (λ dump. WroteFrontOf w f t (IsDumpShown form dump) was will)
     (consumes_then first now next h.done piece h.told h.came came) (told ∙ h.told)
     (λ left.
-    front_of standard (h.done ++ piece) left was will
-    (subst (λ (s : Standard). Broke w f t s (h.done ++ piece) was will) h.same (part h.done was fit h.stands)))
+    front_of form (h.done ++ piece) left was will
+    (subst (λ (s : LogForm). Broke w f t s (h.done ++ piece) was will) h.same (part h.done was fit h.stands)))
 
 -- all was read: what is shown of it was written, or its front
-pub ends_so : {K : Type 0} {w : K → Option (List ℕ)} {f : K → ℕ} {t : K → ℕ → Type 0} (standard : Standard) (dump : List ℕ) (old new : K) (result : Result Bool LogStop) →
-    IfOk result (λ bad. ShowsAll w f t standard dump bad old new) →
-    OnErr result (WroteFrontOf w f t (IsDumpShown standard dump) old new) →
-    WroteFrontOf w f t (IsDumpShown standard dump) old new
-ends_so standard dump old new (Ok bad) ok part = front_all standard dump bad old new ok
-ends_so standard dump old new (Err stop) ok part = part
+pub ends_so : {K : Type 0} {w : K → Option (List ℕ)} {f : K → ℕ} {t : K → ℕ → Type 0} (form : LogForm) (dump : List ℕ) (old new : K) (result : Result Bool LogStop) →
+    IfOk result (λ bad. ShowsAll w f t form dump bad old new) →
+    OnErr result (WroteFrontOf w f t (IsDumpShown form dump) old new) →
+    WroteFrontOf w f t (IsDumpShown form dump) old new
+ends_so form dump old new (Ok bad) ok part = front_all form dump bad old new ok
+ends_so form dump old new (Err stop) ok part = part
 
-pub front_end : {K : Type 0} {w : K → Option (List ℕ)} {f : K → ℕ} {t : K → ℕ → Type 0} (r : DumpReader) (standard : Standard) (first now next : Option (List ℕ)) (was is will : K) (a b : ℕ) (fault : Option DumpFault) (result : Result Bool LogStop) →
-    Reads w f t r standard first now was is a b → Consumes now next [] → IsAtEnd next →
+pub front_end : {K : Type 0} {w : K → Option (List ℕ)} {f : K → ℕ} {t : K → ℕ → Type 0} (r : DumpReader) (form : LogForm) (first now next : Option (List ℕ)) (was is will : K) (a b : ℕ) (fault : Option DumpFault) (result : Result Bool LogStop) →
+    Reads w f t r form first now was is a b → Consumes now next [] → IsAtEnd next →
     (IsOpen r.part.items → EndsSo (r.part.items ++ []) fault) →
-    IfOk result (λ bad. (done more : List ℕ) (start : K) → length done ≤ 9223372036854775807 → Stands w f t (λ bytes. EndsSo (bytes ++ more) fault) r done start is → ShowsAll w f t r.standard (done ++ more) bad start will) →
-    OnErr result ((done more : List ℕ) (start : K) → length done ≤ 9223372036854775807 → Stands w f t (λ bytes. EndsSo (bytes ++ more) fault) r done start is → WroteFrontOf w f t (IsDumpShown r.standard (done ++ more)) start will) →
-    IfSome first (λ dump. WroteFrontOf w f t (IsDumpShown standard dump) was will)
-front_end {w = w} {f = f} {t = t} r standard first now next was is will a b fault result h none end fit ok part =
+    IfOk result (λ bad. (done more : List ℕ) (start : K) → length done ≤ 9223372036854775807 → Stands w f t (λ bytes. EndsSo (bytes ++ more) fault) r done start is → ShowsAll w f t r.form (done ++ more) bad start will) →
+    OnErr result ((done more : List ℕ) (start : K) → length done ≤ 9223372036854775807 → Stands w f t (λ bytes. EndsSo (bytes ++ more) fault) r done start is → WroteFrontOf w f t (IsDumpShown r.form (done ++ more)) start will) →
+    IfSome first (λ dump. WroteFrontOf w f t (IsDumpShown form dump) was will)
+front_end {w = w} {f = f} {t = t} r form first now next was is will a b fault result h none end fit ok part =
     let st = holds_now IsOpen (λ bytes. EndsSo (bytes ++ []) fault) r h.done was is fit h.stands in
-    all_came first now next h.done (λ dump. WroteFrontOf w f t (IsDumpShown standard dump) was will) h.came h.told none end
-    (subst (λ (s : Standard). WroteFrontOf w f t (IsDumpShown s h.done) was will) h.same
-    (subst (λ (l : List ℕ). WroteFrontOf w f t (IsDumpShown r.standard l) was will) (append-nil h.done)
-    (ends_so r.standard (h.done ++ []) was will result (map_ok result _ _ (λ bad then. then h.done [] was h.small st) ok)
+    all_came first now next h.done (λ dump. WroteFrontOf w f t (IsDumpShown form dump) was will) h.came h.told none end
+    (subst (λ (s : LogForm). WroteFrontOf w f t (IsDumpShown s h.done) was will) h.same
+    (subst (λ (l : List ℕ). WroteFrontOf w f t (IsDumpShown r.form l) was will) (append-nil h.done)
+    (ends_so r.form (h.done ++ []) was will result (map_ok result _ _ (λ bad then. then h.done [] was h.small st) ok)
     (map_err result _ _ (λ then. then h.done [] was h.small st) part))))
 
 -- a length came that can't be
-pub front_cut : {K : Type 0} {w : K → Option (List ℕ)} {f : K → ℕ} {t : K → ℕ → Type 0} (r s : DumpReader) (standard : Standard) (first now next : Option (List ℕ)) (was is mid will : K) (a b : ℕ) (piece : List ℕ) (size : ℕ) (result : Result Bool LogStop) →
-    Reads w f t r standard first now was is a b → Consumes now next piece → StayTold now next →
+pub front_cut : {K : Type 0} {w : K → Option (List ℕ)} {f : K → ℕ} {t : K → ℕ → Type 0} (r s : DumpReader) (form : LogForm) (first now next : Option (List ℕ)) (was is mid will : K) (a b : ℕ) (piece : List ℕ) (size : ℕ) (result : Result Bool LogStop) →
+    Reads w f t r form first now was is a b → Consumes now next piece → StayTold now next →
     length piece ≤ 9223372036854775807 - r.taken →
     ((done : List ℕ) (start : K) → length done + length piece ≤ 9223372036854775807 → Stands w f t IsOpen r done start is → Goes w f t (Some size) s (done ++ piece) start mid) →
-    s.standard ≡ r.standard →
-    IfOk result (λ bad. (done more : List ℕ) (start : K) → length done ≤ 9223372036854775807 → Stands w f t (λ bytes. EndsSo (bytes ++ more) (Some (BadLength size))) s done start mid → ShowsAll w f t s.standard (done ++ more) bad start will) →
-    OnErr result ((done more : List ℕ) (start : K) → length done ≤ 9223372036854775807 → Stands w f t (λ bytes. EndsSo (bytes ++ more) (Some (BadLength size))) s done start mid → WroteFrontOf w f t (IsDumpShown s.standard (done ++ more)) start will) →
-    IfSome first (λ dump. WroteFrontOf w f t (IsDumpShown standard dump) was will)
-front_cut {w = w} {f = f} {t = t} r s standard first now next was is mid will a b piece size result h came told fits taken same ok part =
-    let fit = room r standard first now was is a b piece h fits in
+    s.form ≡ r.form →
+    IfOk result (λ bad. (done more : List ℕ) (start : K) → length done ≤ 9223372036854775807 → Stands w f t (λ bytes. EndsSo (bytes ++ more) (Some (BadLength size))) s done start mid → ShowsAll w f t s.form (done ++ more) bad start will) →
+    OnErr result ((done more : List ℕ) (start : K) → length done ≤ 9223372036854775807 → Stands w f t (λ bytes. EndsSo (bytes ++ more) (Some (BadLength size))) s done start mid → WroteFrontOf w f t (IsDumpShown s.form (done ++ more)) start will) →
+    IfSome first (λ dump. WroteFrontOf w f t (IsDumpShown form dump) was will)
+front_cut {w = w} {f = f} {t = t} r s form first now next was is mid will a b piece size result h came told fits taken same ok part =
+    let fit = room r form first now was is a b piece h fits in
     let goes = taken h.done was fit h.stands in
     let small : length goes.0 ≤ 9223372036854775807 = omega (arith, fit, length-append h.done piece, ap (λ (l : List ℕ). length l) goes.2, length-append goes.0 goes.1) in
-    dump_left first now next h.done piece (λ dump. WroteFrontOf w f t (IsDumpShown standard dump) was will) h.came came h.told told
+    dump_left first now next h.done piece (λ dump. WroteFrontOf w f t (IsDumpShown form dump) was will) h.came came h.told told
     (λ left.
     let st = holds_now (HasBadLength size) (λ bytes. EndsSo (bytes ++ (goes.1 ++ left)) (Some (BadLength size))) s goes.0 was mid (bad_length s.part.items (goes.1 ++ left) size) goes.3 in
-    subst (λ (k : Standard). WroteFrontOf w f t (IsDumpShown k ((h.done ++ piece) ++ left)) was will) (same ∙ h.same)
-    (subst (λ (l : List ℕ). WroteFrontOf w f t (IsDumpShown s.standard l) was will) (sym (ap (λ (l : List ℕ). l ++ left) goes.2 ∙ append_assoc goes.0 goes.1 left))
-    (ends_so s.standard (goes.0 ++ (goes.1 ++ left)) was will result (map_ok result _ _ (λ bad then. then goes.0 (goes.1 ++ left) was small st) ok)
+    subst (λ (k : LogForm). WroteFrontOf w f t (IsDumpShown k ((h.done ++ piece) ++ left)) was will) (same ∙ h.same)
+    (subst (λ (l : List ℕ). WroteFrontOf w f t (IsDumpShown s.form l) was will) (sym (ap (λ (l : List ℕ). l ++ left) goes.2 ∙ append_assoc goes.0 goes.1 left))
+    (ends_so s.form (goes.0 ++ (goes.1 ++ left)) was will result (map_ok result _ _ (λ bad then. then goes.0 (goes.1 ++ left) was small st) ok)
     (map_err result _ _ (λ then. then goes.0 (goes.1 ++ left) was small st) part))))
 
 -- ---- what is answered is the one text
 
-pub shown : {K : Type 0} (w : K → Option (List ℕ)) (f : K → ℕ) (t : K → ℕ → Type 0) (standard : Standard) (first : Option (List ℕ)) (was will : K) (result : Result Bool LogStop) →
-    IfOk result (λ bad. IfSome first (λ dump. ShowsAll w f t standard dump bad was will)) →
-    IfOk result (λ bad. IfSome first (λ dump. IsWritten standard (w was) (w will) dump bad))
-shown w f t standard None was will (Ok bad) all = tt
-shown w f t standard (Some dump) was will (Ok bad) all = record {
+pub shown : {K : Type 0} (w : K → Option (List ℕ)) (f : K → ℕ) (t : K → ℕ → Type 0) (form : LogForm) (first : Option (List ℕ)) (was will : K) (result : Result Bool LogStop) →
+    IfOk result (λ bad. IfSome first (λ dump. ShowsAll w f t form dump bad was will)) →
+    IfOk result (λ bad. IfSome first (λ dump. IsWritten form (w was) (w will) dump bad))
+shown w f t form None was will (Ok bad) all = tt
+shown w f t form (Some dump) was will (Ok bad) all = record {
   text = all.text;
   is_shown = all.is_shown;
   wrote = all.wrote.appended;
 }
-shown w f t standard first was will (Err stop) all = tt
+shown w f t form first was will (Err stop) all = tt
 
-given : (standard : Standard) (dump : List ℕ) (was will : Option (List ℕ)) (result : Result Bool LogStop) →
-    IfOk result (λ bad. IsWritten standard was will dump bad) →
-    IfOk result (λ bad. (text : List ℕ) × IsDumpShown standard dump text bad × Appends was will text)
-given standard dump was will (Ok bad) w = (w.text, w.is_shown, w.wrote)
-given standard dump was will (Err stop) w = tt
+given : (form : LogForm) (dump : List ℕ) (was will : Option (List ℕ)) (result : Result Bool LogStop) →
+    IfOk result (λ bad. IsWritten form was will dump bad) →
+    IfOk result (λ bad. (text : List ℕ) × IsDumpShown form dump text bad × Appends was will text)
+given form dump was will (Ok bad) w = (w.text, w.is_shown, w.wrote)
+given form dump was will (Err stop) w = tt
 
-of_dump : (standard : Standard) (dump : List ℕ) (was will : Option (List ℕ)) (result : Result Bool LogStop) →
-    IfOk result (λ bad. IfSome (Some dump) (λ l. IsWritten standard was will l bad)) →
-    IfOk result (λ bad. IsWritten standard was will dump bad)
-of_dump standard dump was will (Ok bad) w = w
-of_dump standard dump was will (Err stop) w = tt
+of_dump : (form : LogForm) (dump : List ℕ) (was will : Option (List ℕ)) (result : Result Bool LogStop) →
+    IfOk result (λ bad. IfSome (Some dump) (λ l. IsWritten form was will l bad)) →
+    IfOk result (λ bad. IsWritten form was will dump bad)
+of_dump form dump was will (Ok bad) w = w
+of_dump form dump was will (Err stop) w = tt
 
-pub exact_shown : (standard : Standard) (first was will : Option (List ℕ)) (result : Result Bool LogStop) →
-    IfOk result (λ bad. IfSome first (λ dump. IsWritten standard was will dump bad)) →
-    IfSome first (λ dump. IsExact (IsDumpShown standard dump) result)
-exact_shown standard None was will result shown = tt
-exact_shown standard (Some dump) was will result shown =
-    exact_of (IsDumpShown standard dump) was will result (one_text standard dump)
-    (given standard dump was will result (of_dump standard dump was will result shown))
+pub exact_shown : (form : LogForm) (first was will : Option (List ℕ)) (result : Result Bool LogStop) →
+    IfOk result (λ bad. IfSome first (λ dump. IsWritten form was will dump bad)) →
+    IfSome first (λ dump. IsExact (IsDumpShown form dump) result)
+exact_shown form None was will result shown = tt
+exact_shown form (Some dump) was will result shown =
+    exact_of (IsDumpShown form dump) was will result (one_text form dump)
+    (given form dump was will result (of_dump form dump was will result shown))
 
-pub complete_shown : (standard : Standard) (first was will : Option (List ℕ)) (a b c : ℕ) (result : Result Bool LogStop) →
-    IfOk result (λ bad. IfSome first (λ dump. IsWritten standard was will dump bad)) →
+pub complete_shown : (form : LogForm) (first was will : Option (List ℕ)) (a b c : ℕ) (result : Result Bool LogStop) →
+    IfOk result (λ bad. IfSome first (λ dump. IsWritten form was will dump bad)) →
     IfErr result (StoppedWriting b c) → a ≤ b → (Rose a c → ⊥) →
-    IfSome first (λ dump. length dump ≤ 9223372036854775807 → IsComplete (IsDumpShown standard dump) result was will)
-complete_shown standard None was will a b c result shown stops le sound = tt
-complete_shown standard (Some dump) was will a b c result shown stops le sound = λ small.
-    complete_of (IsDumpShown standard dump) was will result a b c (one_text standard dump)
-    (given standard dump was will result (of_dump standard dump was will result shown)) stops le sound
+    IfSome first (λ dump. length dump ≤ 9223372036854775807 → IsComplete (IsDumpShown form dump) result was will)
+complete_shown form None was will a b c result shown stops le sound = tt
+complete_shown form (Some dump) was will a b c result shown stops le sound = λ small.
+    complete_of (IsDumpShown form dump) was will result a b c (one_text form dump)
+    (given form dump was will result (of_dump form dump was will result shown)) stops le sound

@@ -1,7 +1,6 @@
 -- A reader of a dump, byte by byte.
 use Rattle.std.proofs.Common.{◌≡◌, ◌∙◌, ℕ, ◌+◌, ◌-◌, ◌<◌, ◌≤◌, ◌^◌, Bool, ◌||◌, Option, Some, None, List, [], ◌∷◌, ◌++◌, length, take, drop, refl, sym, ap, subst, append_assoc, append-nil, length-append, arith}
 use Rattle.std.specs.Prelude.{is_some, slice_index}
-use Rattle.topology_stack.specs.Tree.{Tree}
 use Rattle.reset_log.specs.InOrder.{AreTold}
 use Rattle.reset_log.specs.Wrote.{Wrote}
 use Rattle.reset_log.proofs.Lemmas.{wrote_nothing, wrote_then, split_at}
@@ -12,8 +11,9 @@ use Rattle.nosy_dump.specs.declared.record.DumpFault.{DumpFault}
 use Rattle.nosy_dump.specs.declared.record.DumpFault.TheVariants.{BadLength}
 use Rattle.nosy_dump.specs.Record.{record_bytes, dump_of, record_of, IsOpen, EndsSo}
 use Rattle.nosy_dump.specs.Resets.{resets_from}
-use Rattle.nosy_dump.specs.Texts.{fault_text}
-use Rattle.nosy_dump.specs.Dump.{IsResetShown, IsBegunWritten, but_last}
+use Rattle.nosy_dump.specs.Noted.{Noted, nothing}
+use Rattle.nosy_dump.specs.Notes.{noted}
+use Rattle.nosy_dump.specs.Dump.{last_text, IsResetShown, IsBegunWritten, but_last}
 use Rattle.nosy_dump.specs.codings.Going.{AreResets, IsNew, Stands, IsWhole, HasBadLength, ShowsBy, with_packet, Goes, ShowsAll}
 use Rattle.nosy_dump.proofs.Records.{dump_more, sized_more, few_records, more_size, resets_other, resets_reset, resets_packet, last_more, last_none, last_with, few_resets, but_last-more}
 use Rattle.nosy_dump.proofs.Waiting.{AllShown, few_ended, all_shown}
@@ -23,7 +23,7 @@ use Rattle.nosy_dump.proofs.Waiting.{AllShown, few_ended, all_shown}
 -- a byte more, of which this is known now
 pub one_byte : {K : Type 0} {w : K → Option (List ℕ)} {f : K → ℕ} {t : K → ℕ → Type 0} (Holds Now : List ℕ → Type 0) (old new : DumpReader) (done : List ℕ) (b : ℕ) (start was : K) →
     Stands w f t Holds old done start was → Now new.part.items → new.part.items ≡ old.part.items ++ b ∷ [] →
-    new.standard ≡ old.standard → new.pending ≡ old.pending → new.tree ≡ old.tree → new.number ≡ old.number → new.bad ≡ old.bad → new.taken ≡ old.taken + 1 →
+    new.form ≡ old.form → new.pending ≡ old.pending → noted new.notes ≡ noted old.notes → new.number ≡ old.number → new.bad ≡ old.bad → new.taken ≡ old.taken + 1 →
     Stands w f t Now new (done ++ b ∷ []) start was
 one_byte Holds Now old new done b start was st now part es ep et en eb ek = record {
   records = st.records;
@@ -70,7 +70,7 @@ at_start r a new = record {
   holds = subst IsOpen (sym new.part_is) tt;
   resets_are = subst (λ (p : Option DumpReset). AreResets [] [] p) (sym new.pending_is) (refl, refl);
   text = [];
-  told = (refl, new.bad_is, new.tree_is);
+  told = (refl, new.bad_is, new.noted_is);
   number_is = new.number_is;
   taken_is = new.taken_is;
   wrote = wrote_nothing a;
@@ -86,7 +86,7 @@ whole_done records part done e w =
 
 pub after_other : {K : Type 0} {w : K → Option (List ℕ)} {f : K → ℕ} {t : K → ℕ → Type 0} (old new : DumpReader) (done : List ℕ) (start was : K) →
     Stands w f t IsWhole old done start was → record_of (drop 4 old.part.items) ≡ Other →
-    new.part.items ≡ [] → new.standard ≡ old.standard → new.pending ≡ old.pending → new.tree ≡ old.tree → new.number ≡ old.number → new.bad ≡ old.bad → new.taken ≡ old.taken →
+    new.part.items ≡ [] → new.form ≡ old.form → new.pending ≡ old.pending → noted new.notes ≡ noted old.notes → new.number ≡ old.number → new.bad ≡ old.bad → new.taken ≡ old.taken →
     Stands w f t IsOpen new done start was
 after_other old new done start was st kind part es ep et en eb ek = record {
   records = st.records ++ drop 4 old.part.items ∷ [];
@@ -110,7 +110,7 @@ after_other old new done start was st kind part es ep et en eb ek = record {
 pub after_packet : {K : Type 0} {w : K → Option (List ℕ)} {f : K → ℕ} {t : K → ℕ → Type 0} (old new : DumpReader) (done : List ℕ) (quad : ℕ) (start was : K) →
     Stands w f t IsWhole old done start was → record_of (drop 4 old.part.items) ≡ SelfId quad →
     new.pending ≡ with_packet quad old.pending →
-    new.part.items ≡ [] → new.standard ≡ old.standard → new.tree ≡ old.tree → new.number ≡ old.number → new.bad ≡ old.bad → new.taken ≡ old.taken →
+    new.part.items ≡ [] → new.form ≡ old.form → noted new.notes ≡ noted old.notes → new.number ≡ old.number → new.bad ≡ old.bad → new.taken ≡ old.taken →
     Stands w f t IsOpen new done start was
 after_packet old new done quad start was st kind ep part es et en eb ek = record {
   records = st.records ++ drop 4 old.part.items ∷ [];
@@ -151,23 +151,23 @@ place_of old Holds done start was byte st e =
     let d : length done ≡ length (dump_of st.records) + length old.part.items = ap (λ (l : List ℕ). length l) st.done_is ∙ length-append (dump_of st.records) old.part.items in
     omega (arith, d, e, st.taken_is)
 
-pub shown_now : {K : Type 0} {w : K → Option (List ℕ)} {f : K → ℕ} {t : K → ℕ → Type 0} (old : DumpReader) (Holds : List ℕ → Type 0) (done : List ℕ) (start was is : K) (m : ℕ) (u : Option Tree) (c : Bool) →
+pub shown_now : {K : Type 0} {w : K → Option (List ℕ)} {f : K → ℕ} {t : K → ℕ → Type 0} (old : DumpReader) (Holds : List ℕ → Type 0) (done : List ℕ) (start was is : K) (m : ℕ) (u : Noted) (c : Bool) →
     (st : Stands w f t Holds old done start was) → length done ≤ 9223372036854775807 →
-    ShowsBy w f t old.standard old.pending old.number old.tree old.bad m u c was is →
-    AllShown w f t old.standard st.records start is m u c
+    ShowsBy w f t old.form old.pending old.number (noted old.notes) old.bad m u c was is →
+    AllShown w f t old.form st.records start is m u c
 shown_now old Holds done start was is m u c st few shows =
-    all_shown old.standard st.records st.ended old.pending st.text old.number m old.tree u old.bad c start was is
+    all_shown old.form st.records st.ended old.pending st.text old.number m (noted old.notes) u old.bad c start was is
     st.resets_are st.told st.number_is (few_numbers old Holds done start was st few) st.wrote shows
 
 pub after_reset : {K : Type 0} {w : K → Option (List ℕ)} {f : K → ℕ} {t : K → ℕ → Type 0} (old new : DumpReader) (done : List ℕ) (byte time : ℕ) (start was is : K) →
     Stands w f t IsWhole old done start was → length done ≤ 9223372036854775807 →
     record_of (drop 4 old.part.items) ≡ Reset time → byte ≡ old.taken - length old.part.items →
-    ShowsBy w f t old.standard old.pending old.number old.tree old.bad new.number new.tree new.bad was is →
+    ShowsBy w f t old.form old.pending old.number (noted old.notes) old.bad new.number (noted new.notes) new.bad was is →
     new.pending ≡ Some (record { byte = byte; time = time; list = [] }) →
-    new.part.items ≡ [] → new.standard ≡ old.standard → new.taken ≡ old.taken →
+    new.part.items ≡ [] → new.form ≡ old.form → new.taken ≡ old.taken →
     Stands w f t IsOpen new done start is
 after_reset old new done byte time start was is st few kind at shows ep part es ek =
-    let all = shown_now old IsWhole done start was is new.number new.tree new.bad st few shows in
+    let all = shown_now old IsWhole done start was is new.number (noted new.notes) new.bad st few shows in
     let there : byte ≡ length (dump_of st.records) = place_of old IsWhole done start was byte st at in
     let place : byte ≡ 0 + length (dump_of st.records) = omega (arith, there) in
     record {
@@ -186,17 +186,17 @@ after_reset old new done byte time start was is st few kind at shows ep part es 
 
 -- ---- the end
 
-pub written : {K : Type 0} {w : K → Option (List ℕ)} {f : K → ℕ} {t : K → ℕ → Type 0} (old : DumpReader) (done more : List ℕ) (start was is will : K) (fault : Option DumpFault) (byte m : ℕ) (u : Option Tree) (c : Bool) →
+pub written : {K : Type 0} {w : K → Option (List ℕ)} {f : K → ℕ} {t : K → ℕ → Type 0} (old : DumpReader) (done more : List ℕ) (start was is will : K) (fault : Option DumpFault) (byte m : ℕ) (u : Noted) (c : Bool) →
     Stands w f t (λ bytes. EndsSo (bytes ++ more) fault) old done start was →
     length done ≤ 9223372036854775807 → byte ≡ old.taken - length old.part.items →
-    ShowsBy w f t old.standard old.pending old.number old.tree old.bad m u c was is →
-    Wrote w f t is will (fault_text byte fault) →
-    ShowsAll w f t old.standard (done ++ more) (c || is_some fault) start will
+    ShowsBy w f t old.form old.pending old.number (noted old.notes) old.bad m u c was is →
+    Wrote w f t is will (last_text old.form byte fault u) →
+    ShowsAll w f t old.form (done ++ more) (c || is_some fault) start will
 written old done more start was is will fault byte m u c st few at shows wrote =
     let all = shown_now old (λ bytes. EndsSo (bytes ++ more) fault) done start was is m u c st few shows in
     let place : byte ≡ length (dump_of st.records) = place_of old (λ bytes. EndsSo (bytes ++ more) fault) done start was byte st at in
     record {
-      text = all.text ++ fault_text byte fault;
+      text = all.text ++ last_text old.form byte fault u;
       is_shown = record {
         records = st.records;
         rest = old.part.items ++ more;
@@ -206,12 +206,12 @@ written old done more start was is will fault byte m u c st few at shows wrote =
         ends = st.holds;
         resets_text = all.text;
         is_refused = c;
-        last = u;
+        known = u;
         told = all.told;
-        text_is = ap (λ (b : ℕ). all.text ++ fault_text b fault) place;
+        text_is = ap (λ (b : ℕ). all.text ++ last_text old.form b fault u) place;
         bad_is = refl;
       };
-      wrote = wrote_then start is will all.text (fault_text byte fault) all.wrote wrote;
+      wrote = wrote_then start is will all.text (last_text old.form byte fault u) all.wrote wrote;
     }
 
 -- a length that can't be stays where it is
@@ -221,7 +221,7 @@ bad_length part more size h = (more_size part more size h.0, h.1)
 
 -- what is written while a dump goes on
 pub begun : {K : Type 0} {w : K → Option (List ℕ)} {f : K → ℕ} {t : K → ℕ → Type 0} (r : DumpReader) (done : List ℕ) (start was : K) →
-    Stands w f t IsOpen r done start was → IsBegunWritten r.standard (w start) (w was) done
+    Stands w f t IsOpen r done start was → IsBegunWritten r.form (w start) (w was) done
 begun r done start was st = record {
   text = st.text;
   is_shown = record {
@@ -231,9 +231,9 @@ begun r done start was st = record {
     sized = st.sized;
     is_open = st.holds;
     bad = r.bad;
-    last = r.tree;
+    known = noted r.notes;
     told =
-        subst (λ (l : List DumpReset). AreTold (IsResetShown r.standard) 1 None l st.text r.bad r.tree) (sym (all_but r.pending st.resets_are)) st.told;
+        subst (λ (l : List DumpReset). AreTold (IsResetShown r.form) 1 nothing l st.text r.bad (noted r.notes)) (sym (all_but r.pending st.resets_are)) st.told;
   };
   wrote = st.wrote.appended;
 }

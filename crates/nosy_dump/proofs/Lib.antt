@@ -7,3 +7,4 @@ pub mod Reading
 pub mod OneText
 pub mod Fronts
 pub mod SomeText
+pub mod Shallow

@@ -4,18 +4,23 @@ use Rattle.std.specs.Prelude.{is_some}
 use Rattle.std.proofs.lemmas.Bool.Decides.{nat_tests}
 use Rattle.std.proofs.lemmas.List.{take_at, drop_at}
 use Rattle.std.proofs.lemmas.Nat.{from_le_bytes-to_le_bytes_4}
-use Rattle.self_id.specs.declared.standard.Standard.{Standard}
+use Rattle.json.specs.Json.{Members}
+use Rattle.bus_json.specs.Text.{json_line}
+use Rattle.reset_log.specs.declared.form.LogForm.{LogForm}
+use Rattle.reset_log.specs.declared.form.LogForm.TheVariants.{Text, Json}
 use Rattle.topology_stack.specs.Tree.{Tree}
 use Rattle.reset_log.specs.declared.line.Origin.TheVariants.{Core}
 use Rattle.reset_log.specs.InOrder.{AreTold}
-use Rattle.reset_log.proofs.Lemmas.{AreSame, told_once, same_list}
+use Rattle.reset_log.proofs.Lemmas.{AreSame, told_once, same_list, same_told}
 use Rattle.nosy_dump.specs.declared.record.DumpReset.{DumpReset}
 use Rattle.nosy_dump.specs.declared.record.DumpFault.{DumpFault}
 use Rattle.nosy_dump.specs.declared.record.DumpFault.TheVariants.{Cut, BadLength}
 use Rattle.nosy_dump.specs.Record.{record_bytes, dump_of, is_size, AreSized, size_of, IsBelow, IsOpen, EndsSo}
 use Rattle.nosy_dump.specs.Resets.{resets_from}
-use Rattle.nosy_dump.specs.Texts.{head, fault_text}
-use Rattle.nosy_dump.specs.Dump.{last_heard, IsResetShown}
+use Rattle.nosy_dump.specs.Texts.{head}
+use Rattle.nosy_dump.specs.Json.{reset_value}
+use Rattle.nosy_dump.specs.Noted.{Noted, nothing, after}
+use Rattle.nosy_dump.specs.Dump.{IsJudged, last_text, IsResetShown}
 use Rattle.nosy_dump.specs.OneText.{NoDumpHasTwoTexts}
 
 -- ---- the records of a dump
@@ -131,25 +136,33 @@ one_parting rs qs x y f g sized all ends too is =
 
 -- ---- a reset, and a dump
 
-pub same_reset : (standard : Standard) (n : ℕ) (before : Option Tree) (r : DumpReset) (a b : List ℕ) (c d : Bool) (p q : Option Tree) →
-    IsResetShown standard n before r a c p → IsResetShown standard n before r b d q →
+same_judged : (form : LogForm) (n : ℕ) (before : Option Tree) (r : DumpReset) (a b : List ℕ) (h g : Option Tree) →
+    IsJudged form n before r a h → IsJudged form n before r b g → (a ≡ b) × (h ≡ g)
+same_judged (Text standard) n before r a b h g x y = same_list standard Core (head n r) r.list before a b h g x y
+same_judged (Json standard) n before r a b h g x y =
+    let same = same_told standard Core r.list x.members y.members h g x.told y.told in
+    (x.text_is ∙ ap (λ (m : Members). json_line (reset_value n r m)) same.0 ∙ sym y.text_is, same.1)
+
+pub same_reset : (form : LogForm) (n : ℕ) (before : Noted) (r : DumpReset) (a b : List ℕ) (c d : Bool) (p q : Noted) →
+    IsResetShown form n before r a c p → IsResetShown form n before r b d q →
     AreSame a b c d p q
-same_reset standard n before r a b c d p q x y =
-    let same = same_list standard Core (head n r) r.list before a b x.heard y.heard x.shown y.shown in (
+same_reset form n before r a b c d p q x y =
+    let same = same_judged form n before.tree r a b x.heard y.heard x.shown y.shown in (
       same.0,
       x.bad_is ∙ ap (λ (t : Option Tree). is_none t) same.1 ∙ sym y.bad_is,
-      x.after_is ∙ ap (λ (t : Option Tree). last_heard before t) same.1 ∙ sym y.after_is,
+      x.next_is ∙ ap (λ (t : Option Tree). after before t) same.1 ∙ sym y.next_is,
     )
 
 pub one_text : NoDumpHasTwoTexts
-one_text standard dump a b c d x y =
+one_text form dump a b c d x y =
     let part = one_parting x.records y.records x.rest y.rest x.fault y.fault x.sized y.sized x.ends y.ends (sym x.dump_is ∙ y.dump_is) in
-    let told : AreTold (IsResetShown standard) 1 None (resets_from 0 y.records) x.resets_text x.is_refused x.last = subst (λ (rs : List (List ℕ)). AreTold (IsResetShown standard) 1 None (resets_from 0 rs) x.resets_text x.is_refused x.last) part.records x.told in
+    let told : AreTold (IsResetShown form) 1 nothing (resets_from 0 y.records) x.resets_text x.is_refused x.known = subst (λ (rs : List (List ℕ)). AreTold (IsResetShown form) 1 nothing (resets_from 0 rs) x.resets_text x.is_refused x.known) part.records x.told in
     let same =
-    told_once (IsResetShown standard) (λ n s r e f g h p q. same_reset standard n s r e f g h p q) 1 None (resets_from 0 y.records) x.resets_text y.resets_text x.is_refused y.is_refused x.last y.last told y.told
+    told_once (IsResetShown form) (λ n s r e f g h p q. same_reset form n s r e f g h p q) 1 nothing (resets_from 0 y.records) x.resets_text y.resets_text x.is_refused y.is_refused x.known y.known told y.told
     in (
-      x.text_is ∙ ap (λ (l : List ℕ). l ++ fault_text (length (dump_of x.records)) x.fault) same.0
-          ∙ ap (λ (rs : List (List ℕ)). y.resets_text ++ fault_text (length (dump_of rs)) x.fault) part.records
-          ∙ ap (λ (f : Option DumpFault). y.resets_text ++ fault_text (length (dump_of y.records)) f) part.fault ∙ sym y.text_is,
+      x.text_is ∙ ap (λ (l : List ℕ). l ++ last_text form (length (dump_of x.records)) x.fault x.known) same.0
+          ∙ ap (λ (rs : List (List ℕ)). y.resets_text ++ last_text form (length (dump_of rs)) x.fault x.known) part.records
+          ∙ ap (λ (f : Option DumpFault). y.resets_text ++ last_text form (length (dump_of y.records)) f x.known) part.fault
+          ∙ ap (λ (k : Noted). y.resets_text ++ last_text form (length (dump_of y.records)) y.fault k) same.2 ∙ sym y.text_is,
       x.bad_is ∙ ap (λ (v : Bool). v || is_some x.fault) same.1 ∙ ap (λ (f : Option DumpFault). y.is_refused || is_some f) part.fault ∙ sym y.bad_is,
     )

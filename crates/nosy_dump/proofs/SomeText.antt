@@ -7,10 +7,12 @@ use Rattle.std.proofs.lemmas.Bool.Decides.{nat_tests}
 use Rattle.std.proofs.lemmas.List.{take-append-drop}
 use Rattle.std.proofs.lemmas.List.Elements.{All-nil, All-cons, All-take, All-drop, recursion_from_All}
 use Rattle.std.proofs.lemmas.Nat.{le_bytes_4}
-use Rattle.self_id.specs.declared.standard.Standard.{Standard}
 use Rattle.topology_stack.specs.Tree.{Tree}
+use Rattle.bus_json.specs.Text.{json_line}
+use Rattle.reset_log.specs.declared.form.LogForm.{LogForm}
+use Rattle.reset_log.specs.declared.form.LogForm.TheVariants.{Text, Json}
 use Rattle.reset_log.specs.declared.line.Origin.TheVariants.{Core}
-use Rattle.reset_log.proofs.Lemmas.{Fit, some_list, told_some}
+use Rattle.reset_log.proofs.Lemmas.{Fit, some_list, some_told, told_some}
 use Rattle.nosy_dump.specs.declared.record.Record.{Record}
 use Rattle.nosy_dump.specs.declared.record.Record.TheVariants.{Reset, SelfId, Other}
 use Rattle.nosy_dump.specs.declared.record.DumpReset.{DumpReset}
@@ -18,8 +20,10 @@ use Rattle.nosy_dump.specs.declared.record.DumpFault.{DumpFault}
 use Rattle.nosy_dump.specs.declared.record.DumpFault.TheVariants.{Cut, BadLength}
 use Rattle.nosy_dump.specs.Record.{quad_at, record_bytes, dump_of, is_size, record_of, AreSized, EndsSo}
 use Rattle.nosy_dump.specs.Resets.{packets_by, packets, resets_by, resets_from}
-use Rattle.nosy_dump.specs.Texts.{head, fault_text}
-use Rattle.nosy_dump.specs.Dump.{last_heard, IsResetShown}
+use Rattle.nosy_dump.specs.Texts.{head}
+use Rattle.nosy_dump.specs.Json.{reset_value}
+use Rattle.nosy_dump.specs.Noted.{Noted, nothing, after}
+use Rattle.nosy_dump.specs.Dump.{IsJudged, last_text, IsResetShown}
 use Rattle.nosy_dump.specs.OneText.{EachDumpHasAText}
 
 abbrev AreBytes : List ℕ → Type 0
@@ -162,17 +166,24 @@ resets_fit byte (r ∷ rs) fit = go (record_of r) (resets_fit (byte + (4 + lengt
 
 -- ---- a reset, and a dump
 
-some_reset : (standard : Standard) (n : ℕ) (before : Option Tree) (r : DumpReset) → Fit r.list →
-    (text : List ℕ) × (bad : Bool) × (after : Option Tree) × IsResetShown standard n before r text bad after
-some_reset standard n before r fit =
-    let l = some_list standard Core (head n r) r.list before fit in
-    (l.0, is_none l.1, last_heard before l.1, record { heard = l.1; shown = l.2; bad_is = refl; after_is = refl })
+some_judged : (form : LogForm) (n : ℕ) (before : Option Tree) (r : DumpReset) → Fit r.list →
+    (text : List ℕ) × (heard : Option Tree) × IsJudged form n before r text heard
+some_judged (Text standard) n before r fit = some_list standard Core (head n r) r.list before fit
+some_judged (Json standard) n before r fit =
+    let l = some_told standard Core r.list in
+    (json_line (reset_value n r l.0), l.1, record { members = l.0; told = l.2; text_is = refl })
+
+some_reset : (form : LogForm) (n : ℕ) (before : Noted) (r : DumpReset) → Fit r.list →
+    (text : List ℕ) × (bad : Bool) × (next : Noted) × IsResetShown form n before r text bad next
+some_reset form n before r fit =
+    let l = some_judged form n before.tree r fit in
+    (l.0, is_none l.1, after before l.1, record { heard = l.1; shown = l.2; bad_is = refl; next_is = refl })
 
 pub some_text : EachDumpHasAText
-some_text standard dump fit =
+some_text form dump fit =
     let p = parting (length dump) dump (omega arith) fit in
-    let told = told_some (IsResetShown standard) ListFits (λ n before r list. some_reset standard n before r list) 1 None (resets_from 0 p.records) (resets_fit 0 p.records p.of_bytes) in (
-      told.0 ++ fault_text (length (dump_of p.records)) p.fault,
+    let told = told_some (IsResetShown form) ListFits (λ n before r list. some_reset form n before r list) 1 nothing (resets_from 0 p.records) (resets_fit 0 p.records p.of_bytes) in (
+      told.0 ++ last_text form (length (dump_of p.records)) p.fault told.2,
       told.1 || is_some p.fault,
       record {
         records = p.records;
@@ -183,7 +194,7 @@ some_text standard dump fit =
         ends = p.ends;
         resets_text = told.0;
         is_refused = told.1;
-        last = told.2;
+        known = told.2;
         told = told.3;
         text_is = refl;
         bad_is = refl;

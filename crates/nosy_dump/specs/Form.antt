@@ -1,13 +1,11 @@
 -- The words that ask for the resets of a dump.
-use Rattle.std.specs.Prelude.{◌≡◌, ℕ, List, [], ◌∷◌, map, codes, string_bytes, String}
+use Rattle.std.specs.Prelude.{◌≡◌, ℕ, List, ◌∷◌, map, codes, string_bytes, String}
 use Rattle.std.specs.Global.{Global}
-use Rattle.self_id.specs.declared.standard.Standard.{Standard}
-use Rattle.self_id.specs.declared.standard.Standard.TheVariants.{Ieee1995, Ieee2000}
+use Rattle.reset_log.specs.declared.form.LogForm.{LogForm}
+use Rattle.reset_log.specs.Form.{options}
 
--- by IEEE 1394a-2000, or with `--1995` by IEEE Std 1394-1995
-abbrev pub AreWordsBy : Standard → List (List ℕ) → Type 0
-AreWordsBy Ieee2000 words = words ≡ codes "nosy" ∷ []
-AreWordsBy Ieee1995 words = words ≡ codes "nosy" ∷ codes "--1995" ∷ []
+abbrev pub AreWordsBy : LogForm → List (List ℕ) → Type 0
+AreWordsBy form words = words ≡ codes "nosy" ∷ options form
 
-abbrev pub AsksDump : List (String Global) → Standard → Type 0
-AsksDump words standard = AreWordsBy standard (map string_bytes words)
+abbrev pub AsksDump : List (String Global) → LogForm → Type 0
+AsksDump words form = AreWordsBy form (map string_bytes words)

@@ -1,7 +1,10 @@
 pub mod Form
 pub mod Record
 pub mod Resets
+pub mod Noted
+pub mod Notes
 pub mod Texts
+pub mod Json
 pub mod Dump
 pub mod OneText
 pub mod codings

@@ -1,6 +1,9 @@
 -- The texts of a dump's resets and of its fault.
 use Rattle.std.specs.Prelude.{ℕ, Option, Some, None, List, [], ◌++◌, codes}
 use Rattle.view_text.specs.Packet.{field}
+use Rattle.reset_log.specs.declared.counts.Tally.{Tally}
+use Rattle.reset_log.specs.Noted.{most_of}
+use Rattle.nosy_dump.specs.Noted.{Noted}
 use Rattle.nosy_dump.specs.declared.record.DumpReset.{DumpReset}
 use Rattle.nosy_dump.specs.declared.record.DumpFault.{DumpFault}
 use Rattle.nosy_dump.specs.declared.record.DumpFault.TheVariants.{Cut, BadLength}
@@ -26,3 +29,22 @@ abbrev pub fault_text : ℕ → Option DumpFault → List ℕ
 fault_text byte None = []
 fault_text byte (Some Cut) = cut_text byte
 fault_text byte (Some (BadLength size)) = length_text byte size
+
+-- ---- the end of a dump
+
+unfoldable pub begun : Tally → List ℕ
+begun t = field (codes ", most begun by node ") t.node ++ field (codes ": ") t.count
+
+abbrev pub most : Option Tally → List ℕ
+most None = []
+most (Some t) = begun t
+
+-- `resets N refused M`, and `, most begun by node I: K`
+unfoldable pub totals : Noted → List ℕ
+totals n =
+    field (codes "resets ") n.counts.resets
+    ++ (field (codes " refused ") n.counts.refused ++ (most (most_of None n.tallies) ++ codes "\n"))
+
+-- the fault at this byte if there is one, and what was counted in all
+unfoldable pub end_text : ℕ → Option DumpFault → Noted → List ℕ
+end_text byte fault n = fault_text byte fault ++ totals n

@@ -7,29 +7,32 @@ ghost use Rattle.reset_log.specs.Cause.{StoppedWriting};
 ghost use Rattle.reset_log.specs.Answered.{IsExact, IsComplete, IsFront, IsSure};
 ghost use Rattle.reset_log.specs.Wrote.{Wrote, WroteFront, WroteFrontOf};
 ghost use Rattle.nosy_dump.specs.Record.{IsOpen, EndsSo};
-ghost use Rattle.nosy_dump.specs.Dump.{last_heard, IsDumpShown, IsWritten, IsBegunWritten};
+ghost use Rattle.std.specs.Option.{option_copied};
+ghost use Rattle.nosy_dump.specs.Dump.{IsJudged, last_text, IsDumpShown, IsWritten, IsBegunWritten};
+ghost use Rattle.nosy_dump.specs.Notes.{noted};
 ghost use Rattle.nosy_dump.specs.codings.Going.{IsNew, Stands, IsWhole, ShowsReset, Shows, Begins, Keeps, Goes, ShowsPart, BreaksOff, Broke, ShowsAll};
 
+use crate::notes::Notes;
 use crate::record::{DumpFault, DumpReset, Record, is_size, record_of, size_of};
-use crate::texts::{fault_text, head};
+use crate::texts::{end_text, head};
+use crate::values::{end_lines, reset_line};
 use io_edges::{Sink, Source, write_whole};
 use quad_lanes::QuadList;
-use reset_log::{ListShown, LogStop, MAX_LOG, Origin, show_list};
-use self_id::Standard;
-use std::alloc::Global;
+use reset_log::{ListShown, LogForm, LogStop, MAX_LOG, Origin, show_list};
+use std::alloc::{AllocError, Global};
 use topology_stack::BusTree;
 
 /// The most bytes of one read.
 const PIECE: usize = 4096;
 
-/// A reader of a dump. It keeps the record that isn't whole yet, the reset whose packets are gathered,
-/// and the last tree.
+/// A reader of a dump. It keeps the record that isn't whole yet, the reset whose packets are gathered, and
+/// what is noted of the resets before.
 #[derive(Debug, Drop)]
 pub(crate) struct DumpReader {
-    standard: Standard,
+    form: LogForm,
     part: Vec<u8>,
     pending: Option<DumpReset>,
-    tree: Option<BusTree>,
+    notes: Notes,
     number: u64,
     taken: usize,
     bad: bool,
@@ -61,32 +64,58 @@ fn is_bad(refused: bool, fault: Option<DumpFault>) -> bool
     }
 }
 
+/// What is shown in a form of the reset with this number, and the tree that its list is heard as.
+fn show_judged(
+    alloc: Global,
+    form: LogForm,
+    number: u64,
+    before: Option<&BusTree>,
+    reset: &DumpReset,
+) -> Result<ListShown, AllocError>
+    ensures { IfOk result (λ shown. IsJudged form number (option_copied before.entry) reset.now
+        shown.text.items shown.tree) }
+{
+    match form {
+        LogForm::Text(standard) => {
+            let head = head(alloc, number, reset)?;
+            let list = reset.list.as_slice();
+            let shown = show_list(alloc, standard, Origin::Core, &head, before, list)?;
+            Ok(shown)
+        }
+        LogForm::Json(standard) => reset_line(alloc, standard, number, reset),
+    }
+}
+
+/// What is shown in a form behind the last reset of a dump.
+fn last_text(
+    alloc: Global,
+    form: LogForm,
+    byte: u64,
+    fault: Option<DumpFault>,
+    notes: &Notes,
+) -> Result<Vec<u8>, AllocError>
+    ensures { IfOk result (λ text. text.items ≡ last_text form byte fault (noted notes.now)) }
+{
+    match form {
+        LogForm::Text(_) => end_text(alloc, byte, fault, notes),
+        LogForm::Json(_) => end_lines(alloc, byte, fault, notes),
+    }
+}
+
 impl DumpReader {
     /// A reader that was given nothing.
-    fn new(alloc: Global, standard: Standard) -> DumpReader
+    fn new(alloc: Global, form: LogForm) -> DumpReader
         ensures start { IsNew result }
-        ensures same { result.standard ≡ standard }
+        ensures same { result.form ≡ form }
     {
         DumpReader {
-            standard,
+            form,
             part: Vec::new(alloc),
             pending: None,
-            tree: None,
+            notes: Notes::new(alloc),
             number: 1,
             taken: 0,
             bad: false,
-        }
-    }
-
-    /// Keeps the tree that a list is heard as, or that it is refused.
-    fn keep_heard(&mut self, tree: Option<BusTree>)
-        ensures tree { self.new.tree ≡ last_heard self.old.tree tree }
-        ensures bad { self.new.bad ≡ self.old.bad || is_none tree }
-        ensures rest { self.new ≡ record self.old { tree = self.new.tree; bad = self.new.bad } }
-    {
-        match tree {
-            Some(tree) => self.tree = Some(tree),
-            None => self.bad = true,
         }
     }
 
@@ -98,33 +127,26 @@ impl DumpReader {
         sink: &mut K,
     ) -> Result<(), LogStop>
         ensures ok { OnOk result (ShowsReset K.written K.faults K.surely_takes
-            self.old.standard reset.now self.old.number self.old.tree self.old.bad
-            self.new.number self.new.tree self.new.bad sink.old sink.new) }
+            self.old.form reset.now self.old.number (noted self.old.notes) self.old.bad
+            self.new.number (noted self.new.notes) self.new.bad sink.old sink.new) }
         ensures part { OnErr result ((sink.new ≡ sink.old)
             ⊎ ShowsPart K.written K.faults K.surely_takes
-            self.old.standard reset.now self.old.number self.old.tree sink.old sink.new) }
+            self.old.form reset.now self.old.number (noted self.old.notes) sink.old sink.new) }
         ensures rest { OnOk result (self.new ≡ record self.old {
           number = self.new.number;
-          tree = self.new.tree;
+          notes = self.new.notes;
           bad = self.new.bad;
         }) }
         ensures stops { IfErr result (StoppedWriting (K.faults sink.old) (K.faults sink.new)) }
         ensures later { K.faults sink.old ≤ K.faults sink.new }
     {
-        let head = head(alloc, self.number, reset)?;
-        let list = reset.list.as_slice();
-        let before = self.tree.as_ref();
-        let ListShown { text, tree } = show_list(
-            alloc,
-            self.standard,
-            Origin::Core,
-            &head,
-            before,
-            list,
-        )?;
+        let before = self.notes.tree.as_ref();
+        let ListShown { text, tree } = show_judged(alloc, self.form, self.number, before, reset)?;
+        let refused = tree.is_none();
+        self.notes.keep(tree)?;
         put(sink, &text)?;
+        self.bad = self.bad || refused;
         self.number = self.number.saturating_add(1);
-        self.keep_heard(tree);
         Ok(())
     }
 
@@ -186,9 +208,9 @@ impl DumpReader {
             Stands K.written K.faults K.surely_takes IsOpen self.new done start sink.new) }
         ensures part { OnErr result ((done : List ℕ) (start : K) → length done ≤ 9223372036854775807 →
             Stands K.written K.faults K.surely_takes IsWhole self.old done start sink.old →
-            Broke K.written K.faults K.surely_takes self.old.standard done start sink.new) }
+            Broke K.written K.faults K.surely_takes self.old.form done start sink.new) }
         ensures stops { IfErr result (StoppedWriting (K.faults sink.old) (K.faults sink.new)) }
-        ensures same { OnOk result (self.new.standard ≡ self.old.standard) }
+        ensures same { OnOk result (self.new.form ≡ self.old.form) }
         ensures later { K.faults sink.old ≤ K.faults sink.new }
     {
         let byte = self.taken.saturating_sub(self.part.len());
@@ -216,9 +238,9 @@ impl DumpReader {
         ensures part { OnErr result ((done : List ℕ) (start : K) → length done < 9223372036854775807 →
             Stands K.written K.faults K.surely_takes IsOpen self.old done start sink.old →
             Broke K.written K.faults K.surely_takes
-            self.old.standard (done ++ byte ∷ []) start sink.new) }
+            self.old.form (done ++ byte ∷ []) start sink.new) }
         ensures stops { IfErr result (StoppedWriting (K.faults sink.old) (K.faults sink.new)) }
-        ensures same { OnOk result (self.new.standard ≡ self.old.standard) }
+        ensures same { OnOk result (self.new.form ≡ self.old.form) }
         ensures later { K.faults sink.old ≤ K.faults sink.new }
     {
         self.taken = self.taken.saturating_add(1);
@@ -252,9 +274,9 @@ impl DumpReader {
             length done + length bytes.now ≤ 9223372036854775807 →
             Stands K.written K.faults K.surely_takes IsOpen self.old done start sink.old →
             Broke K.written K.faults K.surely_takes
-            self.old.standard (done ++ bytes.now) start sink.new) }
+            self.old.form (done ++ bytes.now) start sink.new) }
         ensures stops { IfErr result (StoppedWriting (K.faults sink.old) (K.faults sink.new)) }
-        ensures same { OnOk result (self.new.standard ≡ self.old.standard) }
+        ensures same { OnOk result (self.new.form ≡ self.old.form) }
         ensures later { K.faults sink.old ≤ K.faults sink.new }
     {
         for byte in bytes {
@@ -265,8 +287,8 @@ impl DumpReader {
         Ok(None)
     }
 
-    /// Shows the reset that waits, and the dump's fault if it has one. It says whether anything was at
-    /// fault.
+    /// Shows the reset that waits, the dump's fault if it has one, and what was counted in all. It says
+    /// whether anything was at fault.
     fn finish<K: Sink>(
         &mut self,
         alloc: Global,
@@ -277,19 +299,20 @@ impl DumpReader {
             length done ≤ 9223372036854775807 → Stands K.written K.faults K.surely_takes
             (λ bytes. EndsSo (bytes ++ more) fault) self.old done start sink.old →
             ShowsAll K.written K.faults K.surely_takes
-            self.old.standard (done ++ more) bad start sink.new) }
+            self.old.form (done ++ more) bad start sink.new) }
         ensures part { OnErr result ((done more : List ℕ) (start : K) →
             length done ≤ 9223372036854775807 → Stands K.written K.faults K.surely_takes
             (λ bytes. EndsSo (bytes ++ more) fault) self.old done start sink.old →
             WroteFrontOf K.written K.faults K.surely_takes
-            (IsDumpShown self.old.standard (done ++ more)) start sink.new) }
+            (IsDumpShown self.old.form (done ++ more)) start sink.new) }
         ensures none { IfOk result (λ bad. bad ≡ false → fault ≡ None) }
         ensures stops { IfErr result (StoppedWriting (K.faults sink.old) (K.faults sink.new)) }
         ensures later { K.faults sink.old ≤ K.faults sink.new }
     {
         let byte = self.taken.saturating_sub(self.part.len());
+        let form = self.form;
         self.show(alloc, sink)?;
-        let text = fault_text(alloc, byte as u64, fault)?;
+        let text = last_text(alloc, form, byte as u64, fault, &self.notes)?;
         put(sink, &text)?;
         Ok(is_bad(self.bad, fault))
     }
@@ -306,26 +329,26 @@ impl DumpReader {
     }
 }
 
-/// Shows the bus at each reset in a dump, by a standard: what `nosy-dump --output` of the Linux kernel
+/// Shows in a form the bus at each reset in a dump: what `nosy-dump --output` of the Linux kernel
 /// recorded, to its end. It says whether anything was at fault: a list that no bus can have sent, a
 /// record with a length that can't be, or a record that the dump ends within. Behind such a length
 /// nothing is read. A reset is shown once the next one comes, or at the end, and before the source is
-/// asked for more.
+/// asked for more. The last line is what was counted in all.
 ///
 /// `ReadFault` and `WriteFault` come only where the count of faults of the source or of the sink
 /// rose, and `TooLong` exactly where the source gave more than 9,223,372,036,854,775,807 bytes. After each of them,
 /// and where there was no memory, the front of the text is written; after `ReadFault` at least what
 /// is shown of each reset that another one followed is written. It keeps one record of at most 65,536
-/// bytes, the packets of one reset, and the last tree.
+/// bytes, the packets of one reset, the last tree, and a count for each node that began a reset.
 pub fn show_dump<S: Source, K: Sink>(
     alloc: Global,
-    standard: Standard,
+    form: LogForm,
     source: &mut S,
     sink: &mut K,
 ) -> Result<bool, LogStop>
     // What is shown of the dump is written.
     ensures shown { IfOk result (λ bad. IfSome (S.left source.old) (λ dump.
-        IsWritten standard (K.written sink.old) (K.written sink.new) dump bad)) }
+        IsWritten form (K.written sink.old) (K.written sink.new) dump bad)) }
     ensures end { IfOk result (λ bad. bad ≡ false → IsAtEnd (S.left source.new)) }
 
     // When each stop comes, and what was written before a read that failed.
@@ -337,23 +360,23 @@ pub fn show_dump<S: Source, K: Sink>(
         IsErrOf result LogStop.TooLong ↔ TookOver 9223372036854775807 old new) }
     ensures waits { IsErrOf result LogStop.ReadFault → (read : List ℕ)
         × Consumes (S.left source.old) (S.left source.new) read
-        × IsBegunWritten standard (K.written sink.old) (K.written sink.new) read }
+        × IsBegunWritten form (K.written sink.old) (K.written sink.new) read }
     ensures part { IsErr result → IfSome (S.left source.old) (λ dump.
-        IsFront (IsDumpShown standard dump) (K.written sink.old) (K.written sink.new)) }
+        IsFront (IsDumpShown form dump) (K.written sink.old) (K.written sink.new)) }
 
     // The dump's one text is answered, unless another stop has its cause.
     ensures exact { IfSome (S.left source.old) (λ dump.
-        IsExact (IsDumpShown standard dump) result) }
+        IsExact (IsDumpShown form dump) result) }
     ensures complete { ¬ Rose (S.faults source.old) (S.faults source.new) →
         ¬ Rose (K.faults sink.old) (K.faults sink.new) → IfSome (S.left source.old) (λ dump.
-        length dump ≤ 9223372036854775807 → IsComplete (IsDumpShown standard dump) result
+        length dump ≤ 9223372036854775807 → IsComplete (IsDumpShown form dump) result
         (K.written sink.old) (K.written sink.new)) }
 
     // A sink that surely takes the text has no fault.
-    ensures sure { IfSome (S.left source.old) (λ dump. IsSure (IsDumpShown standard dump)
+    ensures sure { IfSome (S.left source.old) (λ dump. IsSure (IsDumpShown form dump)
         (K.surely_takes sink.old) (K.faults sink.old) (K.faults sink.new)) }
 {
-    let mut reader = DumpReader::new(alloc, standard);
+    let mut reader = DumpReader::new(alloc, form);
     let mut buf = [0u8; PIECE];
     loop {
         let Ok(count) = source.read(&mut buf) else {

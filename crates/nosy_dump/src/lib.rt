@@ -8,10 +8,12 @@
 mod dump;
 mod form;
 mod laws;
+mod notes;
 mod record;
 mod texts;
+mod values;
 
 pub use dump::show_dump;
-pub use form::dump_standard;
+pub use form::dump_form;
 pub use laws::dumps_have_one_text;
 pub use record::{DumpFault, DumpReset, Record, record_of};

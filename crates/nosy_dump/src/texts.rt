@@ -1,8 +1,11 @@
 //! The texts of a dump's resets and of its fault.
 ghost use Rattle.std.specs.Prelude.{◌≡◌, ◌++◌, IfOk, OnOk};
-ghost use Rattle.nosy_dump.specs.Texts.{head, cut_text, length_text, fault_text};
+ghost use Rattle.nosy_dump.specs.Texts.{head, cut_text, length_text, fault_text, begun, most, totals, end_text};
+ghost use Rattle.nosy_dump.specs.Notes.{noted};
 
+use crate::notes::Notes;
 use crate::record::{DumpFault, DumpReset};
+use reset_log::{Tally, most_of};
 use std::alloc::{AllocError, Global};
 use view_text::put_field;
 
@@ -45,19 +48,61 @@ fn put_length(out: &mut Vec<u8>, byte: u64, size: u32) -> Result<(), AllocError>
     Ok(())
 }
 
-/// The text of the fault that a dump has at this byte, if it has one.
-pub(crate) fn fault_text(
+/// Appends the fault that a dump has at this byte, if it has one.
+fn put_fault(out: &mut Vec<u8>, byte: u64, fault: Option<DumpFault>) -> Result<(), AllocError>
+    ensures { OnOk result (out.new.items ≡ out.old.items ++ fault_text byte fault) }
+{
+    match fault {
+        None => Ok(()),
+        Some(DumpFault::Cut) => put_cut(out, byte),
+        Some(DumpFault::BadLength { size }) => put_length(out, byte, size),
+    }
+}
+
+/// Appends how many resets a node began.
+#[tactic(auto, unfolding(crate::specs::Texts::begun))]
+fn put_begun(out: &mut Vec<u8>, tally: Tally) -> Result<(), AllocError>
+    ensures { OnOk result (out.new.items ≡ out.old.items ++ begun tally) }
+{
+    put_field(out, b", most begun by node ", u64::from(tally.node))?;
+    put_field(out, b": ", tally.count)?;
+    Ok(())
+}
+
+fn put_most(out: &mut Vec<u8>, tally: Option<Tally>) -> Result<(), AllocError>
+    ensures { OnOk result (out.new.items ≡ out.old.items ++ most tally) }
+{
+    match tally {
+        Some(tally) => put_begun(out, tally),
+        None => Ok(()),
+    }
+}
+
+/// Appends the last line of a dump.
+#[tactic(auto, unfolding(crate::specs::Texts::totals))]
+fn put_totals(out: &mut Vec<u8>, notes: &Notes) -> Result<(), AllocError>
+    ensures { OnOk result (out.new.items ≡ out.old.items ++ totals (noted notes.now)) }
+{
+    put_field(out, b"resets ", notes.counts.resets)?;
+    put_field(out, b" refused ", notes.counts.refused)?;
+    put_most(out, most_of(&notes.tallies))?;
+    out.extend_from_slice(b"\n")?;
+    Ok(())
+}
+
+/// What is shown behind the resets of a dump: the fault that it has at this byte, if it has one, and what
+/// was counted in all.
+#[tactic(auto, unfolding(crate::specs::Texts::end_text))]
+pub(crate) fn end_text(
     alloc: Global,
     byte: u64,
     fault: Option<DumpFault>,
+    notes: &Notes,
 ) -> Result<Vec<u8>, AllocError>
-    ensures { IfOk result (λ text. text.items ≡ fault_text byte fault) }
+    ensures { IfOk result (λ text. text.items ≡ end_text byte fault (noted notes.now)) }
 {
     let mut text = Vec::new(alloc);
-    match fault {
-        None => {}
-        Some(DumpFault::Cut) => put_cut(&mut text, byte)?,
-        Some(DumpFault::BadLength { size }) => put_length(&mut text, byte, size)?,
-    }
+    put_fault(&mut text, byte, fault)?;
+    put_totals(&mut text, notes)?;
     Ok(text)
 }

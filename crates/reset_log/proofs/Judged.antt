@@ -2,24 +2,31 @@
 use Rattle.std.proofs.Common.{◌≡◌, ℕ, Bool, true, false, is_none, is_some, Option, Some, None, List, refl, subst}
 use Rattle.std.specs.Prelude.{not}
 use Rattle.self_id.specs.declared.standard.Standard.{Standard}
+use Rattle.reset_log.specs.declared.form.LogForm.{LogForm}
+use Rattle.reset_log.specs.declared.form.LogForm.TheVariants.{Text}
 use Rattle.topology_stack.specs.Tree.{Tree}
 use Rattle.reset_log.specs.declared.line.Reset.{Reset}
 use Rattle.reset_log.specs.declared.cards.Known.{Known}
 use Rattle.reset_log.specs.Noted.{Noted, is_repeated, compared, after}
 use Rattle.reset_log.specs.Texts.{head}
-use Rattle.reset_log.specs.Shown.{IsListShown, IsResetShown, is_judged}
+use Rattle.reset_log.specs.Shown.{IsListShown, IsJudged, IsResetShown, is_judged}
 
-pub judged : (standard : Standard) (number : ℕ) (before : Option Known) (n next : Noted) (r : Reset) (front list text : List ℕ) (old heard : Option Tree) (bad : Bool) →
-    is_repeated before r ≡ false → r.is_error ≡ false → front ≡ head number before r → list ≡ r.list →
-    old ≡ compared before r → IsListShown standard r.origin front list old text heard →
+pub judged : (form : LogForm) (number : ℕ) (before : Option Known) (n next : Noted) (r : Reset) (text : List ℕ) (heard : Option Tree) (bad : Bool) →
+    is_repeated before r ≡ false → r.is_error ≡ false → IsJudged form number before r text heard →
     bad ≡ is_none heard → next ≡ after n r heard bad →
-    IsResetShown standard number before n r text bad next
-judged standard number before n next r front list text old heard bad new no_error is_front is_list is_old shown is_bad is_next =
-    is_judged heard new no_error
-    (subst (λ (f : List ℕ). IsListShown standard r.origin f r.list (compared before r) text heard) is_front
+    IsResetShown form number before n r text bad next
+judged form number before n next r text heard bad new no_error shown is_bad is_next =
+    is_judged heard new no_error shown is_bad (subst (λ (b : Bool). next ≡ after n r heard b) is_bad is_next)
+
+-- as text
+pub in_text : (standard : Standard) (number : ℕ) (before : Option Known) (r : Reset) (front list text : List ℕ) (old heard : Option Tree) →
+    front ≡ head number before r → list ≡ r.list → old ≡ compared before r →
+    IsListShown standard r.origin front list old text heard →
+    IsJudged (Text standard) number before r text heard
+in_text standard number before r front list text old heard is_front is_list is_old shown =
+    subst (λ (f : List ℕ). IsListShown standard r.origin f r.list (compared before r) text heard) is_front
     (subst (λ (l : List ℕ). IsListShown standard r.origin front l (compared before r) text heard) is_list
-    (subst (λ (b : Option Tree). IsListShown standard r.origin front list b text heard) is_old shown)))
-    is_bad (subst (λ (b : Bool). next ≡ after n r heard b) is_bad is_next)
+    (subst (λ (b : Option Tree). IsListShown standard r.origin front list b text heard) is_old shown))
 
 pub none_is : (heard : Option Tree) (bad : Bool) → is_some heard ≡ not bad → bad ≡ is_none heard
 none_is None true e = refl

@@ -15,3 +15,6 @@ pub mod Fronts
 mod Unmarked
 pub mod Lemmas
 pub mod SomeText
+pub mod Tokens
+pub mod Shallow
+pub mod Ascii

@@ -4,6 +4,12 @@ use Rattle.quad_lanes.specs.Pairs.{first_bad_pair}
 use Rattle.phy_packet.specs.declared.packet.PhyPacket.{PhyPacket}
 use Rattle.phy_packet.proofs.Lemmas.{packet-shown}
 use Rattle.self_id.specs.declared.standard.Standard.{Standard}
+use Rattle.json.specs.Json.{Members}
+use Rattle.bus_json.specs.Text.{json_line}
+use Rattle.bus_json.specs.Bus.{tree_members}
+use Rattle.reset_log.specs.declared.form.LogForm.{LogForm}
+use Rattle.reset_log.specs.declared.form.LogForm.TheVariants.{Text, Json}
+use Rattle.reset_log.specs.Json.{list_fault, IsListTold, told_refused, told_heard, reset_value}
 use Rattle.self_id.specs.Node.{Node}
 use Rattle.topology_stack.specs.declared.fault.TreeFault.{TreeFault}
 use Rattle.topology_stack.specs.Refused.{Refused}
@@ -24,10 +30,10 @@ use Rattle.reset_log.specs.declared.line.Begun.{Begun}
 use Rattle.reset_log.specs.declared.notes.Pending.{Pending}
 use Rattle.reset_log.specs.Line.{line_of}
 use Rattle.reset_log.specs.Hear.{AreQuads, IsHeard, IsUnheard}
-use Rattle.reset_log.specs.Texts.{head, totals, numbers, changes, initiators, refused}
+use Rattle.reset_log.specs.Texts.{head, numbers, changes, initiators, refused}
 use Rattle.reset_log.specs.Sentence.{packet_count, IsBefore, sentence, IsRefusalShown}
 use Rattle.topology_stack.specs.Tree.{walk}
-use Rattle.reset_log.specs.Shown.{IsBody, the_same, drawn, IsTreeShown, IsListShown, is_refused, is_heard, IsResetShown, is_passed_over, is_unjudged, is_judged, IsPendingShown, IsBegunShown, IsLastShown, IsPacketShown, IsShown, IsLineShown}
+use Rattle.reset_log.specs.Shown.{IsBody, the_same, drawn, IsTreeShown, IsListShown, is_refused, is_heard, IsJudged, totals_text, IsResetShown, is_passed_over, is_unjudged, is_judged, IsPendingShown, IsBegunShown, IsLastShown, IsPacketShown, IsShown, IsLineShown}
 use Rattle.reset_log.specs.Log.{lines_of, IsLogShown}
 use Rattle.reset_log.specs.OneText.{NoLogHasTwoTexts}
 use Rattle.reset_log.proofs.InOrder.{AreSame, told_once}
@@ -163,69 +169,90 @@ same_list standard origin front list before a b h g (is_heard t heard shown e) (
 both : (x : Bool) → x ≡ true → x ≡ false → ⊥
 both x e f = cc
 
-same_reset : (standard : Standard) (n : ℕ) (before : Option Known) (ks : Noted) (r : Reset) (a b : List ℕ) (c d : Bool) (p q : Noted) →
-    IsResetShown standard n before ks r a c p → IsResetShown standard n before ks r b d q →
+-- a list is told as one thing
+pub same_told : (standard : Standard) (origin : Origin) (list : List ℕ) (a b : Members) (h g : Option Tree) →
+    IsListTold standard origin list a h → IsListTold standard origin list b g → (a ≡ b) × (h ≡ g)
+same_told standard origin list a b h g (told_refused f un shown e) (told_refused k too again d) =
+    (shown ∙ ap (λ (x : ListFault). list_fault x) (same_fault standard origin list f k un too) ∙ sym again, e ∙ sym d)
+same_told standard origin list a b h g (told_refused f un shown e) (told_heard t heard again d) =
+    absurd (apart standard origin list t f heard un)
+same_told standard origin list a b h g (told_heard t heard shown e) (told_refused f un again d) =
+    absurd (apart standard origin list t f heard un)
+same_told standard origin list a b h g (told_heard t heard shown e) (told_heard u too again d) =
+    let same : t ≡ u = same_heard standard origin list t u heard too in
+    (shown ∙ ap (λ (x : Tree). tree_members [] x) same ∙ sym again, e ∙ ap (λ (x : Tree). Some x) same ∙ sym d)
+
+same_judged : (form : LogForm) (n : ℕ) (before : Option Known) (r : Reset) (a b : List ℕ) (h g : Option Tree) →
+    IsJudged form n before r a h → IsJudged form n before r b g → (a ≡ b) × (h ≡ g)
+same_judged (Text standard) n before r a b h g x y =
+    same_list standard r.origin (head n before r) r.list (compared before r) a b h g x y
+same_judged (Json standard) n before r a b h g x y =
+    let same = same_told standard r.origin r.list x.members y.members h g x.told y.told in
+    (x.text_is ∙ ap (λ (m : Members). json_line (reset_value n before r m)) same.0 ∙ sym y.text_is, same.1)
+
+same_reset : (form : LogForm) (n : ℕ) (before : Option Known) (ks : Noted) (r : Reset) (a b : List ℕ) (c d : Bool) (p q : Noted) →
+    IsResetShown form n before ks r a c p → IsResetShown form n before ks r b d q →
     AreSame a b c d p q
-same_reset standard n before ks r a b c d p q (is_passed_over rep e f g) (is_passed_over too h i j) =
+same_reset form n before ks r a b c d p q (is_passed_over rep e f g) (is_passed_over too h i j) =
     (e ∙ sym h, f ∙ sym i, g ∙ sym j)
-same_reset standard n before ks r a b c d p q (is_passed_over rep e f g) (is_unjudged new err h i j) = absurd (both _ rep new)
-same_reset standard n before ks r a b c d p q (is_passed_over rep e f g) (is_judged heard new well shown i j) = absurd (both _ rep new)
-same_reset standard n before ks r a b c d p q (is_unjudged new err e f g) (is_passed_over rep h i j) = absurd (both _ rep new)
-same_reset standard n before ks r a b c d p q (is_judged heard new well shown e f) (is_passed_over rep h i j) = absurd (both _ rep new)
-same_reset standard n before ks r a b c d p q (is_unjudged new err e f g) (is_unjudged now too h i j) =
+same_reset form n before ks r a b c d p q (is_passed_over rep e f g) (is_unjudged new err h i j) = absurd (both _ rep new)
+same_reset form n before ks r a b c d p q (is_passed_over rep e f g) (is_judged heard new well shown i j) = absurd (both _ rep new)
+same_reset form n before ks r a b c d p q (is_unjudged new err e f g) (is_passed_over rep h i j) = absurd (both _ rep new)
+same_reset form n before ks r a b c d p q (is_judged heard new well shown e f) (is_passed_over rep h i j) = absurd (both _ rep new)
+same_reset form n before ks r a b c d p q (is_unjudged new err e f g) (is_unjudged now too h i j) =
     (e ∙ sym h, f ∙ sym i, g ∙ sym j)
-same_reset standard n before ks r a b c d p q (is_unjudged new err e f g) (is_judged heard now well shown i j) = absurd (both r.is_error err well)
-same_reset standard n before ks r a b c d p q (is_judged heard new well shown i j) (is_unjudged now err e f g) = absurd (both r.is_error err well)
-same_reset standard n before ks r a b c d p q (is_judged h new well shown e f) (is_judged g now too again i j) =
-    let same = same_list standard r.origin (head n before r) r.list (compared before r) a b h g shown again in (
+same_reset form n before ks r a b c d p q (is_unjudged new err e f g) (is_judged heard now well shown i j) = absurd (both r.is_error err well)
+same_reset form n before ks r a b c d p q (is_judged heard new well shown i j) (is_unjudged now err e f g) = absurd (both r.is_error err well)
+same_reset form n before ks r a b c d p q (is_judged h new well shown e f) (is_judged g now too again i j) =
+    let same = same_judged form n before r a b h g shown again in (
       same.0,
       e ∙ ap (λ (t : Option Tree). is_none t) same.1 ∙ sym i,
       f ∙ ap (λ (t : Option Tree). after ks r t (is_none t)) same.1 ∙ sym j,
     )
 
-same_pending : (standard : Standard) (pending : Option Pending) (ks : Noted) (a b : List ℕ) (c d : Bool) (p q : Noted) →
-    IsPendingShown standard pending ks a c p → IsPendingShown standard pending ks b d q → AreSame a b c d p q
-same_pending standard None ks a b c d p q x y = (x.0 ∙ sym y.0, x.1 ∙ sym y.1, x.2 ∙ sym y.2)
-same_pending standard (Some w) ks a b c d p q x y = same_reset standard w.number (last_of w.reset.card ks.cards) ks w.reset a b c d p q x y
+same_pending : (form : LogForm) (pending : Option Pending) (ks : Noted) (a b : List ℕ) (c d : Bool) (p q : Noted) →
+    IsPendingShown form pending ks a c p → IsPendingShown form pending ks b d q → AreSame a b c d p q
+same_pending form None ks a b c d p q x y = (x.0 ∙ sym y.0, x.1 ∙ sym y.1, x.2 ∙ sym y.2)
+same_pending form (Some w) ks a b c d p q x y = same_reset form w.number (last_of w.reset.card ks.cards) ks w.reset a b c d p q x y
 
-same_begun : (standard : Standard) (n : ℕ) (ks : Noted) (begun : Begun) (a b : List ℕ) (c d : Bool) (p q : Noted) →
-    IsBegunShown standard n ks begun a c p → IsBegunShown standard n ks begun b d q → AreSame a b c d p q
-same_begun standard n ks begun a b c d p q x y =
-    let same = same_pending standard ks.pending (waiting None ks) a b c d x.mid y.mid x.shown y.shown in
+same_begun : (form : LogForm) (n : ℕ) (ks : Noted) (begun : Begun) (a b : List ℕ) (c d : Bool) (p q : Noted) →
+    IsBegunShown form n ks begun a c p → IsBegunShown form n ks begun b d q → AreSame a b c d p q
+same_begun form n ks begun a b c d p q x y =
+    let same = same_pending form ks.pending (waiting None ks) a b c d x.mid y.mid x.shown y.shown in
     (same.0, same.1, x.next_is ∙ ap (λ (m : Noted). waiting (Some (begun_at n begun)) m) same.2 ∙ sym y.next_is)
 
-same_last : (standard : Standard) (last : Bool) (w : Pending) (ks : Noted) (a b : List ℕ) (c d : Bool) (p q : Noted) →
-    IsLastShown standard last w ks a c p → IsLastShown standard last w ks b d q → AreSame a b c d p q
-same_last standard false w ks a b c d p q x y = (x.0 ∙ sym y.0, x.1 ∙ sym y.1, x.2 ∙ sym y.2)
-same_last standard true w ks a b c d p q x y = same_pending standard (Some w) (waiting None ks) a b c d p q x y
+same_last : (form : LogForm) (last : Bool) (w : Pending) (ks : Noted) (a b : List ℕ) (c d : Bool) (p q : Noted) →
+    IsLastShown form last w ks a c p → IsLastShown form last w ks b d q → AreSame a b c d p q
+same_last form false w ks a b c d p q x y = (x.0 ∙ sym y.0, x.1 ∙ sym y.1, x.2 ∙ sym y.2)
+same_last form true w ks a b c d p q x y = same_pending form (Some w) (waiting None ks) a b c d p q x y
 
-same_packet : (standard : Standard) (taken : Option Pending) (ks : Noted) (a b : List ℕ) (c d : Bool) (p q : Noted) →
-    IsPacketShown standard taken ks a c p → IsPacketShown standard taken ks b d q → AreSame a b c d p q
-same_packet standard None ks a b c d p q x y = (x.0 ∙ sym y.0, x.1 ∙ sym y.1, x.2 ∙ sym y.2)
-same_packet standard (Some w) ks a b c d p q x y = same_last standard (w.left == 0) w ks a b c d p q x y
+same_packet : (form : LogForm) (taken : Option Pending) (ks : Noted) (a b : List ℕ) (c d : Bool) (p q : Noted) →
+    IsPacketShown form taken ks a c p → IsPacketShown form taken ks b d q → AreSame a b c d p q
+same_packet form None ks a b c d p q x y = (x.0 ∙ sym y.0, x.1 ∙ sym y.1, x.2 ∙ sym y.2)
+same_packet form (Some w) ks a b c d p q x y = same_last form (w.left == 0) w ks a b c d p q x y
 
-same_shown : (standard : Standard) (n : ℕ) (ks : Noted) (line : LogLine) (a b : List ℕ) (c d : Bool) (p q : Noted) →
-    IsShown standard n ks line a c p → IsShown standard n ks line b d q → AreSame a b c d p q
-same_shown standard n ks Other a b c d p q x y = (x.0 ∙ sym y.0, x.1 ∙ sym y.1, x.2 ∙ sym y.2)
-same_shown standard n ks Lost a b c d p q x y = (x.0 ∙ sym y.0, x.1 ∙ sym y.1, x.2 ∙ sym y.2)
-same_shown standard n ks (Said words) a b c d p q x y = (x.0 ∙ sym y.0, x.1 ∙ sym y.1, x.2 ∙ sym y.2)
-same_shown standard n ks (Begins begun) a b c d p q x y = same_begun standard n ks begun a b c d p q x y
-same_shown standard n ks (Packet card quad) a b c d p q x y = same_packet standard (taken_by ks.pending card quad) ks a b c d p q x y
-same_shown standard n ks Garbled a b c d p q x y = (x.0 ∙ sym y.0, x.1 ∙ sym y.1, x.2 ∙ sym y.2)
-same_shown standard n ks (OfReset r) a b c d p q x y = same_reset standard n (last_of r.card ks.cards) ks r a b c d p q x y
+same_shown : (form : LogForm) (n : ℕ) (ks : Noted) (line : LogLine) (a b : List ℕ) (c d : Bool) (p q : Noted) →
+    IsShown form n ks line a c p → IsShown form n ks line b d q → AreSame a b c d p q
+same_shown form n ks Other a b c d p q x y = (x.0 ∙ sym y.0, x.1 ∙ sym y.1, x.2 ∙ sym y.2)
+same_shown form n ks Lost a b c d p q x y = (x.0 ∙ sym y.0, x.1 ∙ sym y.1, x.2 ∙ sym y.2)
+same_shown form n ks (Said words) a b c d p q x y = (x.0 ∙ sym y.0, x.1 ∙ sym y.1, x.2 ∙ sym y.2)
+same_shown form n ks (Begins begun) a b c d p q x y = same_begun form n ks begun a b c d p q x y
+same_shown form n ks (Packet card quad) a b c d p q x y = same_packet form (taken_by ks.pending card quad) ks a b c d p q x y
+same_shown form n ks Garbled a b c d p q x y = (x.0 ∙ sym y.0, x.1 ∙ sym y.1, x.2 ∙ sym y.2)
+same_shown form n ks (OfReset r) a b c d p q x y = same_reset form n (last_of r.card ks.cards) ks r a b c d p q x y
 
-pub same_line : (standard : Standard) (n : ℕ) (ks : Noted) (line a b : List ℕ) (c d : Bool) (p q : Noted) →
-    IsLineShown standard n ks line a c p → IsLineShown standard n ks line b d q →
+pub same_line : (form : LogForm) (n : ℕ) (ks : Noted) (line a b : List ℕ) (c d : Bool) (p q : Noted) →
+    IsLineShown form n ks line a c p → IsLineShown form n ks line b d q →
     AreSame a b c d p q
-same_line standard n ks line a b c d p q x y =
-    same_shown standard n ks (line_of line) a b c d p q x y
+same_line form n ks line a b c d p q x y =
+    same_shown form n ks (line_of line) a b c d p q x y
 
-pub one_lines : (standard : Standard) (lines : List (List ℕ)) (a b : List ℕ) (c d : Bool) →
-    IsLogShown standard lines a c → IsLogShown standard lines b d → (a ≡ b) × (c ≡ d)
-one_lines standard lines a b c d x y =
+pub one_lines : (form : LogForm) (lines : List (List ℕ)) (a b : List ℕ) (c d : Bool) →
+    IsLogShown form lines a c → IsLogShown form lines b d → (a ≡ b) × (c ≡ d)
+one_lines form lines a b c d x y =
     let same =
-    told_once (IsLineShown standard) (λ n ks line e f g h p q. same_line standard n ks line e f g h p q) 1 nothing lines x.told y.told c d x.known y.known x.shown y.shown
-    in (x.text_is ∙ ap (λ (l : List ℕ). l ++ totals x.known) same.0 ∙ ap (λ (k : Noted). y.told ++ totals k) same.2 ∙ sym y.text_is, same.1)
+    told_once (IsLineShown form) (λ n ks line e f g h p q. same_line form n ks line e f g h p q) 1 nothing lines x.told y.told c d x.known y.known x.shown y.shown
+    in (x.text_is ∙ ap (λ (l : List ℕ). l ++ totals_text form x.known) same.0 ∙ ap (λ (k : Noted). y.told ++ totals_text form k) same.2 ∙ sym y.text_is, same.1)
 
 pub one_text : NoLogHasTwoTexts
-one_text standard log a b c d x y = one_lines standard (lines_of log) a b c d x y
+one_text form log a b c d x y = one_lines form (lines_of log) a b c d x y

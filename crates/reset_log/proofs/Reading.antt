@@ -4,13 +4,13 @@ use Rattle.std.specs.Prelude.{IfSome}
 use Rattle.std.proofs.lemmas.Bool.Decides.{nat_tests}
 use Rattle.std.specs.Io.KnownBytes.{Consumes, IsAtEnd}
 use Rattle.io_edges.specs.Told.{StayTold, IfTold, TookOver}
-use Rattle.self_id.specs.declared.standard.Standard.{Standard}
+use Rattle.reset_log.specs.declared.form.LogForm.{LogForm}
 use Rattle.reset_log.specs.declared.log.LogReader.{LogReader}
 use Rattle.reset_log.specs.Shown.{IsLineShown}
 use Rattle.reset_log.specs.Log.{parted, open_lines, lines_of, AreShown}
 use Rattle.reset_log.specs.Notes.{noted}
 use Rattle.reset_log.specs.Noted.{nothing}
-use Rattle.reset_log.specs.Texts.{totals}
+use Rattle.reset_log.specs.Shown.{totals_text}
 use Rattle.reset_log.specs.Wrote.{Wrote}
 use Rattle.reset_log.specs.codings.Going.{IsNew, Stands, ShowsLine, ShowsLines, ShowsAll, Reads}
 use Rattle.reset_log.proofs.InOrder.{one_more}
@@ -42,14 +42,14 @@ front_of_none (suc n) (x ∷ xs) e = absurd cc
 
 pub ended : {K : Type 0} {w : K → Option (List ℕ)} {f : K → ℕ} {t : K → ℕ → Type 0} (old : LogReader) (done : List ℕ) (start was : K) →
     Stands w f t old done start was → length old.line.items ≡ 0 →
-    ShowsLines w f t old old.standard (lines_of done) start was
+    ShowsLines w f t old old.form (lines_of done) start was
 ended old done start was st e =
     let none : old.line.items ≡ [] = no_items old.line.items e in
     let unopened : (parted done).open_line ≡ [] = empty_front 65536 (parted done).open_line (omega arith) (sym st.holds.line_is ∙ none) in
     record {
       text = st.text;
       shown =
-          subst (λ (ls : List (List ℕ)). AreShown old.standard 1 nothing ls st.text old.bad (noted old.notes)) (sym (no_open done unopened)) st.holds.shown;
+          subst (λ (ls : List (List ℕ)). AreShown old.form 1 nothing ls st.text old.bad (noted old.notes)) (sym (no_open done unopened)) st.holds.shown;
       wrote = st.wrote;
     }
   where
@@ -59,28 +59,28 @@ ended old done start was st e =
 
 pub ended_line : {K : Type 0} {w : K → Option (List ℕ)} {f : K → ℕ} {t : K → ℕ → Type 0} (old new : LogReader) (done gathered : List ℕ) (start was is : K) →
     Stands w f t old done start was → (sh : ShowsLine old new [] gathered) → Wrote w f t was is gathered →
-    (length old.line.items ≡ 0 → ⊥) → ShowsLines w f t new old.standard (lines_of done) start is
+    (length old.line.items ≡ 0 → ⊥) → ShowsLines w f t new old.form (lines_of done) start is
 ended_line {w = w} {f = f} {t = t} old new done gathered start was is st sh wrote some =
     let opened : (parted done).open_line ≡ [] → ⊥ = λ e. some (ap (λ (l : List ℕ). length l) (st.holds.line_is ∙ front_of_none 65536 (parted done).open_line e)) in
-    let shown : IsLineShown old.standard (1 + length (parted done).lines) (noted old.notes) (parted done).open_line sh.text sh.here (noted new.notes) =
-    by_front old.standard old.number _ (noted old.notes) (noted old.notes) (noted new.notes) old.line.items (parted done).open_line sh.text sh.here (omega (arith, st.holds.number_is)) refl st.holds.line_is sh.shown in
+    let shown : IsLineShown old.form (1 + length (parted done).lines) (noted old.notes) (parted done).open_line sh.text sh.here (noted new.notes) =
+    by_front old.form old.number _ (noted old.notes) (noted old.notes) (noted new.notes) old.line.items (parted done).open_line sh.text sh.here (omega (arith, st.holds.number_is)) refl st.holds.line_is sh.shown in
     record {
       text = st.text ++ sh.text;
       shown =
-          subst (λ (b : Bool). AreShown old.standard 1 nothing (lines_of done) (st.text ++ sh.text) b (noted new.notes)) (sym sh.bad)
-          (subst (λ (ls : List (List ℕ)). AreShown old.standard 1 nothing ls (st.text ++ sh.text) (old.bad || sh.here) (noted new.notes)) (sym (some_open done opened))
-          (one_more (IsLineShown old.standard) 1 nothing (noted old.notes) (noted new.notes) (parted done).lines (parted done).open_line st.text sh.text old.bad sh.here st.holds.shown shown));
+          subst (λ (b : Bool). AreShown old.form 1 nothing (lines_of done) (st.text ++ sh.text) b (noted new.notes)) (sym sh.bad)
+          (subst (λ (ls : List (List ℕ)). AreShown old.form 1 nothing ls (st.text ++ sh.text) (old.bad || sh.here) (noted new.notes)) (sym (some_open done opened))
+          (one_more (IsLineShown old.form) 1 nothing (noted old.notes) (noted new.notes) (parted done).lines (parted done).open_line st.text sh.text old.bad sh.here st.holds.shown shown));
       wrote = wrote_then start was is st.text sh.text st.wrote (subst (λ (l : List ℕ). Wrote w f t was is l) sh.gathered wrote);
     }
 
 -- all lines, and behind them what was counted
-pub in_all : {K : Type 0} {w : K → Option (List ℕ)} {f : K → ℕ} {t : K → ℕ → Type 0} (r : LogReader) (standard : Standard) (lines : List (List ℕ)) (start was is : K) →
-    ShowsLines w f t r standard lines start was → Wrote w f t was is (totals (noted r.notes)) →
-    ShowsAll w f t standard lines r.bad start is
-in_all r standard lines start was is sh wrote = record {
-  text = sh.text ++ totals (noted r.notes);
+pub in_all : {K : Type 0} {w : K → Option (List ℕ)} {f : K → ℕ} {t : K → ℕ → Type 0} (r : LogReader) (form : LogForm) (lines : List (List ℕ)) (start was is : K) →
+    ShowsLines w f t r form lines start was → Wrote w f t was is (totals_text form (noted r.notes)) →
+    ShowsAll w f t form lines r.bad start is
+in_all r form lines start was is sh wrote = record {
+  text = sh.text ++ totals_text form (noted r.notes);
   is_shown = record { known = noted r.notes; told = sh.text; shown = sh.shown; text_is = refl };
-  wrote = wrote_then start was is sh.text (totals (noted r.notes)) sh.wrote wrote;
+  wrote = wrote_then start was is sh.text (totals_text form (noted r.notes)) sh.wrote wrote;
 }
 
 -- whether a line is kept
@@ -112,9 +112,9 @@ at_start r a new = record {
   wrote = wrote_nothing a;
 }
 
-pub at_first : {K : Type 0} {w : K → Option (List ℕ)} {f : K → ℕ} {t : K → ℕ → Type 0} (r : LogReader) (standard : Standard) (first : Option (List ℕ)) (was : K) (a : ℕ) →
-    IsNew r → r.standard ≡ standard → Reads w f t r standard first first was was a a
-at_first r standard first was a new same = record {
+pub at_first : {K : Type 0} {w : K → Option (List ℕ)} {f : K → ℕ} {t : K → ℕ → Type 0} (r : LogReader) (form : LogForm) (first : Option (List ℕ)) (was : K) (a : ℕ) →
+    IsNew r → r.form ≡ form → Reads w f t r form first first was was a a
+at_first r form first was a new same = record {
   done = [];
   came = nothing_came first;
   told = refl;
@@ -132,12 +132,12 @@ consumes_then (Some x) None c xs ys told p q = absurd p
 consumes_then (Some x) (Some y) None xs ys told p q = absurd q
 consumes_then (Some x) (Some y) (Some z) xs ys told p q = p ∙ ap (λ (w : List ℕ). xs ++ w) q ∙ sym (append_assoc xs ys z)
 
-pub reads_on : {K : Type 0} {w : K → Option (List ℕ)} {f : K → ℕ} {t : K → ℕ → Type 0} (r s : LogReader) (standard : Standard) (first now next : Option (List ℕ)) (was is will : K) (a b c : ℕ) (piece : List ℕ) →
-    Reads w f t r standard first now was is a b → Consumes now next piece → StayTold now next →
+pub reads_on : {K : Type 0} {w : K → Option (List ℕ)} {f : K → ℕ} {t : K → ℕ → Type 0} (r s : LogReader) (form : LogForm) (first now next : Option (List ℕ)) (was is will : K) (a b c : ℕ) (piece : List ℕ) →
+    Reads w f t r form first now was is a b → Consumes now next piece → StayTold now next →
     length piece ≤ 9223372036854775807 - r.taken →
     ((done : List ℕ) (start : K) → length done + length piece ≤ 9223372036854775807 → Stands w f t r done start is → Stands w f t s (done ++ piece) start will) →
-    s.standard ≡ r.standard → b ≤ c → f is ≤ f will → Reads w f t s standard first next was will a c
-reads_on r s standard first now next was is will a b c piece h came told fits taken same later wrote =
+    s.form ≡ r.form → b ≤ c → f is ≤ f will → Reads w f t s form first next was will a c
+reads_on r s form first now next was is will a b c piece h came told fits taken same later wrote =
     let size = h.stands.holds.taken_is in
     let room : length h.done + length piece ≤ 9223372036854775807 = omega (arith, size, fits, h.small) in
     record {
@@ -152,12 +152,12 @@ reads_on r s standard first now next was is will a b c piece h came told fits ta
     }
 
 -- each piece leaves less room
-pub less_room : {K : Type 0} {w : K → Option (List ℕ)} {f : K → ℕ} {t : K → ℕ → Type 0} (r s : LogReader) (standard : Standard) (first now : Option (List ℕ)) (was is will : K) (a b : ℕ) (piece : List ℕ) →
-    Reads w f t r standard first now was is a b → 0 < length piece →
+pub less_room : {K : Type 0} {w : K → Option (List ℕ)} {f : K → ℕ} {t : K → ℕ → Type 0} (r s : LogReader) (form : LogForm) (first now : Option (List ℕ)) (was is will : K) (a b : ℕ) (piece : List ℕ) →
+    Reads w f t r form first now was is a b → 0 < length piece →
     length piece ≤ 9223372036854775807 - r.taken →
     ((done : List ℕ) (start : K) → length done + length piece ≤ 9223372036854775807 → Stands w f t r done start is → Stands w f t s (done ++ piece) start will) →
     9223372036854775807 - s.taken < 9223372036854775807 - r.taken
-less_room r s standard first now was is will a b piece h some fits taken =
+less_room r s form first now was is will a b piece h some fits taken =
     let room : length h.done + length piece ≤ 9223372036854775807 = omega (arith, h.stands.holds.taken_is, fits, h.small) in
     let on = taken h.done was room h.stands in
     omega (arith, on.holds.taken_is, h.stands.holds.taken_is, length-append h.done piece, some, fits)

@@ -7,6 +7,12 @@ use Rattle.std.proofs.lemmas.Bool.Decides.{nat_tests}
 use Rattle.quad_lanes.specs.Pairs.{firsts, first_bad_pair}
 use Rattle.phy_packet.specs.declared.packet.PhyPacket.{PhyPacket}
 use Rattle.self_id.specs.declared.standard.Standard.{Standard}
+use Rattle.json.specs.Json.{Members}
+use Rattle.bus_json.specs.Text.{json_line}
+use Rattle.bus_json.specs.Bus.{tree_members}
+use Rattle.reset_log.specs.declared.form.LogForm.{LogForm}
+use Rattle.reset_log.specs.declared.form.LogForm.TheVariants.{Text, Json}
+use Rattle.reset_log.specs.Json.{list_fault, IsListTold, told_refused, told_heard, reset_value}
 use Rattle.topology_stack.specs.Tree.{Tree, walk}
 use Rattle.topology_stack.proofs.Lemmas.{one_of}
 use Rattle.view_text.specs.Drawing.{IsDrawing}
@@ -30,9 +36,9 @@ use Rattle.reset_log.specs.Listing.{before_comma, digits_in, is_of_packet, is_of
 use Rattle.reset_log.specs.declared.line.Begun.{Begun}
 use Rattle.reset_log.specs.declared.notes.Pending.{Pending}
 use Rattle.reset_log.specs.Hear.{IsHeard, IsUnheard}
-use Rattle.reset_log.specs.Texts.{garbled, lost, told, totals, head, unjudged, place, numbers, changes, initiators, refused}
+use Rattle.reset_log.specs.Texts.{head, place, numbers, changes, initiators, refused}
 use Rattle.reset_log.specs.Sentence.{packet_count, quad_at, IsBefore, sentence}
-use Rattle.reset_log.specs.Shown.{IsBody, the_same, drawn, IsListShown, is_refused, is_heard, IsResetShown, is_passed_over, is_unjudged, is_judged, IsPendingShown, IsBegunShown, IsLastShown, IsPacketShown, IsShown, IsLineShown}
+use Rattle.reset_log.specs.Shown.{IsJudged, unjudged_text, garbled_text, lost_text, told_text, totals_text, IsBody, the_same, drawn, IsListShown, is_refused, is_heard, IsResetShown, is_passed_over, is_unjudged, is_judged, IsPendingShown, IsBegunShown, IsLastShown, IsPacketShown, IsShown, IsLineShown}
 use Rattle.reset_log.specs.Log.{lines_of}
 use Rattle.reset_log.specs.OneText.{EachLogHasAText}
 use Rattle.reset_log.proofs.InOrder.{told_some_in}
@@ -351,58 +357,74 @@ some_list standard origin front list before f = elim (heard_or_not standard orig
       (refused front g ++ sentence standard origin list p.0 g, None, is_refused g un (record { before = p.0; is_before = p.1; text_is = refl }) refl)
 ]
 
+-- a list is told as something
+pub some_told : (standard : Standard) (origin : Origin) (list : List ℕ) →
+    (members : Members) × (heard : Option Tree) × IsListTold standard origin list members heard
+some_told standard origin list = elim (heard_or_not standard origin list) [
+  | inl (t, h) ↦ (tree_members [] t, Some t, told_heard t h refl refl)
+  | inr (g, un) ↦ (list_fault g, None, told_refused g un refl refl)
+]
+
 abbrev SomeStep : (List ℕ → Bool → Noted → Type 0) → Type 0
 SomeStep Is = (text : List ℕ) × (bad : Bool) × (next : Noted) × Is text bad next × IsFine next
 
-some_reset : (standard : Standard) (n : ℕ) (before : Option Known) (ks : Noted) (r : Reset) → Fit r.list → IsFine ks →
-    SomeStep (IsResetShown standard n before ks r)
-some_reset standard n before ks r f fine = go (is_repeated before r) r.is_error refl refl
+some_judged : (form : LogForm) (n : ℕ) (before : Option Known) (r : Reset) → Fit r.list →
+    (text : List ℕ) × (heard : Option Tree) × IsJudged form n before r text heard
+some_judged (Text standard) n before r f =
+    some_list standard r.origin (head n before r) r.list (compared before r) f
+some_judged (Json standard) n before r f =
+    let l = some_told standard r.origin r.list in
+    (json_line (reset_value n before r l.0), l.1, record { members = l.0; told = l.2; text_is = refl })
+
+some_reset : (form : LogForm) (n : ℕ) (before : Option Known) (ks : Noted) (r : Reset) → Fit r.list → IsFine ks →
+    SomeStep (IsResetShown form n before ks r)
+some_reset form n before ks r f fine = go (is_repeated before r) r.is_error refl refl
   where
-    go : (u v : Bool) → is_repeated before r ≡ u → r.is_error ≡ v → SomeStep (IsResetShown standard n before ks r)
+    go : (u v : Bool) → is_repeated before r ≡ u → r.is_error ≡ v → SomeStep (IsResetShown form n before ks r)
     go true v d e = ([], false, ks, is_passed_over d refl refl refl, fine)
-    go false true d e = (unjudged n before r, false, after ks r None false, is_unjudged d e refl refl refl, fine)
+    go false true d e = (unjudged_text form n before r, false, after ks r None false, is_unjudged d e refl refl refl, fine)
     go false false d e =
-        let l = some_list standard r.origin (head n before r) r.list (compared before r) f in
+        let l = some_judged form n before r f in
         (l.0, is_none l.1, after ks r l.1 (is_none l.1), is_judged l.1 d e l.2 refl refl, fine)
 
-some_pending : (standard : Standard) (pending : Option Pending) (ks : Noted) → IsFinePending pending → IsFine ks →
-    SomeStep (IsPendingShown standard pending ks)
-some_pending standard None ks fit fine = ([], false, ks, (refl, refl, refl), fine)
-some_pending standard (Some p) ks fit fine = some_reset standard p.number (last_of p.reset.card ks.cards) ks p.reset fit fine
+some_pending : (form : LogForm) (pending : Option Pending) (ks : Noted) → IsFinePending pending → IsFine ks →
+    SomeStep (IsPendingShown form pending ks)
+some_pending form None ks fit fine = ([], false, ks, (refl, refl, refl), fine)
+some_pending form (Some p) ks fit fine = some_reset form p.number (last_of p.reset.card ks.cards) ks p.reset fit fine
 
-some_begun : (standard : Standard) (n : ℕ) (ks : Noted) (begun : Begun) → IsFine ks →
-    SomeStep (IsBegunShown standard n ks begun)
-some_begun standard n ks begun fine =
-    let one = some_pending standard ks.pending (waiting None ks) fine tt in
+some_begun : (form : LogForm) (n : ℕ) (ks : Noted) (begun : Begun) → IsFine ks →
+    SomeStep (IsBegunShown form n ks begun)
+some_begun form n ks begun fine =
+    let one = some_pending form ks.pending (waiting None ks) fine tt in
     (one.0, one.1, waiting (Some (begun_at n begun)) one.2, record { mid = one.2; shown = one.3; next_is = refl }, tt)
 
-some_last : (standard : Standard) (last : Bool) (p : Pending) (ks : Noted) → Fit p.reset.list →
-    SomeStep (IsLastShown standard last p ks)
-some_last standard false p ks fit = ([], false, waiting (Some p) ks, (refl, refl, refl), fit)
-some_last standard true p ks fit = some_pending standard (Some p) (waiting None ks) fit tt
+some_last : (form : LogForm) (last : Bool) (p : Pending) (ks : Noted) → Fit p.reset.list →
+    SomeStep (IsLastShown form last p ks)
+some_last form false p ks fit = ([], false, waiting (Some p) ks, (refl, refl, refl), fit)
+some_last form true p ks fit = some_pending form (Some p) (waiting None ks) fit tt
 
-some_taken : (standard : Standard) (taken : Option Pending) (ks : Noted) → IsFinePending taken → IsFine ks →
-    SomeStep (IsPacketShown standard taken ks)
-some_taken standard None ks fit fine = ([], false, ks, (refl, refl, refl), fine)
-some_taken standard (Some p) ks fit fine = some_last standard (p.left == 0) p ks fit
+some_taken : (form : LogForm) (taken : Option Pending) (ks : Noted) → IsFinePending taken → IsFine ks →
+    SomeStep (IsPacketShown form taken ks)
+some_taken form None ks fit fine = ([], false, ks, (refl, refl, refl), fine)
+some_taken form (Some p) ks fit fine = some_last form (p.left == 0) p ks fit
 
-some_shown : (standard : Standard) (n : ℕ) (ks : Noted) (line : LogLine) →
+some_shown : (form : LogForm) (n : ℕ) (ks : Noted) (line : LogLine) →
     ((r : Reset) → line ≡ OfReset r → Fit r.list) →
-    ((card quad : ℕ) → line ≡ Packet card quad → quad < 2 ^ 32) → IsFine ks → SomeStep (IsShown standard n ks line)
-some_shown standard n ks Other f g fine = ([], false, ks, (refl, refl, refl), fine)
-some_shown standard n ks Lost f g fine = (lost n, false, behind_loss ks, (refl, refl, refl), fine)
-some_shown standard n ks (Said words) f g fine = (told n words, false, ks, (refl, refl, refl), fine)
-some_shown standard n ks (Begins begun) f g fine = some_begun standard n ks begun fine
-some_shown standard n ks (Packet card quad) f g fine =
-    some_taken standard (taken_by ks.pending card quad) ks (fine_taken ks.pending card quad fine (g card quad refl)) fine
-some_shown standard n ks Garbled f g fine = (garbled n, true, ks, (refl, refl, refl), fine)
-some_shown standard n ks (OfReset r) f g fine = some_reset standard n (last_of r.card ks.cards) ks r (f r refl) fine
+    ((card quad : ℕ) → line ≡ Packet card quad → quad < 2 ^ 32) → IsFine ks → SomeStep (IsShown form n ks line)
+some_shown form n ks Other f g fine = ([], false, ks, (refl, refl, refl), fine)
+some_shown form n ks Lost f g fine = (lost_text form n, false, behind_loss ks, (refl, refl, refl), fine)
+some_shown form n ks (Said words) f g fine = (told_text form n words, false, ks, (refl, refl, refl), fine)
+some_shown form n ks (Begins begun) f g fine = some_begun form n ks begun fine
+some_shown form n ks (Packet card quad) f g fine =
+    some_taken form (taken_by ks.pending card quad) ks (fine_taken ks.pending card quad fine (g card quad refl)) fine
+some_shown form n ks Garbled f g fine = (garbled_text form n, true, ks, (refl, refl, refl), fine)
+some_shown form n ks (OfReset r) f g fine = some_reset form n (last_of r.card ks.cards) ks r (f r refl) fine
 
-some_line : (standard : Standard) (n : ℕ) (ks : Noted) (line : List ℕ) → IsFine ks →
-    SomeStep (IsLineShown standard n ks line)
-some_line standard n ks line fine = some_shown standard n ks (line_of line) (line_fits line) (line_packet_fits line) fine
+some_line : (form : LogForm) (n : ℕ) (ks : Noted) (line : List ℕ) → IsFine ks →
+    SomeStep (IsLineShown form n ks line)
+some_line form n ks line fine = some_shown form n ks (line_of line) (line_fits line) (line_packet_fits line) fine
 
 pub some_text : EachLogHasAText
-some_text standard log =
-    let t = told_some_in (IsLineShown standard) (λ (ks : Noted). IsFine ks) (λ n ks line fine. some_line standard n ks line fine) 1 nothing (lines_of log) tt in
-    (t.0 ++ totals t.2, t.1, record { known = t.2; told = t.0; shown = t.3; text_is = refl })
+some_text form log =
+    let t = told_some_in (IsLineShown form) (λ (ks : Noted). IsFine ks) (λ n ks line fine. some_line form n ks line fine) 1 nothing (lines_of log) tt in
+    (t.0 ++ totals_text form t.2, t.1, record { known = t.2; told = t.0; shown = t.3; text_is = refl })

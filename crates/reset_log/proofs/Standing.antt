@@ -1,6 +1,6 @@
 -- Where the reader of a log stands behind bytes.
 use Rattle.std.proofs.Common.{◌≡◌, ◌∙◌, ℕ, ◌+◌, ◌<◌, ◌≤◌, ◌^◌, Bool, ◌||◌, List, [], ◌∷◌, ◌++◌, length, take, refl, sym, ap, subst, append_assoc, length-append, arith}
-use Rattle.self_id.specs.declared.standard.Standard.{Standard}
+use Rattle.reset_log.specs.declared.form.LogForm.{LogForm}
 use Rattle.reset_log.specs.Noted.{Noted, nothing}
 use Rattle.reset_log.specs.Notes.{noted}
 use Rattle.reset_log.specs.declared.line.LogLine.{LogLine}
@@ -12,28 +12,28 @@ use Rattle.reset_log.specs.codings.Going.{Holds, ShowsLine, KeepsBytes, IsOneLin
 use Rattle.reset_log.proofs.Going.{ends_line, goes_on, few_lines, same_line}
 use Rattle.reset_log.proofs.InOrder.{one_more}
 
-line_ended : (standard : Standard) (done : List ℕ) (ks next : Noted) (text more : List ℕ) (bad here : Bool) →
-    AreShown standard 1 nothing (parted done).lines text bad ks →
-    IsLineShown standard (1 + length (parted done).lines) ks (parted done).open_line more here next →
-    AreShown standard 1 nothing (parted (done ++ 10 ∷ [])).lines (text ++ more) (bad || here) next
-line_ended standard done ks next text more bad here shown is =
-    subst (λ (p : Parted). AreShown standard 1 nothing p.lines (text ++ more) (bad || here) next) (sym (ends_line done))
-    (one_more (IsLineShown standard) 1 nothing ks next (parted done).lines (parted done).open_line text more bad here shown is)
+line_ended : (form : LogForm) (done : List ℕ) (ks next : Noted) (text more : List ℕ) (bad here : Bool) →
+    AreShown form 1 nothing (parted done).lines text bad ks →
+    IsLineShown form (1 + length (parted done).lines) ks (parted done).open_line more here next →
+    AreShown form 1 nothing (parted (done ++ 10 ∷ [])).lines (text ++ more) (bad || here) next
+line_ended form done ks next text more bad here shown is =
+    subst (λ (p : Parted). AreShown form 1 nothing p.lines (text ++ more) (bad || here) next) (sym (ends_line done))
+    (one_more (IsLineShown form) 1 nothing ks next (parted done).lines (parted done).open_line text more bad here shown is)
 
 -- a line is shown by its first bytes
-pub by_front : (standard : Standard) (n m : ℕ) (ks js next : Noted) (kept line text : List ℕ) (bad : Bool) →
-    n ≡ m → js ≡ ks → kept ≡ take 65536 line → IsLineShown standard n js kept text bad next →
-    IsLineShown standard m ks line text bad next
-by_front standard n m ks js next kept line text bad e f is shown =
+pub by_front : (form : LogForm) (n m : ℕ) (ks js next : Noted) (kept line text : List ℕ) (bad : Bool) →
+    n ≡ m → js ≡ ks → kept ≡ take 65536 line → IsLineShown form n js kept text bad next →
+    IsLineShown form m ks line text bad next
+by_front form n m ks js next kept line text bad e f is shown =
     let same : line_of kept ≡ line_of line = ap line_of is ∙ same_line line in
-    subst (λ (l : LogLine). IsShown standard m ks l text bad next) same
-    (subst (λ (j : Noted). IsShown standard m j (line_of kept) text bad next) f
-    (subst (λ (k : ℕ). IsShown standard k js (line_of kept) text bad next) e shown))
+    subst (λ (l : LogLine). IsShown form m ks l text bad next) same
+    (subst (λ (j : Noted). IsShown form m j (line_of kept) text bad next) f
+    (subst (λ (k : ℕ). IsShown form k js (line_of kept) text bad next) e shown))
 
-all_same : (s r : Standard) (ks js : Noted) (a b : Bool) (lines : List (List ℕ)) (text : List ℕ) →
+all_same : (s r : LogForm) (ks js : Noted) (a b : Bool) (lines : List (List ℕ)) (text : List ℕ) →
     r ≡ s → js ≡ ks → b ≡ a → AreShown s 1 nothing lines text a ks → AreShown r 1 nothing lines text b js
 all_same s r ks js a b lines text e f g shown =
-    subst (λ (x : Standard). AreShown x 1 nothing lines text b js) (sym e)
+    subst (λ (x : LogForm). AreShown x 1 nothing lines text b js) (sym e)
     (subst (λ (x : Noted). AreShown s 1 nothing lines text b x) (sym f)
     (subst (λ (x : Bool). AreShown s 1 nothing lines text x ks) (sym g) shown))
 
@@ -45,8 +45,8 @@ after_bytes old new done bytes text one few h k =
     let on = goes_on done bytes one in
     record {
       shown =
-          subst (λ (p : Parted). AreShown new.standard 1 nothing p.lines text new.bad (noted new.notes)) (sym on)
-          (all_same old.standard new.standard (noted old.notes) (noted new.notes) old.bad new.bad (parted done).lines text k.standard k.notes k.bad h.shown);
+          subst (λ (p : Parted). AreShown new.form 1 nothing p.lines text new.bad (noted new.notes)) (sym on)
+          (all_same old.form new.form (noted old.notes) (noted new.notes) old.bad new.bad (parted done).lines text k.form k.notes k.bad h.shown);
       line_is = k.line_is (parted done).open_line h.line_is ∙ ap (λ (p : Parted). take 65536 p.open_line) (sym on);
       number_is = k.number_is ∙ h.number_is ∙ ap (λ (p : Parted). length p.lines + 1) (sym on);
       taken_is = omega (arith, k.taken_is (omega (arith, h.taken_is, few)), h.taken_is, length-append done bytes);
@@ -55,7 +55,7 @@ after_bytes old new done bytes text one few h k =
 -- behind a line feed
 pub after_line : (old mid new : LogReader) (done text was is : List ℕ) →
     length done < 9223372036854775807 → Holds old done (text ++ was) → ShowsLine mid new was is →
-    mid.standard ≡ old.standard → noted mid.notes ≡ noted old.notes → mid.line.items ≡ old.line.items → mid.number ≡ old.number → mid.bad ≡ old.bad → mid.taken ≡ old.taken + 1 →
+    mid.form ≡ old.form → noted mid.notes ≡ noted old.notes → mid.line.items ≡ old.line.items → mid.number ≡ old.number → mid.bad ≡ old.bad → mid.taken ≡ old.taken + 1 →
     Holds new (done ++ 10 ∷ []) (text ++ is)
 after_line old mid new done text was is few h sh es ec el en eb et =
     let lines = few_lines done in
@@ -64,16 +64,16 @@ after_line old mid new done text was is few h sh es ec el en eb et =
     let count : length (parted (done ++ 10 ∷ [])).lines ≡ length (parted done).lines + 1 =
     ap (λ (p : Parted). length p.lines) end ∙ length-append (parted done).lines ((parted done).open_line ∷ []) in
     let place : mid.number ≡ 1 + length (parted done).lines = omega (arith, en, h.number_is) in
-    let shown : IsLineShown old.standard (1 + length (parted done).lines) (noted old.notes) (parted done).open_line sh.text sh.here (noted new.notes) =
-    by_front old.standard mid.number _ (noted old.notes) (noted mid.notes) (noted new.notes) mid.line.items (parted done).open_line sh.text sh.here place ec (el ∙ h.line_is)
-    (subst (λ (s : Standard). IsLineShown s mid.number (noted mid.notes) mid.line.items sh.text sh.here (noted new.notes)) es sh.shown) in
+    let shown : IsLineShown old.form (1 + length (parted done).lines) (noted old.notes) (parted done).open_line sh.text sh.here (noted new.notes) =
+    by_front old.form mid.number _ (noted old.notes) (noted mid.notes) (noted new.notes) mid.line.items (parted done).open_line sh.text sh.here place ec (el ∙ h.line_is)
+    (subst (λ (s : LogForm). IsLineShown s mid.number (noted mid.notes) mid.line.items sh.text sh.here (noted new.notes)) es sh.shown) in
     let gathered : text ++ is ≡ (text ++ was) ++ sh.text = ap (λ (l : List ℕ). text ++ l) sh.gathered ∙ sym (append_assoc text was sh.text) in
     record {
       shown =
-          subst (λ (l : List ℕ). AreShown new.standard 1 nothing (parted (done ++ 10 ∷ [])).lines l new.bad (noted new.notes)) (sym gathered)
-          (all_same old.standard new.standard (noted new.notes) (noted new.notes) (old.bad || sh.here) new.bad _ _ (sh.standard ∙ es) refl
+          subst (λ (l : List ℕ). AreShown new.form 1 nothing (parted (done ++ 10 ∷ [])).lines l new.bad (noted new.notes)) (sym gathered)
+          (all_same old.form new.form (noted new.notes) (noted new.notes) (old.bad || sh.here) new.bad _ _ (sh.form ∙ es) refl
           (sh.bad ∙ ap (λ (b : Bool). b || sh.here) eb)
-          (line_ended old.standard done (noted old.notes) (noted new.notes) (text ++ was) sh.text old.bad sh.here h.shown shown));
+          (line_ended old.form done (noted old.notes) (noted new.notes) (text ++ was) sh.text old.bad sh.here h.shown shown));
       line_is = sh.line_is ∙ ap (λ (p : Parted). take 65536 p.open_line) (sym end);
       number_is = omega (arith, sh.number_is small, en, h.number_is, count);
       taken_is = omega (arith, sh.taken_is, et, h.taken_is, length-append done (10 ∷ []));

@@ -13,6 +13,7 @@ pub mod Line
 pub mod Stop
 pub mod Hear
 pub mod Texts
+pub mod Json
 pub mod Sentence
 pub mod Shown
 pub mod InOrder

@@ -1,10 +1,9 @@
 -- What is shown of a log: of its lines in order, with the trees that are known at each.
 use Rattle.std.specs.Prelude.{ℕ, ◌≡◌, ◌==◌, Bool, if◌then◌else◌, Option, List, [], ◌∷◌, ◌++◌}
 use Rattle.std.specs.Io.KnownBytes.{Appends}
-use Rattle.self_id.specs.declared.standard.Standard.{Standard}
+use Rattle.reset_log.specs.declared.form.LogForm.{LogForm}
 use Rattle.reset_log.specs.Noted.{Noted, nothing}
-use Rattle.reset_log.specs.Texts.{totals}
-use Rattle.reset_log.specs.Shown.{IsLineShown}
+use Rattle.reset_log.specs.Shown.{totals_text, IsLineShown}
 use Rattle.reset_log.specs.InOrder.{AreTold}
 
 -- whole lines, each of which a line feed ends, and what stands behind the last one
@@ -35,28 +34,28 @@ lines_of bytes = (parted bytes).lines ++ open_lines (parted bytes).open_line
 
 -- What is shown of lines that are numbered from here on, where this is noted before them; whether one of them
 -- is at fault, and what is noted behind them.
-abbrev pub AreShown : Standard → ℕ → Noted → List (List ℕ) → List ℕ → Bool → Noted → Type 0
-AreShown standard = AreTold (IsLineShown standard)
+abbrev pub AreShown : LogForm → ℕ → Noted → List (List ℕ) → List ℕ → Bool → Noted → Type 0
+AreShown form = AreTold (IsLineShown form)
 
 -- what is shown of a log, of its lines and behind them in all, and whether one of its lines is at fault
-pub record IsLogShown (standard : Standard) (lines : List (List ℕ)) (text : List ℕ) (bad : Bool) :
+pub record IsLogShown (form : LogForm) (lines : List (List ℕ)) (text : List ℕ) (bad : Bool) :
     Type 0 where
   pub known : Noted
   pub told : List ℕ
-  pub shown : AreShown standard 1 nothing lines told bad known
-  pub text_is : text ≡ told ++ totals known
+  pub shown : AreShown form 1 nothing lines told bad known
+  pub text_is : text ≡ told ++ totals_text form known
 
 -- what was written is what is shown of these lines
-pub record AreWritten (standard : Standard) (old new : Option (List ℕ))
+pub record AreWritten (form : LogForm) (old new : Option (List ℕ))
     (lines : List (List ℕ)) (bad : Bool) : Type 0 where
   pub text : List ℕ
-  pub is_shown : IsLogShown standard lines text bad
+  pub is_shown : IsLogShown form lines text bad
   pub wrote : Appends old new text
 
 -- what was written is what is shown of these lines, which others may follow
-pub record AreBegun (standard : Standard) (old new : Option (List ℕ)) (lines : List (List ℕ))
+pub record AreBegun (form : LogForm) (old new : Option (List ℕ)) (lines : List (List ℕ))
     (bad : Bool) : Type 0 where
   pub text : List ℕ
   pub known : Noted
-  pub shown : AreShown standard 1 nothing lines text bad known
+  pub shown : AreShown form 1 nothing lines text bad known
   pub wrote : Appends old new text

@@ -1,15 +1,15 @@
 -- Each log has one text, and one answer to whether a line of it is at fault.
 use Rattle.std.specs.Prelude.{◌≡◌, ℕ, Bool, List}
-use Rattle.self_id.specs.declared.standard.Standard.{Standard}
+use Rattle.reset_log.specs.declared.form.LogForm.{LogForm}
 use Rattle.reset_log.specs.Log.{lines_of, IsLogShown}
 
 abbrev pub NoLogHasTwoTexts : Type 0
 NoLogHasTwoTexts =
-    (standard : Standard) (log a b : List ℕ) (c d : Bool) →
-    IsLogShown standard (lines_of log) a c → IsLogShown standard (lines_of log) b d →
+    (form : LogForm) (log a b : List ℕ) (c d : Bool) →
+    IsLogShown form (lines_of log) a c → IsLogShown form (lines_of log) b d →
     (a ≡ b) × (c ≡ d)
 
 abbrev pub EachLogHasAText : Type 0
 EachLogHasAText =
-    (standard : Standard) (log : List ℕ) →
-    (text : List ℕ) × (bad : Bool) × IsLogShown standard (lines_of log) text bad
+    (form : LogForm) (log : List ℕ) →
+    (text : List ℕ) × (bad : Bool) × IsLogShown form (lines_of log) text bad

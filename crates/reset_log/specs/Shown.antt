@@ -14,7 +14,11 @@ use Rattle.reset_log.specs.declared.notes.Pending.{Pending}
 use Rattle.reset_log.specs.Line.{line_of}
 use Rattle.reset_log.specs.Hear.{IsHeard, IsUnheard}
 use Rattle.reset_log.specs.Noted.{Noted, is_repeated, last_of, compared, after, behind_loss, waiting, begun_at, taken_by}
-use Rattle.reset_log.specs.Texts.{garbled, lost, told, head, unjudged, numbers, changes, initiators}
+use Rattle.reset_log.specs.Texts.{garbled, lost, told, totals, head, unjudged, numbers, changes, initiators}
+use Rattle.bus_json.specs.Text.{json_line}
+use Rattle.reset_log.specs.declared.form.LogForm.{LogForm}
+use Rattle.reset_log.specs.declared.form.LogForm.TheVariants.{Text, Json}
+use Rattle.reset_log.specs.Json.{IsResetTold, unjudged_value, garbled_value, lost_value, told_value, totals_lines}
 use Rattle.reset_log.specs.Sentence.{IsRefusalShown}
 
 -- this is the drawing of the tree before, if there was one
@@ -52,64 +56,96 @@ pub data IsListShown (standard : Standard) (origin : Origin) (head list : List �
   is_heard : (t : Tree) → IsHeard standard origin list t → IsTreeShown head before t text →
       heard ≡ Some t → IsListShown standard origin head list before text heard
 
+-- ---- in a form: as text, or as lines of JSON
+
+-- what is shown of a reset that is judged, and the tree that its list is heard as, if it is
+abbrev pub IsJudged :
+    LogForm → ℕ → Option Known → Reset → List ℕ → Option Tree → Type 0
+IsJudged (Text standard) number before r text heard =
+    IsListShown standard r.origin (head number before r) r.list (compared before r) text heard
+IsJudged (Json standard) number before r text heard =
+    IsResetTold standard number before r text heard
+
+abbrev pub unjudged_text : LogForm → ℕ → Option Known → Reset → List ℕ
+unjudged_text (Text standard) number before r = unjudged number before r
+unjudged_text (Json standard) number before r = json_line (unjudged_value number before r)
+
+abbrev pub garbled_text : LogForm → ℕ → List ℕ
+garbled_text (Text standard) number = garbled number
+garbled_text (Json standard) number = json_line (garbled_value number)
+
+abbrev pub lost_text : LogForm → ℕ → List ℕ
+lost_text (Text standard) number = lost number
+lost_text (Json standard) number = json_line (lost_value number)
+
+abbrev pub told_text : LogForm → ℕ → List ℕ → List ℕ
+told_text (Text standard) number words = told number words
+told_text (Json standard) number words = json_line (told_value number words)
+
+abbrev pub totals_text : LogForm → Noted → List ℕ
+totals_text (Text standard) n = totals n
+totals_text (Json standard) n = totals_lines n
+
+-- ---- a line
+
 -- what is shown of a reset in the line with this number, whether it is at fault, and what is noted behind it;
 -- `before` is the card's reset before, if there was one
-pub data IsResetShown (standard : Standard) (number : ℕ) (before : Option Known) (n : Noted) (r : Reset)
+pub data IsResetShown (form : LogForm) (number : ℕ) (before : Option Known) (n : Noted) (r : Reset)
     (text : List ℕ) (bad : Bool) (next : Noted) : Type 0 where
   is_passed_over : is_repeated before r ≡ true → text ≡ [] → bad ≡ false → next ≡ n →
-      IsResetShown standard number before n r text bad next
+      IsResetShown form number before n r text bad next
   is_unjudged : is_repeated before r ≡ false → r.is_error ≡ true →
-      text ≡ unjudged number before r → bad ≡ false → next ≡ after n r None false →
-      IsResetShown standard number before n r text bad next
+      text ≡ unjudged_text form number before r → bad ≡ false → next ≡ after n r None false →
+      IsResetShown form number before n r text bad next
   is_judged : (heard : Option Tree) → is_repeated before r ≡ false → r.is_error ≡ false →
-      IsListShown standard r.origin (head number before r) r.list (compared before r) text heard →
+      IsJudged form number before r text heard →
       bad ≡ is_none heard → next ≡ after n r heard (is_none heard) →
-      IsResetShown standard number before n r text bad next
+      IsResetShown form number before n r text bad next
 
 -- what is shown of the reset that waits for its packets, if one does
 abbrev pub IsPendingShown :
-    Standard → Option Pending → Noted → List ℕ → Bool → Noted → Type 0
-IsPendingShown standard None n text bad next = (text ≡ []) × (bad ≡ false) × (next ≡ n)
-IsPendingShown standard (Some p) n text bad next =
-    IsResetShown standard p.number (last_of p.reset.card n.cards) n p.reset text bad next
+    LogForm → Option Pending → Noted → List ℕ → Bool → Noted → Type 0
+IsPendingShown form None n text bad next = (text ≡ []) × (bad ≡ false) × (next ≡ n)
+IsPendingShown form (Some p) n text bad next =
+    IsResetShown form p.number (last_of p.reset.card n.cards) n p.reset text bad next
 
 -- what is shown where a reset of such packets begins: that of the one before, of what came of it
-pub record IsBegunShown (standard : Standard) (number : ℕ) (n : Noted) (b : Begun) (text : List ℕ)
+pub record IsBegunShown (form : LogForm) (number : ℕ) (n : Noted) (b : Begun) (text : List ℕ)
     (bad : Bool) (next : Noted) : Type 0 where
   pub mid : Noted
-  pub shown : IsPendingShown standard n.pending (waiting None n) text bad mid
+  pub shown : IsPendingShown form n.pending (waiting None n) text bad mid
   pub next_is : next ≡ waiting (Some (begun_at number b)) mid
 
 -- whether it was the last packet
 abbrev pub IsLastShown :
-    Standard → Bool → Pending → Noted → List ℕ → Bool → Noted → Type 0
-IsLastShown standard false p n text bad next =
+    LogForm → Bool → Pending → Noted → List ℕ → Bool → Noted → Type 0
+IsLastShown form false p n text bad next =
     (text ≡ []) × (bad ≡ false) × (next ≡ waiting (Some p) n)
-IsLastShown standard true p n text bad next =
-    IsPendingShown standard (Some p) (waiting None n) text bad next
+IsLastShown form true p n text bad next =
+    IsPendingShown form (Some p) (waiting None n) text bad next
 
 -- what is shown of a packet, where a reset takes it
-abbrev pub IsPacketShown : Standard → Option Pending → Noted → List ℕ → Bool → Noted → Type 0
-IsPacketShown standard None n text bad next = (text ≡ []) × (bad ≡ false) × (next ≡ n)
-IsPacketShown standard (Some p) n text bad next =
-    IsLastShown standard (p.left == 0) p n text bad next
+abbrev pub IsPacketShown : LogForm → Option Pending → Noted → List ℕ → Bool → Noted → Type 0
+IsPacketShown form None n text bad next = (text ≡ []) × (bad ≡ false) × (next ≡ n)
+IsPacketShown form (Some p) n text bad next =
+    IsLastShown form (p.left == 0) p n text bad next
 
 -- what is shown of what a line is
-abbrev pub IsShown : Standard → ℕ → Noted → LogLine → List ℕ → Bool → Noted → Type 0
-IsShown standard number n Other text bad next = (text ≡ []) × (bad ≡ false) × (next ≡ n)
-IsShown standard number n Lost text bad next =
-    (text ≡ lost number) × (bad ≡ false) × (next ≡ behind_loss n)
-IsShown standard number n (Said words) text bad next =
-    (text ≡ told number words) × (bad ≡ false) × (next ≡ n)
-IsShown standard number n Garbled text bad next =
-    (text ≡ garbled number) × (bad ≡ true) × (next ≡ n)
-IsShown standard number n (Begins b) text bad next =
-    IsBegunShown standard number n b text bad next
-IsShown standard number n (Packet card quad) text bad next =
-    IsPacketShown standard (taken_by n.pending card quad) n text bad next
-IsShown standard number n (OfReset r) text bad next =
-    IsResetShown standard number (last_of r.card n.cards) n r text bad next
+abbrev pub IsShown : LogForm → ℕ → Noted → LogLine → List ℕ → Bool → Noted → Type 0
+IsShown form number n Other text bad next = (text ≡ []) × (bad ≡ false) × (next ≡ n)
+IsShown form number n Lost text bad next =
+    (text ≡ lost_text form number) × (bad ≡ false) × (next ≡ behind_loss n)
+IsShown form number n (Said words) text bad next =
+    (text ≡ told_text form number words) × (bad ≡ false) × (next ≡ n)
+IsShown form number n Garbled text bad next =
+    (text ≡ garbled_text form number) × (bad ≡ true) × (next ≡ n)
+IsShown form number n (Begins b) text bad next =
+    IsBegunShown form number n b text bad next
+IsShown form number n (Packet card quad) text bad next =
+    IsPacketShown form (taken_by n.pending card quad) n text bad next
+IsShown form number n (OfReset r) text bad next =
+    IsResetShown form number (last_of r.card n.cards) n r text bad next
 
-abbrev pub IsLineShown : Standard → ℕ → Noted → List ℕ → List ℕ → Bool → Noted → Type 0
-IsLineShown standard number n line text bad next =
-    IsShown standard number n (line_of line) text bad next
+abbrev pub IsLineShown : LogForm → ℕ → Noted → List ℕ → List ℕ → Bool → Noted → Type 0
+IsLineShown form number n line text bad next =
+    IsShown form number n (line_of line) text bad next

@@ -7,6 +7,7 @@ use Rattle.topology_stack.specs.Tree.{Tree, walk}
 use Rattle.topology_stack.specs.Elect.{elected}
 use Rattle.view_text.specs.Packet.{field}
 use Rattle.view_text.specs.Drawing.{all_have}
+use Rattle.bus_json.specs.declared.refusal.Counts.{Counts}
 use Rattle.reset_log.specs.declared.line.Reset.{Reset}
 use Rattle.reset_log.specs.declared.cards.Known.{Known}
 use Rattle.reset_log.specs.declared.counts.Tally.{Tally}
@@ -83,42 +84,48 @@ place (OfTree (NoRoot at)) = at
 place (OfTree (TooMany at)) = at
 
 abbrev pub kind : ListFault → List ℕ
-kind (Cut pair) = codes " BadLength"
-kind (BadInverse pair) = codes " BadInverse"
-kind (OfTree (Group (NotSelfId at))) = codes " NotSelfId"
-kind (OfTree (Group (WrongId at found wanted))) = codes " WrongId"
-kind (OfTree (Group (BadOrder at))) = codes " BadOrder"
-kind (OfTree (Group (GroupCut at))) = codes " Cut"
-kind (OfTree (Group (TwoParents at))) = codes " TwoParents"
-kind (OfTree Empty) = codes " Empty"
-kind (OfTree (TooFewChildren at found wanted)) = codes " TooFewChildren"
-kind (OfTree (TreesLeft at found wanted)) = codes " TreesLeft"
-kind (OfTree (AfterRoot at)) = codes " AfterRoot"
-kind (OfTree (NoRoot at)) = codes " NoRoot"
-kind (OfTree (TooMany at)) = codes " TooMany"
+kind (Cut pair) = codes "BadLength"
+kind (BadInverse pair) = codes "BadInverse"
+kind (OfTree (Group (NotSelfId at))) = codes "NotSelfId"
+kind (OfTree (Group (WrongId at found wanted))) = codes "WrongId"
+kind (OfTree (Group (BadOrder at))) = codes "BadOrder"
+kind (OfTree (Group (GroupCut at))) = codes "Cut"
+kind (OfTree (Group (TwoParents at))) = codes "TwoParents"
+kind (OfTree Empty) = codes "Empty"
+kind (OfTree (TooFewChildren at found wanted)) = codes "TooFewChildren"
+kind (OfTree (TreesLeft at found wanted)) = codes "TreesLeft"
+kind (OfTree (AfterRoot at)) = codes "AfterRoot"
+kind (OfTree (NoRoot at)) = codes "NoRoot"
+kind (OfTree (TooMany at)) = codes "TooMany"
+
+-- what was found and what was wanted, where both are known
+abbrev pub known_counts : ListFault → Option Counts
+known_counts (Cut pair) = None
+known_counts (BadInverse pair) = None
+known_counts (OfTree (Group (NotSelfId at))) = None
+known_counts (OfTree (Group (WrongId at found wanted))) = Some (record { found = found; wanted = wanted })
+known_counts (OfTree (Group (BadOrder at))) = None
+known_counts (OfTree (Group (GroupCut at))) = None
+known_counts (OfTree (Group (TwoParents at))) = None
+known_counts (OfTree Empty) = None
+known_counts (OfTree (TooFewChildren at found wanted)) = Some (record { found = found; wanted = wanted })
+known_counts (OfTree (TreesLeft at found wanted)) = Some (record { found = found; wanted = wanted })
+known_counts (OfTree (AfterRoot at)) = None
+known_counts (OfTree (NoRoot at)) = None
+known_counts (OfTree (TooMany at)) = None
 
 unfoldable pub counts : ℕ → ℕ → List ℕ
 counts found wanted = field (codes " found ") found ++ field (codes " wanted ") wanted
 
-abbrev pub counts_of : ListFault → List ℕ
-counts_of (Cut pair) = []
-counts_of (BadInverse pair) = []
-counts_of (OfTree (Group (NotSelfId at))) = []
-counts_of (OfTree (Group (WrongId at found wanted))) = counts found wanted
-counts_of (OfTree (Group (BadOrder at))) = []
-counts_of (OfTree (Group (GroupCut at))) = []
-counts_of (OfTree (Group (TwoParents at))) = []
-counts_of (OfTree Empty) = []
-counts_of (OfTree (TooFewChildren at found wanted)) = counts found wanted
-counts_of (OfTree (TreesLeft at found wanted)) = counts found wanted
-counts_of (OfTree (AfterRoot at)) = []
-counts_of (OfTree (NoRoot at)) = []
-counts_of (OfTree (TooMany at)) = []
+abbrev pub counts_of : Option Counts → List ℕ
+counts_of None = []
+counts_of (Some c) = counts c.found c.wanted
 
 -- `refused pair P KIND`, and behind some kinds ` found F wanted W`
 unfoldable pub fault_line : ListFault → List ℕ
 fault_line f =
-    field (codes "refused pair ") (place f) ++ (kind f ++ (counts_of f ++ codes "\n"))
+    field (codes "refused pair ") (place f)
+    ++ (codes " " ++ (kind f ++ (counts_of (known_counts f) ++ codes "\n")))
 
 -- behind the head of a reset
 unfoldable pub refused : List ℕ → ListFault → List ℕ

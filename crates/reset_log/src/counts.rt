@@ -25,7 +25,7 @@ pub struct Tally {
 }
 
 /// Counts a reset, unless it is the last one by its other event, and its list, if that is refused.
-pub(crate) fn count(counts: &mut Counts, second: bool, refused: bool)
+pub fn count_reset(counts: &mut Counts, second: bool, refused: bool)
     ensures { counts.new ≡ counted second refused counts.old }
 {
     if !second {
@@ -86,8 +86,8 @@ fn add_if(tallies: &mut Vec<Tally>, card: u64, node: u8, initiated: bool) -> Res
     Ok(())
 }
 
-/// Counts each node that began a reset.
-pub(crate) fn add_all(tallies: &mut Vec<Tally>, card: u64, tree: &BusTree) -> Result<(), AllocError>
+/// Counts each node that began a reset of this card, as its tree tells.
+pub fn count_begun(tallies: &mut Vec<Tally>, card: u64, tree: &BusTree) -> Result<(), AllocError>
     ensures { OnOk result (tallies.new.items
         ≡ tallied card 0 (walk tree.now) tallies.old.items) }
 {
@@ -112,8 +112,8 @@ fn greater(best: Option<Tally>, tally: Tally) -> Tally
     }
 }
 
-/// The first of the nodes that began most resets.
-pub(crate) fn most_of(tallies: &[Tally]) -> Option<Tally>
+/// The first of the nodes that began most resets. `None` where none began one.
+pub fn most_of(tallies: &[Tally]) -> Option<Tally>
     ensures { result ≡ most_of None tallies.now }
 {
     let mut best = None;

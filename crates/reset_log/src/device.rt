@@ -8,7 +8,7 @@ use std::alloc::AllocError;
 use view_text::put_field;
 
 /// The first number of a card that is a device.
-const DEVICES: u64 = 4_294_967_296;
+pub(crate) const DEVICES: u64 = 4_294_967_296;
 
 /// The number of the card that is this device.
 fn placed(
@@ -62,7 +62,7 @@ fn hex_digit(number: u64) -> u8
 
 /// Appends the name of a device.
 #[tactic(auto, unfolding(crate::specs::Device::device_text))]
-fn put_device(out: &mut Vec<u8>, device: u64) -> Result<(), AllocError>
+pub(crate) fn put_device(out: &mut Vec<u8>, device: u64) -> Result<(), AllocError>
     ensures { OnOk result (out.new.items ≡ out.old.items ++ device_text device) }
 {
     let domain = device / 268_435_456;

@@ -1,40 +1,72 @@
-//! The words that ask for the resets of a log.
+//! The words that ask for the resets of a log, and how they are shown.
 ghost use Rattle.std.specs.Prelude.{◌≡◌, ◌∷◌, [], ◌↔◌};
-ghost use Rattle.self_id.specs.declared.standard.Standard.{Standard};
-ghost use Rattle.reset_log.specs.Form.{AreWordsBy, AsksResets};
+ghost use Rattle.reset_log.specs.declared.form.LogForm.{LogForm};
+ghost use Rattle.reset_log.specs.Form.{standard_of, AreWordsBy, AsksResets};
 
 use self_id::Standard;
 
-/// The standard by which this word asks.
-fn of_word(word: &str) -> Option<Standard>
-    ensures { (standard : Standard) → (result ≡ Some standard)
-        ↔ AreWordsBy standard (word.now ∷ []) }
+/// How the resets of a log or a dump are shown, by a standard.
+#[derive(Clone, Copy, Debug, PartialEq, Eq)]
+pub enum LogForm {
+    /// For people: a drawing of the bus, and what changed.
+    Text(Standard),
+    /// For programs: a line of JSON for each reset.
+    Json(Standard),
+}
+
+impl LogForm {
+    /// The standard by which self-ID packets are read.
+    pub fn standard(self) -> Standard
+        ensures { result ≡ standard_of self }
+    {
+        match self {
+            LogForm::Text(standard) | LogForm::Json(standard) => standard,
+        }
+    }
+}
+
+/// The form by which this word asks.
+fn of_word(word: &str) -> Option<LogForm>
+    ensures { (form : LogForm) → (result ≡ Some form) ↔ AreWordsBy form (word.now ∷ []) }
 {
     match word {
-        "resets" => Some(Standard::Ieee2000),
+        "resets" => Some(LogForm::Text(Standard::Ieee2000)),
         _ => None,
     }
 }
 
-/// The standard by which these two words ask.
-fn of_two(word: &str, year: &str) -> Option<Standard>
-    ensures { (standard : Standard) → (result ≡ Some standard)
-        ↔ AreWordsBy standard (word.now ∷ year.now ∷ []) }
+/// The form by which these two words ask.
+fn of_two(word: &str, option: &str) -> Option<LogForm>
+    ensures { (form : LogForm) → (result ≡ Some form)
+        ↔ AreWordsBy form (word.now ∷ option.now ∷ []) }
 {
-    match (word, year) {
-        ("resets", "--1995") => Some(Standard::Ieee1995),
+    match (word, option) {
+        ("resets", "--1995") => Some(LogForm::Text(Standard::Ieee1995)),
+        ("resets", "--json") => Some(LogForm::Json(Standard::Ieee2000)),
         _ => None,
     }
 }
 
-/// The standard by which the words after the program's name ask for the resets of a log. `None`
-/// exactly where they don't ask for them. It takes no memory.
-pub fn resets_standard(words: &[String]) -> Option<Standard>
-    ensures { (standard : Standard) → (result ≡ Some standard) ↔ AsksResets words.now standard }
+/// The form by which these three words ask.
+fn of_three(word: &str, first: &str, second: &str) -> Option<LogForm>
+    ensures { (form : LogForm) → (result ≡ Some form)
+        ↔ AreWordsBy form (word.now ∷ first.now ∷ second.now ∷ []) }
+{
+    match (word, first, second) {
+        ("resets", "--1995", "--json") => Some(LogForm::Json(Standard::Ieee1995)),
+        _ => None,
+    }
+}
+
+/// The form in which the words after the program's name ask for the resets of a log. `None` exactly where
+/// they don't ask for them. It takes no memory.
+pub fn resets_form(words: &[String]) -> Option<LogForm>
+    ensures { (form : LogForm) → (result ≡ Some form) ↔ AsksResets words.now form }
 {
     match words {
         [word] => of_word(word.as_str()),
-        [word, year] => of_two(word.as_str(), year.as_str()),
+        [word, option] => of_two(word.as_str(), option.as_str()),
+        [word, first, second] => of_three(word.as_str(), first.as_str(), second.as_str()),
         _ => None,
     }
 }

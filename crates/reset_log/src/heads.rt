@@ -186,7 +186,7 @@ fn put_if_cut_off(out: &mut Vec<u8>, pending: Option<&Pending>) -> Result<(), Al
 
 /// The last line of a log.
 #[tactic(auto, unfolding(crate::specs::Texts::totals))]
-pub(crate) fn totals_text(alloc: Global, notes: &Notes) -> Result<Vec<u8>, AllocError>
+pub(crate) fn last_line(alloc: Global, notes: &Notes) -> Result<Vec<u8>, AllocError>
     ensures { IfOk result (λ text. text.items ≡ totals (noted notes.now)) }
 {
     let mut text = Vec::new(alloc);

@@ -7,18 +7,17 @@ ghost use Rattle.reset_log.specs.codings.Going.{IsNew, Holds, Stands, ShowsLine,
 ghost use Rattle.reset_log.specs.Cause.{StoppedWriting};
 ghost use Rattle.reset_log.specs.Log.{parted, lines_of, IsLogShown, AreWritten, AreBegun};
 ghost use Rattle.reset_log.specs.Wrote.{Wrote, WroteFront, WroteFrontOf};
-ghost use Rattle.reset_log.specs.Texts.{totals};
+ghost use Rattle.reset_log.specs.Shown.{totals_text};
 ghost use Rattle.reset_log.specs.Notes.{noted};
 ghost use Rattle.reset_log.specs.Answered.{IsExact, IsComplete, IsFront, IsSure};
 
-use crate::heads::totals_text;
+use crate::form::LogForm;
 use crate::line::front;
 use crate::notes::Notes;
-use crate::shown::show_line;
+use crate::shown::{show_line, totals_text};
 use crate::stop::LogStop;
 use io_edges::{Sink, Source, write_whole};
 use memchr::memchr;
-use self_id::Standard;
 use std::alloc::{AllocError, Global};
 
 /// The most bytes of a log: as many come in 292,000 years at a megabyte a second.
@@ -33,7 +32,7 @@ const PIECE: usize = 65536;
 /// A reader of a log. It keeps the line that isn't whole yet, and what is noted of the log.
 #[derive(Debug, Drop)]
 pub(crate) struct LogReader {
-    standard: Standard,
+    form: LogForm,
     notes: Notes,
     line: Vec<u8>,
     number: u64,
@@ -70,12 +69,12 @@ fn cut(text: &[u8]) -> Option<(&[u8], &[u8])>
 
 impl LogReader {
     /// A reader that was given nothing.
-    fn new(alloc: Global, standard: Standard) -> LogReader
+    fn new(alloc: Global, form: LogForm) -> LogReader
         ensures start { IsNew result }
-        ensures same { result.standard ≡ standard }
+        ensures same { result.form ≡ form }
     {
         LogReader {
-            standard,
+            form,
             notes: Notes::new(alloc),
             line: Vec::new(alloc),
             number: 1,
@@ -89,13 +88,7 @@ impl LogReader {
         ensures ok { OnOk result (ShowsLine self.old self.new out.old.items out.new.items) }
         ensures part { OnErr result (out.new.items ≡ out.old.items) }
     {
-        let shown = show_line(
-            alloc,
-            self.standard,
-            &mut self.notes,
-            self.number,
-            &self.line,
-        )?;
+        let shown = show_line(alloc, self.form, &mut self.notes, self.number, &self.line)?;
         out.extend_from_slice(&shown.text)?;
         self.bad = self.bad || shown.bad;
         self.number = self.number.saturating_add(1);
@@ -120,7 +113,7 @@ impl LogReader {
             Holds self.old done (text ++ out.old.items) →
             Holds self.new (done ++ (bytes.now ++ 10 ∷ [])) (text ++ out.new.items)) }
         ensures part { OnErr result (out.new.items ≡ out.old.items) }
-        ensures same { OnOk result (self.new.standard ≡ self.old.standard) }
+        ensures same { OnOk result (self.new.form ≡ self.old.form) }
     {
         self.keep(bytes)?;
         self.taken = self.taken.saturating_add(1);
@@ -137,8 +130,8 @@ impl LogReader {
         ensures begun { (done text : List ℕ) →
             length done + length bytes.now ≤ 9223372036854775807 →
             Holds self.old done (text ++ out.old.items) →
-            Begun self.old.standard (parted (done ++ bytes.now)).lines (text ++ out.new.items) }
-        ensures same { OnOk result (self.new.standard ≡ self.old.standard) }
+            Begun self.old.form (parted (done ++ bytes.now)).lines (text ++ out.new.items) }
+        ensures same { OnOk result (self.new.form ≡ self.old.form) }
     {
         let mut rest = bytes;
         while let Some((line, behind)) = cut(rest) {
@@ -160,9 +153,9 @@ impl LogReader {
             length done + length bytes.now ≤ 9223372036854775807 →
             Stands K.written K.faults K.surely_takes self.old done start sink.old →
             Broke K.written K.faults K.surely_takes
-            self.old.standard (parted (done ++ bytes.now)).lines start sink.new) }
+            self.old.form (parted (done ++ bytes.now)).lines start sink.new) }
         ensures stops { IfErr result (StoppedWriting (K.faults sink.old) (K.faults sink.new)) }
-        ensures same { OnOk result (self.new.standard ≡ self.old.standard) }
+        ensures same { OnOk result (self.new.form ≡ self.old.form) }
         ensures later { K.faults sink.old ≤ K.faults sink.new }
     {
         let mut out = Vec::new(alloc);
@@ -177,11 +170,11 @@ impl LogReader {
         ensures ok { OnOk result ((done : List ℕ) (start : K) →
             Stands K.written K.faults K.surely_takes self.old done start sink.old →
             ShowsLines K.written K.faults K.surely_takes
-            self.new self.old.standard (lines_of done) start sink.new) }
+            self.new self.old.form (lines_of done) start sink.new) }
         ensures part { OnErr result ((done : List ℕ) (start : K) →
             Stands K.written K.faults K.surely_takes self.old done start sink.old →
             Broke K.written K.faults K.surely_takes
-            self.old.standard (lines_of done) start sink.new) }
+            self.old.form (lines_of done) start sink.new) }
         ensures stops { IfErr result (StoppedWriting (K.faults sink.old) (K.faults sink.new)) }
         ensures later { K.faults sink.old ≤ K.faults sink.new }
     {
@@ -195,15 +188,15 @@ impl LogReader {
     }
 
     /// Writes what was counted in all.
-    fn put_totals<K: Sink>(&self, alloc: Global, sink: &mut K) -> Result<(), LogStop>
+    fn put_totals<K: Sink>(&self, alloc: Global, form: LogForm, sink: &mut K) -> Result<(), LogStop>
         ensures ok { OnOk result (Wrote K.written K.faults K.surely_takes
-            sink.old sink.new (totals (noted self.now.notes))) }
+            sink.old sink.new (totals_text form (noted self.now.notes))) }
         ensures part { OnErr result (BreaksText K.written K.faults K.surely_takes
-            sink.old sink.new (totals (noted self.now.notes))) }
+            sink.old sink.new (totals_text form (noted self.now.notes))) }
         ensures stops { IfErr result (StoppedWriting (K.faults sink.old) (K.faults sink.new)) }
         ensures later { K.faults sink.old ≤ K.faults sink.new }
     {
-        let text = totals_text(alloc, &self.notes)?;
+        let text = totals_text(alloc, form, &self.notes)?;
         put(sink, &text)?;
         Ok(())
     }
@@ -214,21 +207,22 @@ impl LogReader {
         ensures ok { IfOk result (λ bad. (done : List ℕ) (start : K) →
             Stands K.written K.faults K.surely_takes self.old done start sink.old →
             ShowsAll K.written K.faults K.surely_takes
-            self.old.standard (lines_of done) bad start sink.new) }
+            self.old.form (lines_of done) bad start sink.new) }
         ensures part { OnErr result ((done : List ℕ) (start : K) →
             Stands K.written K.faults K.surely_takes self.old done start sink.old →
             WroteFrontOf K.written K.faults K.surely_takes
-            (IsLogShown self.old.standard (lines_of done)) start sink.new) }
+            (IsLogShown self.old.form (lines_of done)) start sink.new) }
         ensures stops { IfErr result (StoppedWriting (K.faults sink.old) (K.faults sink.new)) }
         ensures later { K.faults sink.old ≤ K.faults sink.new }
     {
+        let form = self.form;
         self.show_last(alloc, sink)?;
-        self.put_totals(alloc, sink)?;
+        self.put_totals(alloc, form, sink)?;
         Ok(self.bad)
     }
 }
 
-/// Shows the bus of each reset in a log, by a standard: the text of a Linux kernel's trace, to its
+/// Shows in a form the bus of each reset in a log, which is the text of a Linux kernel's trace, to its
 /// end. It says whether a line of it was at fault: an event that is garbled, or a list that no bus
 /// can have sent. What is shown of a line is written before the source is asked for more, and behind
 /// the last line what was counted in all.
@@ -240,13 +234,13 @@ impl LogReader {
 /// line, and the last tree of each card.
 pub fn show_log<S: Source, K: Sink>(
     alloc: Global,
-    standard: Standard,
+    form: LogForm,
     source: &mut S,
     sink: &mut K,
 ) -> Result<bool, LogStop>
     // What is shown of the log's lines is written, in order.
     ensures shown { IfOk result (λ bad. IfSome (S.left source.old) (λ log.
-        AreWritten standard (K.written sink.old) (K.written sink.new) (lines_of log) bad)) }
+        AreWritten form (K.written sink.old) (K.written sink.new) (lines_of log) bad)) }
     ensures end { OnOk result (IsAtEnd (S.left source.new)) }
 
     // When each stop comes, and what was written before a read that failed.
@@ -258,23 +252,23 @@ pub fn show_log<S: Source, K: Sink>(
         IsErrOf result LogStop.TooLong ↔ TookOver 9223372036854775807 old new) }
     ensures waits { IsErrOf result LogStop.ReadFault → (read : List ℕ) × (bad : Bool)
         × Consumes (S.left source.old) (S.left source.new) read
-        × AreBegun standard (K.written sink.old) (K.written sink.new) (parted read).lines bad }
+        × AreBegun form (K.written sink.old) (K.written sink.new) (parted read).lines bad }
     ensures part { IsErr result → IfSome (S.left source.old) (λ log.
-        IsFront (IsLogShown standard (lines_of log)) (K.written sink.old) (K.written sink.new)) }
+        IsFront (IsLogShown form (lines_of log)) (K.written sink.old) (K.written sink.new)) }
 
     // The log's one text is answered, unless another stop has its cause.
     ensures exact { IfSome (S.left source.old) (λ log.
-        IsExact (IsLogShown standard (lines_of log)) result) }
+        IsExact (IsLogShown form (lines_of log)) result) }
     ensures complete { ¬ Rose (S.faults source.old) (S.faults source.new) →
         ¬ Rose (K.faults sink.old) (K.faults sink.new) → IfSome (S.left source.old) (λ log.
-        length log ≤ 9223372036854775807 → IsComplete (IsLogShown standard (lines_of log)) result
+        length log ≤ 9223372036854775807 → IsComplete (IsLogShown form (lines_of log)) result
         (K.written sink.old) (K.written sink.new)) }
 
     // A sink that surely takes the text has no fault.
-    ensures sure { IfSome (S.left source.old) (λ log. IsSure (IsLogShown standard (lines_of log))
+    ensures sure { IfSome (S.left source.old) (λ log. IsSure (IsLogShown form (lines_of log))
         (K.surely_takes sink.old) (K.faults sink.old) (K.faults sink.new)) }
 {
-    let mut reader = LogReader::new(alloc, standard);
+    let mut reader = LogReader::new(alloc, form);
     let mut buf = [0u8; PIECE];
     loop {
         let Ok(count) = source.read(&mut buf) else {

@@ -5,7 +5,7 @@ ghost use Rattle.reset_log.specs.Noted.{nothing, tallied_by, after, behind_loss,
 ghost use Rattle.reset_log.specs.Notes.{noted};
 
 use crate::cards::{Known, forget_all, is_second, keep, last_of};
-use crate::counts::{Counts, Tally, add_all, count};
+use crate::counts::{Counts, Tally, count_begun, count_reset};
 use crate::line::{Begun, Origin, Reset};
 use quad_lanes::QuadList;
 use std::alloc::{AllocError, Global};
@@ -71,7 +71,7 @@ impl Notes {
         ensures pending { self.new.pending ≡ self.old.pending }
     {
         match heard {
-            Some(tree) => add_all(&mut self.tallies, reset.card, tree),
+            Some(tree) => count_begun(&mut self.tallies, reset.card, tree),
             None => Ok(()),
         }
     }
@@ -87,7 +87,7 @@ impl Notes {
     {
         let second = is_second(last_of(&self.cards, reset.card), reset);
         self.tally(reset, heard.as_ref())?;
-        count(&mut self.counts, second, refused);
+        count_reset(&mut self.counts, second, refused);
         keep(&mut self.cards, reset, heard)
     }
 

@@ -4,15 +4,17 @@ ghost use Rattle.std.specs.Option.{option_copied};
 ghost use Rattle.topology_stack.specs.Tree.{Tree, walk};
 ghost use Rattle.reset_log.specs.Noted.{last_of, waiting, taken_by};
 ghost use Rattle.reset_log.specs.Notes.{noted};
-ghost use Rattle.reset_log.specs.Shown.{WasDrawn, WasOther, IsBody, IsTreeShown, IsListShown, IsResetShown, IsPendingShown, IsBegunShown, IsPacketShown, IsLineShown};
+ghost use Rattle.reset_log.specs.Shown.{WasDrawn, WasOther, IsBody, IsTreeShown, IsListShown, IsJudged, unjudged_text, garbled_text, lost_text, told_text, totals_text, IsResetShown, IsPendingShown, IsBegunShown, IsPacketShown, IsLineShown};
 
-use crate::cards::{compared, is_repeated, last_of};
-use crate::heads::{put_head, put_lost, put_told, put_unjudged};
+use crate::cards::{Known, compared, is_repeated, last_of};
+use crate::form::LogForm;
+use crate::heads::{last_line, put_head, put_lost, put_told, put_unjudged};
 use crate::hear::{ListStop, hear};
 use crate::line::{Begun, LogLine, Origin, Reset, line_of};
 use crate::notes::Notes;
 use crate::sentence::refusal_text;
 use crate::texts::{put_changes, put_garbled, put_initiators, put_numbers};
+use crate::values::{garbled_line, lost_line, reset_line, told_line, totals_lines, unjudged_line};
 use self_id::Standard;
 use std::alloc::{AllocError, Global};
 use topology_stack::BusTree;
@@ -120,50 +122,144 @@ pub fn show_list(
     }
 }
 
+/// What is shown in a form of a reset that is judged, and the tree that its list is heard as.
+fn show_judged(
+    alloc: Global,
+    form: LogForm,
+    number: u64,
+    before: Option<&Known>,
+    reset: &Reset,
+) -> Result<ListShown, AllocError>
+    ensures { IfOk result (λ shown. IsJudged form number (option_copied before.entry) reset.now
+        shown.text.items shown.tree) }
+{
+    match form {
+        LogForm::Text(standard) => {
+            let old = compared(before, reset);
+            let list = reset.list.as_slice();
+            let mut head = Vec::new(alloc);
+            put_head(&mut head, number, before, reset)?;
+            let shown = show_list(alloc, standard, reset.origin, &head, old, list)?;
+            Ok(shown)
+        }
+        LogForm::Json(standard) => reset_line(alloc, standard, number, before, reset),
+    }
+}
+
+/// What is shown in a form of a reset at which the controller failed.
+fn unjudged_text(
+    alloc: Global,
+    form: LogForm,
+    number: u64,
+    before: Option<&Known>,
+    reset: &Reset,
+) -> Result<Vec<u8>, AllocError>
+    ensures { IfOk result (λ text. text.items
+        ≡ unjudged_text form number (option_copied before.entry) reset.now) }
+{
+    match form {
+        LogForm::Text(_) => {
+            let mut text = Vec::new(alloc);
+            put_unjudged(&mut text, number, before, reset)?;
+            Ok(text)
+        }
+        LogForm::Json(_) => unjudged_line(alloc, number, before, reset),
+    }
+}
+
+/// What is shown in a form of a garbled event.
+fn garbled_text(alloc: Global, form: LogForm, number: u64) -> Result<Vec<u8>, AllocError>
+    ensures { IfOk result (λ text. text.items ≡ garbled_text form number) }
+{
+    match form {
+        LogForm::Text(_) => {
+            let mut text = Vec::new(alloc);
+            put_garbled(&mut text, number)?;
+            Ok(text)
+        }
+        LogForm::Json(_) => garbled_line(alloc, number),
+    }
+}
+
+/// What is shown in a form of events that were lost.
+fn lost_text(alloc: Global, form: LogForm, number: u64) -> Result<Vec<u8>, AllocError>
+    ensures { IfOk result (λ text. text.items ≡ lost_text form number) }
+{
+    match form {
+        LogForm::Text(_) => {
+            let mut text = Vec::new(alloc);
+            put_lost(&mut text, number)?;
+            Ok(text)
+        }
+        LogForm::Json(_) => lost_line(alloc, number),
+    }
+}
+
+/// What is shown in a form of what the kernel says.
+fn told_text(alloc: Global, form: LogForm, number: u64, words: &[u8]) -> Result<Vec<u8>, AllocError>
+    ensures { IfOk result (λ text. text.items ≡ told_text form number words.now) }
+{
+    match form {
+        LogForm::Text(_) => {
+            let mut text = Vec::new(alloc);
+            put_told(&mut text, number, words)?;
+            Ok(text)
+        }
+        LogForm::Json(_) => told_line(alloc, number, words),
+    }
+}
+
+/// What is shown in a form behind the last line of a log.
+pub(crate) fn totals_text(
+    alloc: Global,
+    form: LogForm,
+    notes: &Notes,
+) -> Result<Vec<u8>, AllocError>
+    ensures { IfOk result (λ text. text.items ≡ totals_text form (noted notes.now)) }
+{
+    match form {
+        LogForm::Text(_) => last_line(alloc, notes),
+        LogForm::Json(_) => totals_lines(alloc, notes),
+    }
+}
+
 /// Shows a reset, and notes it.
 fn show_reset(
     alloc: Global,
-    standard: Standard,
+    form: LogForm,
     notes: &mut Notes,
     number: u64,
     reset: &Reset,
 ) -> Result<Shown, AllocError>
-    ensures { IfOk result (λ shown. IsResetShown standard number
+    ensures { IfOk result (λ shown. IsResetShown form number
         (last_of reset.now.card notes.old.cards.items) (noted notes.old) reset.now
         shown.text.items shown.bad (noted notes.new)) }
 {
     let before = last_of(&notes.cards, reset.card);
-    let mut head = Vec::new(alloc);
     if is_repeated(before, reset) {
         return Ok(Shown {
-            text: head,
+            text: Vec::new(alloc),
             bad: false,
         });
     }
     if reset.is_error {
-        put_unjudged(&mut head, number, before, reset)?;
+        let text = unjudged_text(alloc, form, number, before, reset)?;
         notes.keep(reset, None, false)?;
-        return Ok(Shown {
-            text: head,
-            bad: false,
-        });
+        return Ok(Shown { text, bad: false });
     }
-    put_head(&mut head, number, before, reset)?;
-    let old = compared(before, reset);
-    let list = reset.list.as_slice();
-    let ListShown { text, tree } = show_list(alloc, standard, reset.origin, &head, old, list)?;
+    let ListShown { text, tree } = show_judged(alloc, form, number, before, reset)?;
     let bad = tree.is_none();
     notes.keep(reset, tree, bad)?;
     Ok(Shown { text, bad })
 }
 
 /// Shows the reset that waited for its packets, if one did.
-fn show_pending(alloc: Global, standard: Standard, notes: &mut Notes) -> Result<Shown, AllocError>
-    ensures { IfOk result (λ shown. IsPendingShown standard notes.old.pending
+fn show_pending(alloc: Global, form: LogForm, notes: &mut Notes) -> Result<Shown, AllocError>
+    ensures { IfOk result (λ shown. IsPendingShown form notes.old.pending
         (waiting None (noted notes.old)) shown.text.items shown.bad (noted notes.new)) }
 {
     match notes.take() {
-        Some(pending) => show_reset(alloc, standard, notes, pending.number, &pending.reset),
+        Some(pending) => show_reset(alloc, form, notes, pending.number, &pending.reset),
         None => Ok(Shown {
             text: Vec::new(alloc),
             bad: false,
@@ -174,15 +270,15 @@ fn show_pending(alloc: Global, standard: Standard, notes: &mut Notes) -> Result<
 /// Shows the reset that waited for its packets, and lets another one wait.
 fn show_begun(
     alloc: Global,
-    standard: Standard,
+    form: LogForm,
     notes: &mut Notes,
     number: u64,
     begun: Begun,
 ) -> Result<Shown, AllocError>
-    ensures { IfOk result (λ shown. IsBegunShown standard number (noted notes.old) begun
+    ensures { IfOk result (λ shown. IsBegunShown form number (noted notes.old) begun
         shown.text.items shown.bad (noted notes.new)) }
 {
-    let shown = show_pending(alloc, standard, notes)?;
+    let shown = show_pending(alloc, form, notes)?;
     notes.begin(alloc, number, begun);
     Ok(shown)
 }
@@ -190,17 +286,17 @@ fn show_begun(
 /// Takes a packet, and shows its reset if it is the last one.
 fn show_packet(
     alloc: Global,
-    standard: Standard,
+    form: LogForm,
     notes: &mut Notes,
     card: u64,
     quad: u32,
 ) -> Result<Shown, AllocError>
-    ensures { IfOk result (λ shown. IsPacketShown standard
+    ensures { IfOk result (λ shown. IsPacketShown form
         (taken_by notes.old.pending card quad) (noted notes.old)
         shown.text.items shown.bad (noted notes.new)) }
 {
     if notes.push(card, quad)? {
-        return show_pending(alloc, standard, notes);
+        return show_pending(alloc, form, notes);
     }
     Ok(Shown {
         text: Vec::new(alloc),
@@ -211,32 +307,34 @@ fn show_packet(
 /// What is shown of the line with this number, which is counted from 1. A reset is noted.
 pub(crate) fn show_line(
     alloc: Global,
-    standard: Standard,
+    form: LogForm,
     notes: &mut Notes,
     number: u64,
     line: &[u8],
 ) -> Result<Shown, AllocError>
-    ensures { IfOk result (λ shown. IsLineShown standard number (noted notes.old) line.now
+    ensures { IfOk result (λ shown. IsLineShown form number (noted notes.old) line.now
         shown.text.items shown.bad (noted notes.new)) }
 {
-    let mut text = Vec::new(alloc);
     match line_of(alloc, line)? {
-        LogLine::Other => Ok(Shown { text, bad: false }),
+        LogLine::Other => Ok(Shown {
+            text: Vec::new(alloc),
+            bad: false,
+        }),
         LogLine::Lost => {
-            put_lost(&mut text, number)?;
+            let text = lost_text(alloc, form, number)?;
             notes.forget();
             Ok(Shown { text, bad: false })
         }
         LogLine::Said(words) => {
-            put_told(&mut text, number, words.as_slice())?;
+            let text = told_text(alloc, form, number, words.as_slice())?;
             Ok(Shown { text, bad: false })
         }
-        LogLine::Begins(begun) => show_begun(alloc, standard, notes, number, begun),
-        LogLine::Packet { card, quad } => show_packet(alloc, standard, notes, card, quad),
+        LogLine::Begins(begun) => show_begun(alloc, form, notes, number, begun),
+        LogLine::Packet { card, quad } => show_packet(alloc, form, notes, card, quad),
         LogLine::Garbled => {
-            put_garbled(&mut text, number)?;
+            let text = garbled_text(alloc, form, number)?;
             Ok(Shown { text, bad: true })
         }
-        LogLine::OfReset(reset) => show_reset(alloc, standard, notes, number, &reset),
+        LogLine::OfReset(reset) => show_reset(alloc, form, notes, number, &reset),
     }
 }

@@ -4,9 +4,10 @@ ghost use Rattle.std.specs.Option.{option_copied};
 ghost use Rattle.self_id.specs.Node.{Node};
 ghost use Rattle.topology_stack.specs.Tree.{walk};
 ghost use Rattle.view_text.specs.Drawing.{all_have};
-ghost use Rattle.reset_log.specs.Texts.{garbled, place, kind, counts, counts_of, fault_line, refused, manager, numbers, other_nodes, same_manager, other_manager, gap_of, agree, gaps_differ, changed, changes, initiator, initiators};
+ghost use Rattle.reset_log.specs.Texts.{garbled, place, kind, known_counts, counts, counts_of, fault_line, refused, manager, numbers, other_nodes, same_manager, other_manager, gap_of, agree, gaps_differ, changed, changes, initiator, initiators};
 
 use crate::hear::ListFault;
+use bus_json::Counts;
 use self_id::{GroupFault, SelfId};
 use std::alloc::AllocError;
 use topology_stack::{BusTree, TreeFault, elect};
@@ -45,25 +46,39 @@ pub(crate) fn place(fault: ListFault) -> usize
 }
 
 /// The rule by which a list is refused.
-fn kind(fault: ListFault) -> &'static [u8]
+pub(crate) fn kind(fault: ListFault) -> &'static str
     ensures { result.now ≡ kind fault }
 {
     match fault {
-        ListFault::Cut { .. } => b" BadLength",
-        ListFault::BadInverse { .. } => b" BadInverse",
+        ListFault::Cut { .. } => "BadLength",
+        ListFault::BadInverse { .. } => "BadInverse",
         ListFault::OfTree(TreeFault::Group(fault)) => match fault {
-            GroupFault::NotSelfId { .. } => b" NotSelfId",
-            GroupFault::WrongId { .. } => b" WrongId",
-            GroupFault::BadOrder { .. } => b" BadOrder",
-            GroupFault::Cut { .. } => b" Cut",
-            GroupFault::TwoParents { .. } => b" TwoParents",
+            GroupFault::NotSelfId { .. } => "NotSelfId",
+            GroupFault::WrongId { .. } => "WrongId",
+            GroupFault::BadOrder { .. } => "BadOrder",
+            GroupFault::Cut { .. } => "Cut",
+            GroupFault::TwoParents { .. } => "TwoParents",
         },
-        ListFault::OfTree(TreeFault::Empty) => b" Empty",
-        ListFault::OfTree(TreeFault::TooFewChildren { .. }) => b" TooFewChildren",
-        ListFault::OfTree(TreeFault::TreesLeft { .. }) => b" TreesLeft",
-        ListFault::OfTree(TreeFault::AfterRoot { .. }) => b" AfterRoot",
-        ListFault::OfTree(TreeFault::NoRoot { .. }) => b" NoRoot",
-        ListFault::OfTree(TreeFault::TooMany { .. }) => b" TooMany",
+        ListFault::OfTree(TreeFault::Empty) => "Empty",
+        ListFault::OfTree(TreeFault::TooFewChildren { .. }) => "TooFewChildren",
+        ListFault::OfTree(TreeFault::TreesLeft { .. }) => "TreesLeft",
+        ListFault::OfTree(TreeFault::AfterRoot { .. }) => "AfterRoot",
+        ListFault::OfTree(TreeFault::NoRoot { .. }) => "NoRoot",
+        ListFault::OfTree(TreeFault::TooMany { .. }) => "TooMany",
+    }
+}
+
+/// What was found and what was wanted, where a fault has both.
+pub(crate) fn known_counts(fault: ListFault) -> Option<Counts>
+    ensures { result ≡ known_counts fault }
+{
+    match fault {
+        ListFault::OfTree(TreeFault::Group(GroupFault::WrongId { found, wanted, .. }))
+        | ListFault::OfTree(TreeFault::TooFewChildren { found, wanted, .. })
+        | ListFault::OfTree(TreeFault::TreesLeft { found, wanted, .. }) => {
+            Some(Counts { found, wanted })
+        }
+        _ => None,
     }
 }
 
@@ -76,17 +91,13 @@ fn put_found(out: &mut Vec<u8>, found: u8, wanted: u8) -> Result<(), AllocError>
     Ok(())
 }
 
-/// Appends what was found and wanted, where a fault has both.
-fn put_counts(out: &mut Vec<u8>, fault: ListFault) -> Result<(), AllocError>
-    ensures { OnOk result (out.new.items ≡ out.old.items ++ counts_of fault) }
+/// Appends what was found and wanted, where both are known.
+fn put_counts(out: &mut Vec<u8>, counts: Option<Counts>) -> Result<(), AllocError>
+    ensures { OnOk result (out.new.items ≡ out.old.items ++ counts_of counts) }
 {
-    match fault {
-        ListFault::OfTree(TreeFault::Group(GroupFault::WrongId { found, wanted, .. }))
-        | ListFault::OfTree(TreeFault::TooFewChildren { found, wanted, .. })
-        | ListFault::OfTree(TreeFault::TreesLeft { found, wanted, .. }) => {
-            put_found(out, found, wanted)
-        }
-        _ => Ok(()),
+    match counts {
+        Some(Counts { found, wanted }) => put_found(out, found, wanted),
+        None => Ok(()),
     }
 }
 
@@ -96,8 +107,9 @@ fn put_fault(out: &mut Vec<u8>, fault: ListFault) -> Result<(), AllocError>
     ensures { OnOk result (out.new.items ≡ out.old.items ++ fault_line fault) }
 {
     put_field(out, b"refused pair ", place(fault) as u64)?;
-    out.extend_from_slice(kind(fault))?;
-    put_counts(out, fault)?;
+    out.extend_from_slice(b" ")?;
+    out.extend_from_slice(kind(fault).as_bytes())?;
+    put_counts(out, known_counts(fault))?;
     out.extend_from_slice(b"\n")?;
     Ok(())
 }

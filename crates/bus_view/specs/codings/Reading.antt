@@ -11,8 +11,8 @@ IsRead Waves = Unit {0}
 IsRead Explain = Unit {0}
 IsRead (Script nodes seed) = ⊥
 IsRead (ListOf name) = Unit {0}
-IsRead (Resets standard) = ⊥
-IsRead (Nosy standard) = ⊥
+IsRead (Resets form) = ⊥
+IsRead (Nosy form) = ⊥
 IsRead (OfItself about) = ⊥
 
 -- the form is answered by a text that is made before anything is written, and where it asks for nodes, for
@@ -24,6 +24,6 @@ IsHeld Waves = Unit {0}
 IsHeld Explain = Unit {0}
 IsHeld (Script nodes seed) = (1 ≤ nodes) × (nodes ≤ 63)
 IsHeld (ListOf name) = Unit {0}
-IsHeld (Resets standard) = ⊥
-IsHeld (Nosy standard) = ⊥
+IsHeld (Resets form) = ⊥
+IsHeld (Nosy form) = ⊥
 IsHeld (OfItself about) = Unit {0}

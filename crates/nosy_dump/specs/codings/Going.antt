@@ -2,14 +2,15 @@
 use Rattle.std.specs.Prelude.{◌≡◌, ◌⊎◌, ℕ, ◌-◌, ◌+◌, ◌<◌, ◌≤◌, ◌^◌, ◌||◌, Bool, true, false, drop, Option, Some, None, List, [], ◌∷◌, ◌++◌, length}
 use Rattle.std.specs.Io.KnownBytes.{Consumes}
 use Rattle.io_edges.specs.Told.{StayTold}
-use Rattle.self_id.specs.declared.standard.Standard.{Standard}
-use Rattle.topology_stack.specs.Tree.{Tree}
+use Rattle.reset_log.specs.declared.form.LogForm.{LogForm}
 use Rattle.reset_log.specs.InOrder.{AreTold}
 use Rattle.reset_log.specs.Wrote.{Wrote, WroteFront}
 use Rattle.nosy_dump.specs.declared.dump.DumpReader.{DumpReader}
 use Rattle.nosy_dump.specs.declared.record.DumpReset.{DumpReset}
 use Rattle.nosy_dump.specs.Record.{record_bytes, dump_of, AreSized, size_of, is_size, IsOpen}
 use Rattle.nosy_dump.specs.Resets.{resets_from}
+use Rattle.nosy_dump.specs.Noted.{Noted, nothing}
+use Rattle.nosy_dump.specs.Notes.{noted}
 use Rattle.nosy_dump.specs.Dump.{IsResetShown, IsDumpShown}
 
 -- the resets of records are those that another one followed, and the one that waits
@@ -21,7 +22,7 @@ AreResets records ended (Some p) = resets_from 0 records ≡ ended ++ p ∷ []
 pub record IsNew (r : DumpReader) : Type 0 where
   pub part_is : r.part.items ≡ []
   pub pending_is : r.pending ≡ None
-  pub tree_is : r.tree ≡ None
+  pub noted_is : noted r.notes ≡ nothing
   pub number_is : r.number ≡ 1
   pub taken_is : r.taken ≡ 0
   pub bad_is : r.bad ≡ false
@@ -39,7 +40,7 @@ pub record Stands {K : Type 0} (written : K → Option (List ℕ)) (faults : K �
     pub holds : Holds r.part.items
     pub resets_are : AreResets records ended r.pending
     pub text : List ℕ
-    pub told : AreTold (IsResetShown r.standard) 1 None ended text r.bad r.tree
+    pub told : AreTold (IsResetShown r.form) 1 nothing ended text r.bad (noted r.notes)
     pub number_is : r.number ≡ length ended + 1
     pub taken_is : r.taken ≡ length done
     pub wrote : Wrote written faults surely_takes old new text
@@ -55,41 +56,41 @@ HasBadLength size bytes = (size_of bytes ≡ Some size) × (is_size size ≡ fal
 
 -- the reset that waited was shown: what is known before and behind it, and what was written
 pub record ShowsReset {K : Type 0} (written : K → Option (List ℕ)) (faults : K → ℕ)
-    (surely_takes : K → ℕ → Type 0) (standard : Standard) (p : DumpReset)
-    (n : ℕ) (t : Option Tree) (b : Bool) (m : ℕ) (u : Option Tree) (c : Bool) (was is : K) : Type 0
+    (surely_takes : K → ℕ → Type 0) (form : LogForm) (p : DumpReset)
+    (n : ℕ) (t : Noted) (b : Bool) (m : ℕ) (u : Noted) (c : Bool) (was is : K) : Type 0
   where
     pub text : List ℕ
     pub here : Bool
-    pub shown : IsResetShown standard n t p text here u
+    pub shown : IsResetShown form n t p text here u
     pub bad : c ≡ b || here
     pub wrote : Wrote written faults surely_takes was is text
     pub number_is : n < 2 ^ 64 - 1 → m ≡ n + 1
 
 -- nothing waited, and nothing was done
-pub record ShowsNone {K : Type 0} (n : ℕ) (t : Option Tree) (b : Bool) (m : ℕ) (u : Option Tree)
+pub record ShowsNone {K : Type 0} (n : ℕ) (t : Noted) (b : Bool) (m : ℕ) (u : Noted)
     (c : Bool) (was is : K) : Type 0
   where
-    pub tree : u ≡ t
+    pub notes : u ≡ t
     pub bad : c ≡ b
     pub wrote : is ≡ was
     pub number_is : m ≡ n
 
 abbrev pub ShowsBy :
     {K : Type 0} → (K → Option (List ℕ)) → (K → ℕ) → (K → ℕ → Type 0) →
-    Standard → Option DumpReset → ℕ → Option Tree → Bool → ℕ → Option Tree → Bool →
+    LogForm → Option DumpReset → ℕ → Noted → Bool → ℕ → Noted → Bool →
     K → K → Type 0
-ShowsBy written faults surely_takes standard None n t b m u c was is = ShowsNone n t b m u c was is
-ShowsBy written faults surely_takes standard (Some p) n t b m u c was is =
-    ShowsReset written faults surely_takes standard p n t b m u c was is
+ShowsBy written faults surely_takes form None n t b m u c was is = ShowsNone n t b m u c was is
+ShowsBy written faults surely_takes form (Some p) n t b m u c was is =
+    ShowsReset written faults surely_takes form p n t b m u c was is
 
 -- the reset that waited was shown, if one did, and nothing else was changed
 pub record Shows {K : Type 0} (written : K → Option (List ℕ)) (faults : K → ℕ)
     (surely_takes : K → ℕ → Type 0) (old new : DumpReader) (was is : K) : Type 0
   where
     pub shown :
-        ShowsBy written faults surely_takes old.standard old.pending
-        old.number old.tree old.bad new.number new.tree new.bad was is
-    pub standard : new.standard ≡ old.standard
+        ShowsBy written faults surely_takes old.form old.pending
+        old.number (noted old.notes) old.bad new.number (noted new.notes) new.bad was is
+    pub form : new.form ≡ old.form
     pub part_is : new.part.items ≡ old.part.items
     pub taken_is : new.taken ≡ old.taken
 
@@ -122,13 +123,13 @@ Goes written faults surely_takes (Some size) r done old new =
 
 -- the front of what is shown of this reset was written
 pub record ShowsPart {K : Type 0} (written : K → Option (List ℕ)) (faults : K → ℕ)
-    (surely_takes : K → ℕ → Type 0) (standard : Standard) (p : DumpReset)
-    (n : ℕ) (t : Option Tree) (was is : K) : Type 0
+    (surely_takes : K → ℕ → Type 0) (form : LogForm) (p : DumpReset)
+    (n : ℕ) (t : Noted) (was is : K) : Type 0
   where
     pub text : List ℕ
     pub here : Bool
-    pub known : Option Tree
-    pub shown : IsResetShown standard n t p text here known
+    pub known : Noted
+    pub shown : IsResetShown form n t p text here known
     pub wrote : WroteFront written faults surely_takes was is text
 
 -- the reset that waited wasn't shown whole
@@ -137,7 +138,7 @@ pub record BreaksReset {K : Type 0} (written : K → Option (List ℕ)) (faults 
   where
     pub reset : DumpReset
     pub pending_is : r.pending ≡ Some reset
-    pub part : ShowsPart written faults surely_takes r.standard reset r.number r.tree was is
+    pub part : ShowsPart written faults surely_takes r.form reset r.number (noted r.notes) was is
 
 abbrev pub BreaksOff :
     {K : Type 0} → (K → Option (List ℕ)) → (K → ℕ) → (K → ℕ → Type 0) → DumpReader → K → K → Type 0
@@ -152,7 +153,7 @@ Solid (r ∷ rs) (p ∷ ps) = Unit {0}
 
 -- the front of what is shown of the first resets of these bytes was written
 pub record Broke {K : Type 0} (written : K → Option (List ℕ)) (faults : K → ℕ)
-    (surely_takes : K → ℕ → Type 0) (standard : Standard) (done : List ℕ)
+    (surely_takes : K → ℕ → Type 0) (form : LogForm) (done : List ℕ)
     (old new : K) : Type 0
   where
     pub records : List (List ℕ)
@@ -165,23 +166,23 @@ pub record Broke {K : Type 0} (written : K → Option (List ℕ)) (faults : K �
     pub solid : Solid first others
     pub text : List ℕ
     pub bad : Bool
-    pub last : Option Tree
-    pub told : AreTold (IsResetShown standard) 1 None first text bad last
+    pub known : Noted
+    pub told : AreTold (IsResetShown form) 1 nothing first text bad known
     pub wrote : WroteFront written faults surely_takes old new text
 
 -- what is shown of this dump was written
 pub record ShowsAll {K : Type 0} (written : K → Option (List ℕ)) (faults : K → ℕ)
-    (surely_takes : K → ℕ → Type 0) (standard : Standard) (dump : List ℕ)
+    (surely_takes : K → ℕ → Type 0) (form : LogForm) (dump : List ℕ)
     (bad : Bool) (old new : K) : Type 0
   where
     pub text : List ℕ
-    pub is_shown : IsDumpShown standard dump text bad
+    pub is_shown : IsDumpShown form dump text bad
     pub wrote : Wrote written faults surely_takes old new text
 
 -- what was read so far, and what was written of it; and the counts of faults of the source and of the
 -- sink, before and now
 pub record Reads {K : Type 0} (written : K → Option (List ℕ)) (faults : K → ℕ)
-    (surely_takes : K → ℕ → Type 0) (r : DumpReader) (standard : Standard)
+    (surely_takes : K → ℕ → Type 0) (r : DumpReader) (form : LogForm)
     (first now : Option (List ℕ)) (was is : K) (reads reading : ℕ) : Type 0
   where
     pub done : List ℕ
@@ -189,6 +190,6 @@ pub record Reads {K : Type 0} (written : K → Option (List ℕ)) (faults : K �
     pub told : StayTold first now
     pub stands : Stands written faults surely_takes IsOpen r done was is
     pub small : length done ≤ 9223372036854775807
-    pub same : r.standard ≡ standard
+    pub same : r.form ≡ form
     pub later : reads ≤ reading
     pub wrote_later : faults was ≤ faults is

@@ -2,7 +2,7 @@
 use Rattle.std.specs.Prelude.{◌≡◌, ◌⊎◌, ℕ, ◌+◌, ◌<◌, ◌≤◌, ◌^◌, ◌||◌, Bool, false, Option, List, [], ◌∷◌, ◌++◌, length, take}
 use Rattle.std.specs.Io.KnownBytes.{Consumes}
 use Rattle.io_edges.specs.Told.{StayTold}
-use Rattle.self_id.specs.declared.standard.Standard.{Standard}
+use Rattle.reset_log.specs.declared.form.LogForm.{LogForm}
 use Rattle.reset_log.specs.Noted.{Noted, nothing}
 use Rattle.reset_log.specs.Notes.{noted}
 use Rattle.reset_log.specs.declared.log.LogReader.{LogReader}
@@ -20,7 +20,7 @@ pub record IsNew (r : LogReader) : Type 0 where
 
 -- it was given these bytes, and this is what is shown of their whole lines
 pub record Holds (r : LogReader) (done text : List ℕ) : Type 0 where
-  pub shown : AreShown r.standard 1 nothing (parted done).lines text r.bad (noted r.notes)
+  pub shown : AreShown r.form 1 nothing (parted done).lines text r.bad (noted r.notes)
   pub line_is : r.line.items ≡ take 65536 (parted done).open_line
   pub number_is : r.number ≡ length (parted done).lines + 1
   pub taken_is : r.taken ≡ length done
@@ -38,10 +38,10 @@ pub record ShowsLine (old new : LogReader) (was is : List ℕ) : Type 0 where
   pub text : List ℕ
   pub here : Bool
   pub shown :
-      IsLineShown old.standard old.number (noted old.notes) old.line.items text here (noted new.notes)
+      IsLineShown old.form old.number (noted old.notes) old.line.items text here (noted new.notes)
   pub gathered : is ≡ was ++ text
   pub bad : new.bad ≡ old.bad || here
-  pub standard : new.standard ≡ old.standard
+  pub form : new.form ≡ old.form
   pub line_is : new.line.items ≡ []
   pub number_is : old.number < 2 ^ 63 → new.number ≡ old.number + 1
   pub taken_is : new.taken ≡ old.taken
@@ -51,7 +51,7 @@ pub record KeepsBytes (old new : LogReader) (bytes : List ℕ) : Type 0 where
   pub line_is :
       (line : List ℕ) → old.line.items ≡ take 65536 line →
       new.line.items ≡ take 65536 (line ++ bytes)
-  pub standard : new.standard ≡ old.standard
+  pub form : new.form ≡ old.form
   pub notes : noted new.notes ≡ noted old.notes
   pub number_is : new.number ≡ old.number
   pub taken_is : old.taken + length bytes < 2 ^ 64 → new.taken ≡ old.taken + length bytes
@@ -62,13 +62,13 @@ abbrev pub IsOneLine : List ℕ → Type 0
 IsOneLine bytes = parted bytes ≡ record { lines = []; open_line = bytes }
 
 -- this is what is shown of the first of these lines
-pub record Begun (standard : Standard) (lines : List (List ℕ)) (text : List ℕ) : Type 0 where
+pub record Begun (form : LogForm) (lines : List (List ℕ)) (text : List ℕ) : Type 0 where
   pub first : List (List ℕ)
   pub others : List (List ℕ)
   pub lines_are : lines ≡ first ++ others
   pub bad : Bool
   pub known : Noted
-  pub shown : AreShown standard 1 nothing first text bad known
+  pub shown : AreShown form 1 nothing first text bad known
 
 -- the front of what is shown of the line that was kept was written
 pub record ShowsPart {K : Type 0} (written : K → Option (List ℕ)) (faults : K → ℕ)
@@ -77,7 +77,7 @@ pub record ShowsPart {K : Type 0} (written : K → Option (List ℕ)) (faults : 
     pub text : List ℕ
     pub here : Bool
     pub known : Noted
-    pub shown : IsLineShown r.standard r.number (noted r.notes) r.line.items text here known
+    pub shown : IsLineShown r.form r.number (noted r.notes) r.line.items text here known
     pub wrote : WroteFront written faults surely_takes was is text
 
 -- the line that was kept wasn't shown whole
@@ -94,35 +94,35 @@ BreaksText written faults surely_takes was is text =
 
 -- the front of what is shown of the first of these lines was written
 pub record Broke {K : Type 0} (written : K → Option (List ℕ)) (faults : K → ℕ)
-    (surely_takes : K → ℕ → Type 0) (standard : Standard) (lines : List (List ℕ)) (old new : K) :
+    (surely_takes : K → ℕ → Type 0) (form : LogForm) (lines : List (List ℕ)) (old new : K) :
     Type 0
   where
     pub text : List ℕ
-    pub begun : Begun standard lines text
+    pub begun : Begun form lines text
     pub wrote : WroteFront written faults surely_takes old new text
 
 -- these lines were shown
 pub record ShowsLines {K : Type 0} (written : K → Option (List ℕ)) (faults : K → ℕ)
-    (surely_takes : K → ℕ → Type 0) (r : LogReader) (standard : Standard) (lines : List (List ℕ))
+    (surely_takes : K → ℕ → Type 0) (r : LogReader) (form : LogForm) (lines : List (List ℕ))
     (old new : K) : Type 0
   where
     pub text : List ℕ
-    pub shown : AreShown standard 1 nothing lines text r.bad (noted r.notes)
+    pub shown : AreShown form 1 nothing lines text r.bad (noted r.notes)
     pub wrote : Wrote written faults surely_takes old new text
 
 -- what is shown of a log of these lines was written
 pub record ShowsAll {K : Type 0} (written : K → Option (List ℕ)) (faults : K → ℕ)
-    (surely_takes : K → ℕ → Type 0) (standard : Standard) (lines : List (List ℕ)) (bad : Bool)
+    (surely_takes : K → ℕ → Type 0) (form : LogForm) (lines : List (List ℕ)) (bad : Bool)
     (old new : K) : Type 0
   where
     pub text : List ℕ
-    pub is_shown : IsLogShown standard lines text bad
+    pub is_shown : IsLogShown form lines text bad
     pub wrote : Wrote written faults surely_takes old new text
 
 -- what was read so far, and what was written of it; and the counts of faults of the source and of the
 -- sink, before and now
 pub record Reads {K : Type 0} (written : K → Option (List ℕ)) (faults : K → ℕ)
-    (surely_takes : K → ℕ → Type 0) (r : LogReader) (standard : Standard)
+    (surely_takes : K → ℕ → Type 0) (r : LogReader) (form : LogForm)
     (first now : Option (List ℕ)) (was is : K) (reads reading : ℕ) : Type 0
   where
     pub done : List ℕ
@@ -130,6 +130,6 @@ pub record Reads {K : Type 0} (written : K → Option (List ℕ)) (faults : K �
     pub told : StayTold first now
     pub stands : Stands written faults surely_takes r done was is
     pub small : length done ≤ 9223372036854775807
-    pub same : r.standard ≡ standard
+    pub same : r.form ≡ form
     pub later : reads ≤ reading
     pub wrote_later : faults was ≤ faults is

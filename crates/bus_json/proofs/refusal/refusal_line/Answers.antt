@@ -10,6 +10,6 @@ use Rattle.bus_json.proofs.refusal.refusal_line.Goals as goal
 pub returns-clause-reads_back : goal.returns-clause-reads_back
 returns-clause-reads_back c =
     let v = refusal_value c.args.pair c.args.kind.now c.args.counts in
-    let e : c.close_object.new.self ≡ json_tokens v = simp (c.in_ok-close_object.ensures, c.in_ok-put_counts.ensures, c.in_ok-string_member.ensures, c.in_ok-number_member.ensures, c.in_ok-open_object.ensures, c.in_ok-key.ensures, c.in_ok-open_schema.ensures, c.new-out.ensures, append_assoc) in
+    let e : c.put_refusal.new.out ≡ json_tokens v = simp (c.in_ok-put_refusal.ensures, c.in_ok-open_schema.ensures, c.new-out.ensures, append_assoc) in
     reads_back v (subst (λ (ts : List Token). tokens (print ts) ≡ ts) e c.into_line.ensures.reads_back)
     (refusal_shallow c.args.pair c.args.kind.now c.args.counts)

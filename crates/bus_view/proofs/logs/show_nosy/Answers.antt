@@ -1,7 +1,7 @@
 use Rattle.std.proofs.Common.{◌≡◌, ℕ, Bool, List, Option, Some, None, Result, Ok, Err, sym, subst}
 use Rattle.std.specs.Prelude.{IfSome, IfOk}
 use Rattle.std.specs.Io.KnownBytes.{Appends, IsAtEnd}
-use Rattle.self_id.specs.declared.standard.Standard.{Standard}
+use Rattle.reset_log.specs.declared.form.LogForm.{LogForm}
 use Rattle.reset_log.specs.declared.stop.LogStop.{LogStop}
 use Rattle.nosy_dump.specs.Dump.{IsDumpShown, IsWritten, IsBegun}
 use Rattle.bus_view.specs.Log.{IsDumpView, ShowsAsItComes}
@@ -9,12 +9,12 @@ use Rattle.bus_view.specs.codings.Log.{log_status}
 use Rattle.bus_view.proofs.Shown.{answered_well, shows}
 use Rattle.bus_view.proofs.logs.show_nosy.Goals as goal
 
-written : (standard : Standard) (r : Result Bool LogStop) (left old new : Option (List ℕ)) →
-    IfOk r (λ bad. IfSome left (λ dump. IsWritten standard old new dump bad)) →
-    IfOk r (λ bad. IfSome left (λ dump. (text : List ℕ) × IsDumpShown standard dump text bad × Appends old new text))
-written standard (Ok bad) None old new ok = tt
-written standard (Ok bad) (Some dump) old new ok = (ok.text, ok.is_shown, ok.wrote)
-written standard (Err stop) left old new ok = tt
+written : (form : LogForm) (r : Result Bool LogStop) (left old new : Option (List ℕ)) →
+    IfOk r (λ bad. IfSome left (λ dump. IsWritten form old new dump bad)) →
+    IfOk r (λ bad. IfSome left (λ dump. (text : List ℕ) × IsDumpShown form dump text bad × Appends old new text))
+written form (Ok bad) None old new ok = tt
+written form (Ok bad) (Some dump) old new ok = (ok.text, ok.is_shown, ok.wrote)
+written form (Err stop) left old new ok = tt
 
 pub returns : goal.returns
 returns g c =
@@ -26,10 +26,10 @@ returns g c =
     let sink = c.args.sink.now in
     let wrote = c.show_dump.new.sink in
     subst (λ (s : ℕ). ShowsAsItComes left g.S.Source.faults g.K.Sink.written g.K.Sink.faults g.K.Sink.surely_takes (s ≡ 0)
-    (IsDumpView c.args.standard) (IsBegun c.args.standard) s source read sink wrote) (sym c.status_shown.ensures)
-    (shows left g.S.Source.faults g.K.Sink.written g.K.Sink.faults g.K.Sink.surely_takes _ (λ bytes. IsDumpShown c.args.standard bytes) (IsBegun c.args.standard) r source read sink wrote
+    (IsDumpView c.args.form) (IsBegun c.args.form) s source read sink wrote) (sym c.status_shown.ensures)
+    (shows left g.S.Source.faults g.K.Sink.written g.K.Sink.faults g.K.Sink.surely_takes _ (λ bytes. IsDumpShown c.args.form bytes) (IsBegun c.args.form) r source read sink wrote
     record {
-      shown = written c.args.standard r (left source) (g.K.Sink.written sink) (g.K.Sink.written wrote) is.shown;
+      shown = written c.args.form r (left source) (g.K.Sink.written sink) (g.K.Sink.written wrote) is.shown;
       end = answered_well r (IsAtEnd (left read)) is.end;
       read_fault = is.read_fault;
       write_fault = is.write_fault;
@@ -39,6 +39,6 @@ returns g c =
       exact = is.exact;
       complete = is.complete;
       sure = is.sure;
-      some = c.dumps_have_one_text.ensures.some c.args.standard;
+      some = c.dumps_have_one_text.ensures.some c.args.form;
       fit = g.met.S.Source.fit source;
     })

@@ -1,7 +1,7 @@
 use Rattle.std.proofs.Common.{◌≡◌, ◌⊎◌, ℕ, Bool, List, Option, Some, None, Result, Ok, Err, sym, subst}
 use Rattle.std.specs.Prelude.{IfSome, IfOk, OnOk}
 use Rattle.std.specs.Io.KnownBytes.{Appends, IsAtEnd}
-use Rattle.self_id.specs.declared.standard.Standard.{Standard}
+use Rattle.reset_log.specs.declared.form.LogForm.{LogForm}
 use Rattle.reset_log.specs.declared.stop.LogStop.{LogStop}
 use Rattle.reset_log.specs.Log.{lines_of, IsLogShown, AreWritten}
 use Rattle.bus_view.specs.Log.{IsLogView, IsLogBegun, ShowsAsItComes}
@@ -9,12 +9,12 @@ use Rattle.bus_view.specs.codings.Log.{log_status}
 use Rattle.bus_view.proofs.Shown.{answered, shows}
 use Rattle.bus_view.proofs.logs.show_resets.Goals as goal
 
-written : (standard : Standard) (r : Result Bool LogStop) (left old new : Option (List ℕ)) →
-    IfOk r (λ bad. IfSome left (λ log. AreWritten standard old new (lines_of log) bad)) →
-    IfOk r (λ bad. IfSome left (λ log. (text : List ℕ) × IsLogShown standard (lines_of log) text bad × Appends old new text))
-written standard (Ok bad) None old new ok = tt
-written standard (Ok bad) (Some log) old new ok = (ok.text, ok.is_shown, ok.wrote)
-written standard (Err stop) left old new ok = tt
+written : (form : LogForm) (r : Result Bool LogStop) (left old new : Option (List ℕ)) →
+    IfOk r (λ bad. IfSome left (λ log. AreWritten form old new (lines_of log) bad)) →
+    IfOk r (λ bad. IfSome left (λ log. (text : List ℕ) × IsLogShown form (lines_of log) text bad × Appends old new text))
+written form (Ok bad) None old new ok = tt
+written form (Ok bad) (Some log) old new ok = (ok.text, ok.is_shown, ok.wrote)
+written form (Err stop) left old new ok = tt
 
 at_end : (r : Result Bool LogStop) (P : Type 0) → OnOk r P → IfOk r (λ bad. P)
 at_end (Ok bad) P ok = ok
@@ -30,10 +30,10 @@ returns g c =
     let sink = c.args.sink.now in
     let wrote = c.show_log.new.sink in
     subst (λ (s : ℕ). ShowsAsItComes left g.S.Source.faults g.K.Sink.written g.K.Sink.faults g.K.Sink.surely_takes ((s ≡ 0) ⊎ (s ≡ 1))
-    (IsLogView c.args.standard) (IsLogBegun c.args.standard) s source read sink wrote) (sym c.status_shown.ensures)
-    (shows left g.S.Source.faults g.K.Sink.written g.K.Sink.faults g.K.Sink.surely_takes _ (λ bytes. IsLogShown c.args.standard (lines_of bytes)) (IsLogBegun c.args.standard) r source read sink wrote
+    (IsLogView c.args.form) (IsLogBegun c.args.form) s source read sink wrote) (sym c.status_shown.ensures)
+    (shows left g.S.Source.faults g.K.Sink.written g.K.Sink.faults g.K.Sink.surely_takes _ (λ bytes. IsLogShown c.args.form (lines_of bytes)) (IsLogBegun c.args.form) r source read sink wrote
     record {
-      shown = written c.args.standard r (left source) (g.K.Sink.written sink) (g.K.Sink.written wrote) is.shown;
+      shown = written c.args.form r (left source) (g.K.Sink.written sink) (g.K.Sink.written wrote) is.shown;
       end = answered r (IsAtEnd (left read)) (at_end r (IsAtEnd (left read)) is.end);
       read_fault = is.read_fault;
       write_fault = is.write_fault;
@@ -43,6 +43,6 @@ returns g c =
       exact = is.exact;
       complete = is.complete;
       sure = is.sure;
-      some = λ bytes fit. c.logs_have_one_text.ensures.some c.args.standard bytes;
+      some = λ bytes fit. c.logs_have_one_text.ensures.some c.args.form bytes;
       fit = g.met.S.Source.fit source;
     })

@@ -1,7 +1,7 @@
 use Rattle.std.proofs.Common.{◌≡◌, ◌⊎◌, inl, inr, ◌<◌, ◌≤◌, [], length, refl, subst}
 use Rattle.std.proofs.lemmas.List.Elements.{All-nil}
 use Rattle.std.specs.Io.KnownBytes.{Appends}
-use Rattle.self_id.specs.declared.standard.Standard.{Standard}
+use Rattle.reset_log.specs.declared.form.LogForm.{LogForm}
 use Rattle.nosy_dump.specs.Dump.{IsBegun}
 use Rattle.bus_cli.proofs.Lemmas.{of_answer, of_few}
 use Rattle.bus_view.specs.declared.form.ViewForm.TheVariants.{Resets, Nosy}
@@ -12,79 +12,79 @@ use Rattle.bus_view.proofs.top.view_asked.Goals as goal
 
 pub returns-in-Some-clause-streams : goal.returns-in-Some-clause-streams
 returns-in-Some-clause-streams g c = λ no_log.
-    let asks = (c.in-Some.ensures c.in-Some.standard).0 refl in
-    absurd (no_log (c.in-Some.standard, inl asks))
+    let asks = (c.in-Some.ensures c.in-Some.form).0 refl in
+    absurd (no_log (c.in-Some.form, inl asks))
 
 pub returns-in-Some-clause-no_form : goal.returns-in-Some-clause-no_form
 returns-in-Some-clause-no_form g c =
-    let asks = (c.in-Some.ensures c.in-Some.standard).0 refl in
-    (λ two. absurd (c.show_resets.ensures.is_form two), λ none. absurd (none (Resets c.in-Some.standard, asks)))
+    let asks = (c.in-Some.ensures c.in-Some.form).0 refl in
+    (λ two. absurd (c.show_resets.ensures.is_form two), λ none. absurd (none (Resets c.in-Some.form, asks)))
 
 pub returns-in-Some-clause-resets : goal.returns-in-Some-clause-resets
-returns-in-Some-clause-resets g c = λ standard again.
-    let asks = (c.in-Some.ensures c.in-Some.standard).0 refl in
+returns-in-Some-clause-resets g c = λ form again.
+    let asks = (c.in-Some.ensures c.in-Some.form).0 refl in
     let left = g.S.Source.left in
     let status = c.show_resets.result in
-    subst (λ (s : Standard). ShowsAsItComes left g.S.Source.faults g.K.Sink.written g.K.Sink.faults g.K.Sink.surely_takes ((status ≡ 0) ⊎ (status ≡ 1)) (IsLogView s) (IsLogBegun s) status c.args.source.now c.show_resets.new.source c.args.sink.now c.show_resets.new.sink)
-    (one_resets c.args.words.now c.in-Some.standard standard asks again) c.show_resets.ensures
+    subst (λ (s : LogForm). ShowsAsItComes left g.S.Source.faults g.K.Sink.written g.K.Sink.faults g.K.Sink.surely_takes ((status ≡ 0) ⊎ (status ≡ 1)) (IsLogView s) (IsLogBegun s) status c.args.source.now c.show_resets.new.source c.args.sink.now c.show_resets.new.sink)
+    (one_resets c.args.words.now c.in-Some.form form asks again) c.show_resets.ensures
 
 pub returns-in-Some-clause-nosy : goal.returns-in-Some-clause-nosy
-returns-in-Some-clause-nosy g c = λ standard again.
-    let asks = (c.in-Some.ensures c.in-Some.standard).0 refl in
-    absurd (no_dump c.args.words.now c.in-Some.standard standard asks again)
+returns-in-Some-clause-nosy g c = λ form again.
+    let asks = (c.in-Some.ensures c.in-Some.form).0 refl in
+    absurd (no_dump c.args.words.now c.in-Some.form form asks again)
 
 pub returns-in-Some-clause-unfailing : goal.returns-in-Some-clause-unfailing
 returns-in-Some-clause-unfailing g c = λ input.
-    let asks = (c.in-Some.ensures c.in-Some.standard).0 refl in
-    absurd (input_apart c.args.words.now input (c.in-Some.standard, inl asks))
+    let asks = (c.in-Some.ensures c.in-Some.form).0 refl in
+    absurd (input_apart c.args.words.now input (c.in-Some.form, inl asks))
 
 pub returns-in-Some-clause-script : goal.returns-in-Some-clause-script
 returns-in-Some-clause-script g c = λ nodes seed script zero.
-    let asks = (c.in-Some.ensures c.in-Some.standard).0 refl in
-    absurd (input_apart c.args.words.now (inl (nodes, seed, script)) (c.in-Some.standard, inl asks))
+    let asks = (c.in-Some.ensures c.in-Some.form).0 refl in
+    absurd (input_apart c.args.words.now (inl (nodes, seed, script)) (c.in-Some.form, inl asks))
 
 pub returns-in-Some-clause-itself : goal.returns-in-Some-clause-itself
 returns-in-Some-clause-itself g c = λ about itself zero.
-    let asks = (c.in-Some.ensures c.in-Some.standard).0 refl in
-    absurd (input_apart c.args.words.now (inr (about, itself)) (c.in-Some.standard, inl asks))
+    let asks = (c.in-Some.ensures c.in-Some.form).0 refl in
+    absurd (input_apart c.args.words.now (inr (about, itself)) (c.in-Some.form, inl asks))
 
-pub returns-in-Some-dump_standard-clause-streams : goal.returns-in-Some-dump_standard-clause-streams
-returns-in-Some-dump_standard-clause-streams g c = λ no_log.
-    let asks = (c.in-Some-dump_standard.ensures c.in-Some-dump_standard.standard).0 refl in
-    absurd (no_log (c.in-Some-dump_standard.standard, inr asks))
+pub returns-in-Some-dump_form-clause-streams : goal.returns-in-Some-dump_form-clause-streams
+returns-in-Some-dump_form-clause-streams g c = λ no_log.
+    let asks = (c.in-Some-dump_form.ensures c.in-Some-dump_form.form).0 refl in
+    absurd (no_log (c.in-Some-dump_form.form, inr asks))
 
-pub returns-in-Some-dump_standard-clause-no_form : goal.returns-in-Some-dump_standard-clause-no_form
-returns-in-Some-dump_standard-clause-no_form g c =
-    let asks = (c.in-Some-dump_standard.ensures c.in-Some-dump_standard.standard).0 refl in
-    (λ two. absurd (c.show_nosy.ensures.is_form two), λ none. absurd (none (Nosy c.in-Some-dump_standard.standard, asks)))
+pub returns-in-Some-dump_form-clause-no_form : goal.returns-in-Some-dump_form-clause-no_form
+returns-in-Some-dump_form-clause-no_form g c =
+    let asks = (c.in-Some-dump_form.ensures c.in-Some-dump_form.form).0 refl in
+    (λ two. absurd (c.show_nosy.ensures.is_form two), λ none. absurd (none (Nosy c.in-Some-dump_form.form, asks)))
 
-pub returns-in-Some-dump_standard-clause-nosy : goal.returns-in-Some-dump_standard-clause-nosy
-returns-in-Some-dump_standard-clause-nosy g c = λ standard again.
-    let asks = (c.in-Some-dump_standard.ensures c.in-Some-dump_standard.standard).0 refl in
+pub returns-in-Some-dump_form-clause-nosy : goal.returns-in-Some-dump_form-clause-nosy
+returns-in-Some-dump_form-clause-nosy g c = λ form again.
+    let asks = (c.in-Some-dump_form.ensures c.in-Some-dump_form.form).0 refl in
     let left = g.S.Source.left in
     let status = c.show_nosy.result in
-    subst (λ (s : Standard). ShowsAsItComes left g.S.Source.faults g.K.Sink.written g.K.Sink.faults g.K.Sink.surely_takes (status ≡ 0) (IsDumpView s) (IsBegun s) status c.args.source.now c.show_nosy.new.source c.args.sink.now c.show_nosy.new.sink)
-    (one_nosy c.args.words.now c.in-Some-dump_standard.standard standard asks again) c.show_nosy.ensures
+    subst (λ (s : LogForm). ShowsAsItComes left g.S.Source.faults g.K.Sink.written g.K.Sink.faults g.K.Sink.surely_takes (status ≡ 0) (IsDumpView s) (IsBegun s) status c.args.source.now c.show_nosy.new.source c.args.sink.now c.show_nosy.new.sink)
+    (one_nosy c.args.words.now c.in-Some-dump_form.form form asks again) c.show_nosy.ensures
 
-pub returns-in-Some-dump_standard-clause-resets : goal.returns-in-Some-dump_standard-clause-resets
-returns-in-Some-dump_standard-clause-resets g c = λ standard again.
-    let asks = (c.in-Some-dump_standard.ensures c.in-Some-dump_standard.standard).0 refl in
-    absurd (no_dump c.args.words.now standard c.in-Some-dump_standard.standard again asks)
+pub returns-in-Some-dump_form-clause-resets : goal.returns-in-Some-dump_form-clause-resets
+returns-in-Some-dump_form-clause-resets g c = λ form again.
+    let asks = (c.in-Some-dump_form.ensures c.in-Some-dump_form.form).0 refl in
+    absurd (no_dump c.args.words.now form c.in-Some-dump_form.form again asks)
 
-pub returns-in-Some-dump_standard-clause-unfailing : goal.returns-in-Some-dump_standard-clause-unfailing
-returns-in-Some-dump_standard-clause-unfailing g c = λ input.
-    let asks = (c.in-Some-dump_standard.ensures c.in-Some-dump_standard.standard).0 refl in
-    absurd (input_apart c.args.words.now input (c.in-Some-dump_standard.standard, inr asks))
+pub returns-in-Some-dump_form-clause-unfailing : goal.returns-in-Some-dump_form-clause-unfailing
+returns-in-Some-dump_form-clause-unfailing g c = λ input.
+    let asks = (c.in-Some-dump_form.ensures c.in-Some-dump_form.form).0 refl in
+    absurd (input_apart c.args.words.now input (c.in-Some-dump_form.form, inr asks))
 
-pub returns-in-Some-dump_standard-clause-script : goal.returns-in-Some-dump_standard-clause-script
-returns-in-Some-dump_standard-clause-script g c = λ nodes seed script zero.
-    let asks = (c.in-Some-dump_standard.ensures c.in-Some-dump_standard.standard).0 refl in
-    absurd (input_apart c.args.words.now (inl (nodes, seed, script)) (c.in-Some-dump_standard.standard, inr asks))
+pub returns-in-Some-dump_form-clause-script : goal.returns-in-Some-dump_form-clause-script
+returns-in-Some-dump_form-clause-script g c = λ nodes seed script zero.
+    let asks = (c.in-Some-dump_form.ensures c.in-Some-dump_form.form).0 refl in
+    absurd (input_apart c.args.words.now (inl (nodes, seed, script)) (c.in-Some-dump_form.form, inr asks))
 
-pub returns-in-Some-dump_standard-clause-itself : goal.returns-in-Some-dump_standard-clause-itself
-returns-in-Some-dump_standard-clause-itself g c = λ about itself zero.
-    let asks = (c.in-Some-dump_standard.ensures c.in-Some-dump_standard.standard).0 refl in
-    absurd (input_apart c.args.words.now (inr (about, itself)) (c.in-Some-dump_standard.standard, inr asks))
+pub returns-in-Some-dump_form-clause-itself : goal.returns-in-Some-dump_form-clause-itself
+returns-in-Some-dump_form-clause-itself g c = λ about itself zero.
+    let asks = (c.in-Some-dump_form.ensures c.in-Some-dump_form.form).0 refl in
+    absurd (input_apart c.args.words.now (inr (about, itself)) (c.in-Some-dump_form.form, inr asks))
 
 pub returns-clause-streams : goal.returns-clause-streams
 returns-clause-streams g c = λ no_log.
@@ -119,11 +119,11 @@ returns-clause-streams g c = λ no_log.
 pub view_words-requires : goal.view_words-requires
 view_words-requires g c = λ log. elim log.1 [
   | inl resets ↦ let e = (c.in_default.ensures log.0).1 resets in cc
-  | inr nosy ↦ let e = (c.in_default-dump_standard.ensures log.0).1 nosy in cc
+  | inr nosy ↦ let e = (c.in_default-dump_form.ensures log.0).1 nosy in cc
 ]
 
 pub returns-clause-resets : goal.returns-clause-resets
-returns-clause-resets g c = λ standard resets. absurd (let e = (c.in_default.ensures standard).1 resets in cc)
+returns-clause-resets g c = λ form resets. absurd (let e = (c.in_default.ensures form).1 resets in cc)
 
 pub returns-clause-nosy : goal.returns-clause-nosy
-returns-clause-nosy g c = λ standard nosy. absurd (let e = (c.in_default-dump_standard.ensures standard).1 nosy in cc)
+returns-clause-nosy g c = λ form nosy. absurd (let e = (c.in_default-dump_form.ensures form).1 nosy in cc)

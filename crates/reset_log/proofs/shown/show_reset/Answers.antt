@@ -1,7 +1,6 @@
-use Rattle.std.proofs.Common.{refl, sym, ◌∙◌, Option, subst}
+use Rattle.std.proofs.Common.{sym, ◌∙◌, Option, subst}
 use Rattle.std.specs.Option.{option_copied}
 use Rattle.reset_log.specs.declared.cards.Known.{Known}
-use Rattle.reset_log.specs.Noted.{last_of}
 use Rattle.reset_log.specs.Notes.{noted}
 use Rattle.reset_log.specs.Shown.{IsResetShown}
 use Rattle.reset_log.proofs.Judged.{judged, none_is}
@@ -9,8 +8,7 @@ use Rattle.reset_log.proofs.shown.show_reset.Goals as goal
 
 pub returns : goal.returns
 returns c =
-    subst (λ (b : Option Known). IsResetShown c.args.standard c.args.number b (noted c.args.notes.now) c.args.reset.now c.in_ok-text.field-0.text.items c.is_none-bad.result (noted c.keep-2.new.self))
+    subst (λ (b : Option Known). IsResetShown c.args.form c.args.number b (noted c.args.notes.now) c.args.reset.now c.in_ok-text-2.field-0.text.items c.is_none-bad.result (noted c.keep-2.new.self))
     (rw (c.deref.ensures.value) at c.last_of-before.ensures)
-    (judged c.args.standard c.args.number (option_copied c.last_of-before.result) (noted c.args.notes.now) (noted c.keep-2.new.self) c.args.reset.now c.deref-2.result.now c.as_slice-list.result.now _ _ c.in_ok-text.field-0.tree c.is_none-bad.result
-    (sym c.is_repeated.ensures ∙ c.if-is_repeated.false) c.if-reset.false (rw (c.deref-2.ensures.value, c.in_ok-put_head.ensures, c.new-head.ensures.items) refl) c.as_slice-list.ensures
-    c.compared-old.ensures c.in_ok-text.ensures (none_is _ _ c.is_none-bad.ensures) c.in_ok-keep-2.ensures)
+    (judged c.args.form c.args.number (option_copied c.last_of-before.result) (noted c.args.notes.now) (noted c.keep-2.new.self) c.args.reset.now _ c.in_ok-text-2.field-0.tree c.is_none-bad.result
+    (sym c.is_repeated.ensures ∙ c.if-is_repeated.false) c.if-reset.false c.in_ok-text-2.ensures (none_is _ _ c.is_none-bad.ensures) c.in_ok-keep-2.ensures)

@@ -19,4 +19,4 @@ returns-then-not-is_size-clause-ok g c = λ done start few st.
 pub returns-in_err-push-clause-part : goal.returns-in_err-push-clause-part
 returns-in_err-push-clause-part g c =
     on_err c.from_residual.result _ (λ done start few st.
-    broke_more c.args.self.now.standard done (c.args.byte ∷ []) start c.args.sink.now (stood IsOpen c.args.self.now done start c.args.sink.now st))
+    broke_more c.args.self.now.form done (c.args.byte ∷ []) start c.args.sink.now (stood IsOpen c.args.self.now done start c.args.sink.now st))

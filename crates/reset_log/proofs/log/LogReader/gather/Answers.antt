@@ -38,15 +38,15 @@ returns-clause-ok c = λ done text few h.
 pub returns-clause-begun : goal.returns-clause-begun
 returns-clause-begun c = λ done text few h.
     let so = c.loop-line.invariant in
-    begun_so_far c.args.self.now.standard c.loop-line.self done c.args.bytes.now so.0 c.loop-line.rest.now text c.loop-line.out.items (so.2 done text few h) so.1 so.3
+    begun_so_far c.args.self.now.form c.loop-line.self done c.args.bytes.now so.0 c.loop-line.rest.now text c.loop-line.out.items (so.2 done text few h) so.1 so.3
 
 pub returns-in_err-end_line-clause-begun : goal.returns-in_err-end_line-clause-begun
 returns-in_err-end_line-clause-begun c = λ done text few h.
     let so = c.loop-line.invariant in
     rw c.in_err-end_line.ensures.part
-    (begun_so_far c.args.self.now.standard c.loop-line.self done c.args.bytes.now so.0 c.loop-line.rest.now text c.loop-line.out.items (so.2 done text few h) so.1 so.3)
+    (begun_so_far c.args.self.now.form c.loop-line.self done c.args.bytes.now so.0 c.loop-line.rest.now text c.loop-line.out.items (so.2 done text few h) so.1 so.3)
 
 pub returns-in_err-keep-clause-begun : goal.returns-in_err-keep-clause-begun
 returns-in_err-keep-clause-begun c = λ done text few h.
     let so = c.loop-line.invariant in
-    begun_so_far c.args.self.now.standard c.loop-line.self done c.args.bytes.now so.0 c.loop-line.rest.now text c.loop-line.out.items (so.2 done text few h) so.1 so.3
+    begun_so_far c.args.self.now.form c.loop-line.self done c.args.bytes.now so.0 c.loop-line.rest.now text c.loop-line.out.items (so.2 done text few h) so.1 so.3

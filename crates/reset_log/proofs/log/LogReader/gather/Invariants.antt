@@ -7,7 +7,7 @@ invariant-loop-line l =
     (took : List ℕ) × (l.bytes ≡ took ++ l.rest)
     × ((done text : List ℕ) → length done + length l.bytes ≤ 9223372036854775807 → Holds l.initial.self done (text ++ l.initial.out.items) →
     Holds l.self (done ++ took) (text ++ l.out.items))
-    × (l.self.standard ≡ l.initial.self.standard)
+    × (l.self.form ≡ l.initial.self.form)
 
 abbrev pub decreases-loop-line : goal.decreases-loop-line
 decreases-loop-line l = length l.rest

@@ -10,7 +10,7 @@ returns c =
           c.in_ok-extend_from_slice.ensures.items
           ∙ ap (λ (l : List ℕ). c.args.self.now.line.items ++ l) (c.front.ensures ∙ ap (λ (n : ℕ). take n c.args.bytes.now) room)
           ∙ kept_on 65536 c.args.self.now.line.items line c.args.bytes.now e;
-      standard = refl;
+      form = refl;
       notes = refl;
       number_is = refl;
       taken_is = λ few. omega (arith, c.saturating_add-self.ensures, few);

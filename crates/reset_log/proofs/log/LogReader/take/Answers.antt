@@ -13,12 +13,12 @@ pub returns-in_err-put-clause-part : goal.returns-in_err-put-clause-part
 returns-in_err-put-clause-part g c =
     on_err c.from_residual.result _ (λ done start few st.
     let none = holds_none c.args.self.now done st.text c.new-out.result.items c.new-out.ensures.items st.holds in
-    broke_front c.args.self.now.standard (parted (done ++ c.args.bytes.now)).lines st.text c.gather-gathered.new.out.items start c.args.sink.now c.put.new.sink st.wrote
+    broke_front c.args.self.now.form (parted (done ++ c.args.bytes.now)).lines st.text c.gather-gathered.new.out.items start c.args.sink.now c.put.new.sink st.wrote
     (c.gather-gathered.ensures.begun done st.text few none) (rw c.deref.ensures.value at c.in_err-put.ensures.part))
 
 pub returns-in_err-gathered-clause-part : goal.returns-in_err-gathered-clause-part
 returns-in_err-gathered-clause-part g c =
     on_err c.from_residual-in_err-gathered.result _ (λ done start few st.
     let none = holds_none c.args.self.now done st.text c.new-out.result.items c.new-out.ensures.items st.holds in
-    broke_whole c.args.self.now.standard (parted (done ++ c.args.bytes.now)).lines st.text c.gather-gathered.new.out.items start c.args.sink.now c.put.new.sink st.wrote
+    broke_whole c.args.self.now.form (parted (done ++ c.args.bytes.now)).lines st.text c.gather-gathered.new.out.items start c.args.sink.now c.put.new.sink st.wrote
     (c.gather-gathered.ensures.begun done st.text few none) (rw c.deref.ensures.value at c.in_ok-put.ensures.ok))

@@ -5,7 +5,7 @@ use Rattle.topology_stack.specs.Tree.{walk}
 use Rattle.reset_log.specs.declared.counts.Tally.{Tally}
 use Rattle.reset_log.specs.Noted.{tallied_if, tallied}
 use Rattle.quad_lanes.proofs.Lemmas.{at_drop, item_at}
-use Rattle.reset_log.proofs.counts.add_all.Goals as goal
+use Rattle.reset_log.proofs.counts.count_begun.Goals as goal
 
 step : (card id : ℕ) (flag : Bool) (ns : List Node) (n : Node) (old new whole : List Tally) →
     slice_get ns id ≡ Some n → flag ≡ n.attrs.initiated → new ≡ tallied_if flag card id old →

@@ -1,0 +1,6 @@
+use Rattle.std.proofs.Common.{append_assoc}
+use Rattle.nosy_dump.proofs.values.put_cut.Goals as goal
+
+pub returns : goal.returns
+returns c =
+    simp (c.in_ok-close_object.ensures, c.in_ok-string_member.ensures, append_assoc)

@@ -1,0 +1,79 @@
+-- The values of a log nest a few levels deep, so each of their lines is read back.
+use Rattle.std.proofs.Common.{◌≡◌, ◌+◌, ◌≤◌, ℕ, ◌-◌, Bool, true, false, Option, Some, None, List, [], ◌∷◌, ◌++◌, sym, subst, arith}
+use Rattle.std.specs.Prelude.{if◌then◌else◌, nat_lt, codes}
+use Rattle.self_id.specs.declared.standard.Standard.{Standard}
+use Rattle.topology_stack.specs.Tree.{Tree}
+use Rattle.json.specs.Token.{Token}
+use Rattle.json.specs.Lex.{tokens}
+use Rattle.json.specs.Json.{Json, string, Members, member, max_depth}
+use Rattle.json.specs.Print.{print}
+use Rattle.json.specs.Tree.{json_tokens, depth, members_depth}
+use Rattle.bus_json.specs.declared.refusal.Counts.{Counts}
+use Rattle.bus_json.specs.Text.{numeral}
+use Rattle.bus_json.specs.Bus.{tree_members}
+use Rattle.bus_json.specs.Refusal.{fault_members, refused_members}
+use Rattle.bus_json.proofs.Lemmas.{reads_back, tree_shallow}
+use Rattle.reset_log.specs.declared.line.Origin.{Origin}
+use Rattle.reset_log.specs.declared.line.Reset.{Reset}
+use Rattle.reset_log.specs.declared.cards.Known.{Known}
+use Rattle.reset_log.specs.declared.counts.Tally.{Tally}
+use Rattle.reset_log.specs.declared.hear.ListFault.{ListFault}
+use Rattle.reset_log.specs.Device.{device_text}
+use Rattle.reset_log.specs.Noted.{Noted, since, missing, most_of}
+use Rattle.reset_log.specs.Texts.{place, kind, known_counts}
+use Rattle.reset_log.specs.Json.{IsJsonLine, list_fault, IsListTold, told_refused, told_heard, card_value, name_members, micros_member, head_members, reset_value, most_members, totals_value}
+
+-- what was written as the tokens of a value is a line of it
+pub json_line_of : (v : Json) (out : List Token) (line : List ℕ) → out ≡ json_tokens v → tokens (print out) ≡ out →
+    depth v ≤ max_depth → line ≡ print out ++ 10 ∷ [] → IsJsonLine line
+json_line_of v out line e back shallow is = record {
+  value = v;
+  text_is = subst (λ (ts : List Token). line ≡ print ts ++ 10 ∷ []) e is;
+  read_back = reads_back v (subst (λ (ts : List Token). tokens (print ts) ≡ ts) e back) shallow;
+}
+
+card_shallow : (card : ℕ) → depth (card_value card) ≤ 0
+card_shallow card = go (nat_lt card 4294967296)
+  where
+    go : (b : Bool) → depth (if b then numeral card else string (device_text (card - 4294967296))) ≤ 0
+    go true = omega arith
+    go false = omega arith
+
+pub name_shallow : (n : ℕ) (r : Reset) (rest : Members) → members_depth (name_members n r rest) ≤ members_depth rest
+name_shallow n r rest = omega (arith, card_shallow r.card)
+
+micros_shallow : (name : List ℕ) (micros : Option ℕ) (rest : Members) →
+    members_depth (micros_member name micros rest) ≤ members_depth rest
+micros_shallow name None rest = omega arith
+micros_shallow name (Some micros) rest = omega arith
+
+pub head_shallow : (n : ℕ) (before : Option Known) (r : Reset) (rest : Members) →
+    members_depth (head_members n before r rest) ≤ members_depth rest
+head_shallow n before r rest =
+    let last = member (codes "missing") (numeral (missing before r)) rest in
+    let after = micros_member (codes "after") (since before r) last in
+    omega (arith, name_shallow n r (micros_member (codes "time") r.time after), micros_shallow (codes "time") r.time after, micros_shallow (codes "after") (since before r) last)
+
+fault_shallow : (pair : ℕ) (word : List ℕ) (known : Option Counts) →
+    members_depth (refused_members (fault_members pair word known)) ≤ 1
+fault_shallow pair word None = omega arith
+fault_shallow pair word (Some c) = omega arith
+
+pub told_shallow : (standard : Standard) (origin : Origin) (list : List ℕ) (members : Members) (heard : Option Tree) →
+    IsListTold standard origin list members heard → members_depth members ≤ 4
+told_shallow standard origin list ms heard (told_refused f un e none) =
+    subst (λ (m : Members). members_depth m ≤ 4) (sym e) (omega (arith, fault_shallow (place f) (kind f) (known_counts f)))
+told_shallow standard origin list ms heard (told_heard t is e some) =
+    subst (λ (m : Members). members_depth m ≤ 4) (sym e) (tree_shallow [] t)
+
+pub reset_shallow : (standard : Standard) (n : ℕ) (before : Option Known) (r : Reset) (origin : Origin) (list : List ℕ) (members : Members) (heard : Option Tree) →
+    IsListTold standard origin list members heard → depth (reset_value n before r members) ≤ max_depth
+reset_shallow standard n before r origin list members heard told =
+    omega (arith, head_shallow n before r members, told_shallow standard origin list members heard told)
+
+most_shallow : (t : Option Tally) → members_depth (most_members t) ≤ 1
+most_shallow None = omega arith
+most_shallow (Some t) = omega (arith, card_shallow t.card)
+
+pub totals_shallow : (n : Noted) → depth (totals_value n) ≤ max_depth
+totals_shallow n = omega (arith, most_shallow (most_of None n.tallies))
