@@ -14,7 +14,7 @@ use Rattle.json.proofs.Printed.Trees.{value-json_tokens}
 use Rattle.bus_json.specs.declared.refusal.Counts.{Counts}
 use Rattle.bus_json.specs.Text.{json_text}
 use Rattle.bus_json.specs.Bus.{end_at, port_value, port_items, node_value, node_items, manager_value, tree_members, bus_value}
-use Rattle.bus_json.specs.Refusal.{refusal_value}
+use Rattle.bus_json.specs.Refusal.{refusal_value, line_refusal_value}
 
 -- where the text is read as the value's tokens
 pub reads_back : (v : Json) → tokens (print (json_tokens v)) ≡ json_tokens v →
@@ -58,3 +58,6 @@ bus_shallow t = omega (arith, tree_shallow [] t)
 pub refusal_shallow : (pair : ℕ) (kind : List ℕ) (c : Option Counts) → depth (refusal_value pair kind c) ≤ max_depth
 refusal_shallow pair kind None = omega arith
 refusal_shallow pair kind (Some c) = omega arith
+
+pub line_shallow : (line : ℕ) (kind : List ℕ) → depth (line_refusal_value line kind) ≤ max_depth
+line_shallow line kind = omega arith

@@ -1,4 +1,4 @@
--- The value of a refused capture.
+-- The value of a refused capture, and of a refused script.
 use Rattle.std.specs.Prelude.{ℕ, Option, Some, None, List, codes}
 use Rattle.json.specs.Json.{Json, string, object, Members, no_members, member}
 use Rattle.bus_json.specs.declared.refusal.Counts.{Counts}
@@ -26,3 +26,11 @@ with_refusal members = with_schema (refused_members members)
 
 abbrev pub refusal_value : ℕ → List ℕ → Option Counts → Json
 refusal_value pair kind counts = with_refusal (fault_members pair kind counts)
+
+-- the line of a script at fault and the kind of its fault
+abbrev pub line_members : ℕ → List ℕ → Members
+line_members line kind =
+    member (codes "line") (numeral line) (member (codes "kind") (string kind) no_members)
+
+abbrev pub line_refusal_value : ℕ → List ℕ → Json
+line_refusal_value line kind = with_refusal (line_members line kind)

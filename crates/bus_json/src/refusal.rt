@@ -1,10 +1,10 @@
-//! A refused capture.
+//! A refused capture, and a refused script.
 ghost use Rattle.std.specs.Prelude.{◌≡◌, ◌++◌, ◌∷◌, [], Some, IfOk, OnOk};
 ghost use Rattle.json.specs.Token.{begin_object, end_object, key};
 ghost use Rattle.json.specs.Json.{document};
 ghost use Rattle.json.specs.Tree.{members_tokens};
 ghost use Rattle.bus_json.specs.Text.{json_line, json_text};
-ghost use Rattle.bus_json.specs.Refusal.{counts_members, fault_members, refused_members, refusal_value};
+ghost use Rattle.bus_json.specs.Refusal.{counts_members, fault_members, refused_members, refusal_value, line_members, line_refusal_value};
 
 use crate::json_text::JsonText;
 use std::alloc::Global;
@@ -70,4 +70,31 @@ pub fn refusal_line(
     put_refusal(&mut out, pair, kind, counts)?;
     let line = out.into_line()?;
     Ok(line)
+}
+
+/// Writes the number of a line and the kind of its fault, and ends the object.
+fn put_line(out: &mut JsonText, line: u32, kind: &str) -> Result<(), OutOfMemory>
+    ensures { OnOk result (out.new ≡ out.old ++ members_tokens (line_members line kind.now)) }
+{
+    out.number_member("line", u64::from(line))?;
+    out.string_member("kind", kind)?;
+    out.close_object()
+}
+
+/// The line of a refused script: the number of the line at fault, from 1, and the kind of its fault.
+///
+/// `{"schema":1,"refused":{"line":L,"kind":"KIND"}}`.
+pub fn line_refusal(alloc: Global, line: u32, kind: &str) -> Result<Vec<u8>, OutOfMemory>
+    ensures line { IfOk result (λ text. text.items ≡ json_line (line_refusal_value line kind.now)) }
+    ensures reads_back { IfOk result (λ text. document (json_text (line_refusal_value line kind.now))
+        ≡ Some (line_refusal_value line kind.now)) }
+{
+    let mut out = JsonText::new(alloc);
+    out.open_schema()?;
+    out.key("refused")?;
+    out.open_object()?;
+    put_line(&mut out, line, kind)?;
+    out.close_object()?;
+    let text = out.into_line()?;
+    Ok(text)
 }
