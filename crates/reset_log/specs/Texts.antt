@@ -133,9 +133,9 @@ refused head f = head ++ (codes "\n" ++ fault_line f)
 
 -- ---- a list that is heard as a tree
 
--- the ID of the resource manager, or `-`
+-- the ID of the resource manager, or `none`
 abbrev pub manager : List ℕ → Option ℕ → List ℕ
-manager word None = word ++ codes "-"
+manager word None = word ++ codes "none"
 manager word (Some id) = field word id
 
 -- ` nodes N root R irm I`

@@ -129,7 +129,7 @@ pub(crate) fn put_refused(
     Ok(())
 }
 
-/// Appends the ID of a resource manager, or `-`.
+/// Appends the ID of a resource manager, or `none`.
 fn put_manager(out: &mut Vec<u8>, word: &[u8], irm: Option<u8>) -> Result<(), AllocError>
     ensures { OnOk result (out.new.items ≡ out.old.items ++ manager word.now irm) }
 {
@@ -137,7 +137,7 @@ fn put_manager(out: &mut Vec<u8>, word: &[u8], irm: Option<u8>) -> Result<(), Al
         Some(id) => put_field(out, word, u64::from(id)),
         None => {
             out.extend_from_slice(word)?;
-            out.extend_from_slice(b"-")
+            out.extend_from_slice(b"none")
         }
     }
 }
