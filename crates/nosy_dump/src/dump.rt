@@ -64,6 +64,13 @@ fn is_bad(refused: bool, fault: Option<DumpFault>) -> bool
     }
 }
 
+/// Whether something was at fault, or is.
+fn either(was: bool, is: bool) -> bool
+    ensures { result ≡ was || is }
+{
+    was || is
+}
+
 /// What is shown in a form of the reset with this number, and the tree that its list is heard as.
 fn show_judged(
     alloc: Global,
@@ -145,7 +152,7 @@ impl DumpReader {
         let refused = tree.is_none();
         self.notes.keep(tree)?;
         put(sink, &text)?;
-        self.bad = self.bad || refused;
+        self.bad = either(self.bad, refused);
         self.number = self.number.saturating_add(1);
         Ok(())
     }
