@@ -19,7 +19,7 @@ use bus_cli::{MAX_INPUT, REFUSED, VALID, script_line};
 use bus_json::bus_line;
 use capture_reading::{CaptureFault, CaptureStop, fault_line, read_capture};
 use io_edges::{ReadStop, Source, read_all};
-use quad_lanes::quads_of;
+use quad_lanes::{capture_of, quads_of};
 use script_made::make_script;
 use script_run::{ScriptFault, ScriptStop, dump_script, list_script, run_script, trace_script};
 use script_words::{CutScript, Kind, put_sentence};
