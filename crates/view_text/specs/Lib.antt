@@ -6,4 +6,5 @@ pub mod CableEnds
 pub mod Node
 pub mod Drawing
 pub mod Graph
+pub mod NamedGraph
 pub mod codings

@@ -12,7 +12,7 @@ use topology_stack::{BusTree, OutOfMemory, elect};
 
 /// Appends the label of a node.
 #[tactic(auto, unfolding(crate::specs::Graph::graph_label))]
-fn put_label(
+pub(crate) fn put_label(
     out: &mut Vec<u8>,
     id: u8,
     node: &SelfId,
@@ -30,7 +30,7 @@ fn put_label(
 }
 
 /// Appends what makes the box of the root stand out.
-fn put_root_box(out: &mut Vec<u8>, id: u8, root: u8) -> Result<(), OutOfMemory>
+pub(crate) fn put_root_box(out: &mut Vec<u8>, id: u8, root: u8) -> Result<(), OutOfMemory>
     ensures { OnOk result (out.new.items ≡ out.old.items ++ root_box id root) }
 {
     if id == root {
@@ -40,7 +40,7 @@ fn put_root_box(out: &mut Vec<u8>, id: u8, root: u8) -> Result<(), OutOfMemory>
 }
 
 /// Appends what makes the box of the isochronous resource manager stand out.
-fn put_irm_box(out: &mut Vec<u8>, id: u8, irm: Option<u8>) -> Result<(), OutOfMemory>
+pub(crate) fn put_irm_box(out: &mut Vec<u8>, id: u8, irm: Option<u8>) -> Result<(), OutOfMemory>
     ensures { OnOk result (out.new.items ≡ out.old.items ++ irm_box id irm) }
 {
     if let Some(irm) = irm {
@@ -102,7 +102,7 @@ fn put_edge_ports(out: &mut Vec<u8>, cable: &Cable) -> Result<(), OutOfMemory>
 }
 
 /// Appends an edge.
-fn put_edge(out: &mut Vec<u8>, cable: &Cable) -> Result<(), OutOfMemory>
+pub(crate) fn put_edge(out: &mut Vec<u8>, cable: &Cable) -> Result<(), OutOfMemory>
     ensures { OnOk result (out.new.items ≡ out.old.items ++ graph_edge cable.now) }
 {
     put_edge_ends(out, cable)?;
@@ -123,9 +123,9 @@ fn put_edges(out: &mut Vec<u8>, cables: &[Cable]) -> Result<(), OutOfMemory>
     Ok(())
 }
 
-/// Appends what stands before the nodes.
+/// Appends what stands before the nodes of a graph.
 #[tactic(auto, unfolding(crate::specs::Graph::graph_head))]
-fn put_head(out: &mut Vec<u8>) -> Result<(), OutOfMemory>
+pub fn put_graph_head(out: &mut Vec<u8>) -> Result<(), OutOfMemory>
     ensures { OnOk result (out.new.items ≡ out.old.items ++ graph_head) }
 {
     out.extend_from_slice(b"graph bus {\n  rankdir=LR;\n  ranksep=1.1;\n  node [shape=box];\n")?;
@@ -143,7 +143,7 @@ pub fn tree_graph(alloc: Global, tree: &BusTree) -> Result<Vec<u8>, OutOfMemory>
 {
     let mut out = Vec::new(alloc);
     let list = cables(alloc, tree)?;
-    put_head(&mut out)?;
+    put_graph_head(&mut out)?;
     put_nodes(&mut out, tree, elect(tree))?;
     put_edges(&mut out, &list)?;
     out.extend_from_slice(b"}\n")?;

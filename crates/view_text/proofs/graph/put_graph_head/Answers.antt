@@ -1,6 +1,6 @@
 use Rattle.std.proofs.Common.{append_assoc}
 use Rattle.view_text.specs.Graph.{graph_head}
-use Rattle.view_text.proofs.graph.put_head.Goals as goal
+use Rattle.view_text.proofs.graph.put_graph_head.Goals as goal
 
 pub returns : goal.returns
 unfolding graph_head

@@ -1,0 +1,5 @@
+pub mod Graphs
+pub mod Components
+pub mod OneView
+pub mod SomeView
+pub mod NameAt

@@ -1,0 +1,5 @@
+pub mod PlainGraph
+pub mod ReportGraph
+pub mod ReportJson
+pub mod OneView
+pub mod codings
