@@ -8,3 +8,4 @@ pub mod LineRead
 pub mod Ranged
 pub mod Lemmas
 pub mod WordFaults
+pub mod TurnLine

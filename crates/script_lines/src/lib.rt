@@ -23,7 +23,7 @@ mod words;
 pub use command::Command;
 pub use kind::{Kind, LineStop, ScriptFault, ScriptStop};
 pub use laws::{commands_are_in_range, lines_are_refused_so, names_are_tested, one_reading};
-pub use line::{parse_line, parse_line_with, says_nothing};
+pub use line::{parse_line, parse_line_with, says_nothing, turn_line};
 pub use number::number_of;
 pub use times::ScriptTimes;
 pub use topology_stack::{Name, OutOfMemory};

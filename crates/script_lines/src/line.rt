@@ -1,16 +1,17 @@
 //! A line of a script.
-ghost use Rattle.std.specs.Prelude.{◌≡◌, ◌≤◌, find, not, Option, None, Result, Ok, IsTrue, IfOk, IfErr, IfSome};
+ghost use Rattle.std.specs.Prelude.{◌≡◌, ◌≤◌, ◌++◌, codes, Some, find, not, Option, None, Result, Ok, IsTrue, IfOk, IfErr, IfSome};
 ghost use Rattle.std.specs.List.{list_all};
 ghost use Rattle.std.specs.Str.Lines.{strip_carriage_return};
 ghost use Rattle.port_state.specs.declared.ranges.TimeRanges.{TimeRanges};
 ghost use Rattle.port_state.specs.TimeRanges.{profile_ranges};
 ghost use Rattle.script_lines.specs.Words.{is_blank, is_permitted};
 ghost use Rattle.script_lines.specs.Line.{is_skipped};
-ghost use Rattle.script_lines.specs.codings.Reading.{read_words, read_line};
+ghost use Rattle.script_lines.specs.codings.Reading.{IsWord, read_words, read_line};
 ghost use Rattle.script_lines.specs.Answer.{Answers, Refuses};
 ghost use Rattle.script_lines.specs.Line.{Reads};
 ghost use Rattle.script_lines.specs.Range.{IsInRange};
 ghost use Rattle.script_lines.specs.declared.command.Command.{Command};
+ghost use Rattle.script_lines.specs.declared.command.Command.TheVariants as command;
 ghost use Rattle.script_lines.specs.declared.kind.Kind.{Kind};
 
 use crate::command::Command;
@@ -18,7 +19,7 @@ use crate::fixed::read_fixed;
 use crate::kind::{Kind, LineStop};
 use crate::node::node;
 use crate::word::Word;
-use crate::words::{are_permitted, few_words, is_blank, words_of};
+use crate::words::{are_permitted, few_words, first_blank, is_blank, words_of};
 use port_state::TimeRanges;
 use std::alloc::Global;
 
@@ -56,6 +57,40 @@ pub fn says_nothing(line: &[u8]) -> bool
     ensures nothing { IsTrue result → (times : TimeRanges) → Reads times line.now (Ok None) }
 {
     is_skipped(without_return(line))
+}
+
+/// What stands behind `turn ` in a line that begins so.
+fn behind_turn(line: &[u8]) -> Option<&[u8]>
+    ensures { IfSome result (λ word. line.now ≡ codes "turn " ++ word.now) }
+{
+    match line {
+        [b't', b'u', b'r', b'n', b' ', word @ ..] => Some(word),
+        _ => None,
+    }
+}
+
+/// Whether a text is a word as it stands: it has a character, no blank, and none that isn't permitted.
+fn is_word(text: &[u8]) -> bool
+    ensures { IsTrue result → IsWord text.now }
+{
+    !text.is_empty() && first_blank(text).is_none() && are_permitted(text)
+}
+
+/// The number of turns of a line `turn K` in which one blank stands between the words and none else.
+/// `None` says nothing of a line. [`parse_line_with`] reads each such line so; this takes fewer steps.
+pub fn turn_line(line: &[u8]) -> Option<u32>
+    ensures reads { IfSome result (λ count. (times : TimeRanges) →
+        Reads times line.now (Ok (Some (command.Turn count)))) }
+    ensures ranged { IfSome result (λ count. (1 ≤ count) × (count ≤ 2000000)) }
+{
+    let word = match behind_turn(without_return(line)) {
+        Some(word) if is_word(word) => Word::new(word),
+        _ => return None,
+    };
+    match word.number(1, 2_000_000) {
+        Ok(count) => Some(count),
+        Err(_) => None,
+    }
 }
 
 /// The command that words say.

@@ -16,7 +16,7 @@ pub(crate) fn is_blank(c: u8) -> bool
 }
 
 /// The place of the first blank of a line.
-fn first_blank(line: &[u8]) -> Option<usize>
+pub(crate) fn first_blank(line: &[u8]) -> Option<usize>
     ensures value { result ≡ position is_blank line.now }
     ensures within { IfSome result (λ place. place < length line.now) }
 {
