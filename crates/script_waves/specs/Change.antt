@@ -9,7 +9,7 @@ use Rattle.port_state.specs.PowerOn.{free_port}
 use Rattle.cable_world.specs.declared.wire.Travelling.{Travelling}
 use Rattle.cable_world.specs.World.{CableWorld, NodeNumber, wire_of}
 use Rattle.script_trace.specs.Event.{Seen, state_number}
-use Rattle.script_waves.specs.Value.{node_line, port_line, number, flag, state_value, id_value, id_number, is_root, level_value, level_number, role, role_value}
+use Rattle.script_waves.specs.Value.{node_line, port_line, number, flag, id_value, id_number, is_root, level_number, role, state_lines, role_lines, shown_lines, sent_value}
 
 -- a line, unless these numbers are equal
 abbrev pub unless_same : ℕ → ℕ → List ℕ → List ℕ
@@ -19,8 +19,7 @@ unless_same before after line = cond (before == after) [] line
 
 abbrev pub state_change : NodeNumber → View → View → List ℕ
 state_change node u v =
-    unless_same (state_number u.phase) (state_number v.phase)
-    (node_line node (codes "s") (state_value v.phase))
+    unless_same (state_number u.phase) (state_number v.phase) (state_lines node v.phase)
 
 abbrev pub id_change : NodeNumber → View → View → List ℕ
 id_change node u v =
@@ -46,26 +45,25 @@ port_at v port = slice_index_or v.ports port free_port
 abbrev pub role_change : NodeNumber → View → View → PortNumber → PortView → List ℕ
 role_change node u v port p =
     unless_same (role u.parent port (port_at u port)) (role v.parent port p)
-    (port_line node port (codes "r") (role_value (role v.parent port p)))
+    (role_lines node port (role v.parent port p))
 
 abbrev pub shown_change : NodeNumber → View → PortNumber → PortView → List ℕ
 shown_change node u port p =
     unless_same (level_number (port_at u port).shown) (level_number p.shown)
-    (port_line node port (codes "h") (level_value p.shown))
+    (shown_lines node port p.shown)
 
 -- nothing is sent any more where the cable is gone
 abbrev pub gone_change : NodeNumber → View → PortNumber → PortView → List ℕ
 gone_change node u port p =
-    cond ((port_at u port).connected && not p.connected) (port_line node port (codes "s") (codes "s- "))
-    []
+    cond ((port_at u port).connected && not p.connected) (sent_value node port (codes "s- ") 4) []
 
 -- A signal that was sent: a level stays until another is sent; a grant, a packet and the end of packets
 -- are gone at once.
 abbrev pub signal_line : NodeNumber → PortNumber → Signal → List ℕ
-signal_line node port signal.Reset = port_line node port (codes "s") (codes "sBUS_RESET ")
-signal_line node port signal.Idle = port_line node port (codes "s") (codes "sIDLE ")
-signal_line node port signal.Parent = port_line node port (codes "s") (codes "sTX_PARENT_NOTIFY ")
-signal_line node port signal.Child = port_line node port (codes "s") (codes "sTX_CHILD_NOTIFY ")
+signal_line node port signal.Reset = sent_value node port (codes "sBUS_RESET ") 0
+signal_line node port signal.Idle = sent_value node port (codes "sIDLE ") 1
+signal_line node port signal.Parent = sent_value node port (codes "sTX_PARENT_NOTIFY ") 2
+signal_line node port signal.Child = sent_value node port (codes "sTX_CHILD_NOTIFY ") 3
 signal_line node port signal.Grant = port_line node port (codes "g") (codes "1")
 signal_line node port (signal.Packet quad) = port_line node port (codes "p") (number 32 quad)
 signal_line node port signal.Done = port_line node port (codes "d") (codes "1")

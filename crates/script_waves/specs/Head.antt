@@ -1,13 +1,15 @@
 -- What stands before the first change: the variables, and their values when all nodes have just powered
 -- on.
 use Rattle.std.specs.Prelude.{ℕ, ◌+◌, Option, None, Some, List, [], ◌∷◌, ◌++◌, codes}
+use Rattle.port_state.specs.declared.signal.Level.TheVariants as level
+use Rattle.port_state.specs.declared.signal.Phase.TheVariants as phase
 use Rattle.port_state.specs.declared.ports.PortView.{PortView}
 use Rattle.port_state.specs.Ports.{PortNumber}
 use Rattle.port_state.specs.Machine.{PortNode}
 use Rattle.cable_world.specs.World.{CableWorld, NodeNumber}
 use Rattle.script_text.specs.ReportText.{Names, spaced, numbered}
 use Rattle.script_trace.specs.Voice.{Legend}
-use Rattle.script_waves.specs.Value.{node_code, port_code, node_line, port_line}
+use Rattle.script_waves.specs.Value.{node_code, port_code, node_line, port_line, state_lines, role_lines, shown_lines, sent_value}
 
 -- `$var TYPE CODE NAME $end`
 unfoldable pub variable : List ℕ → List ℕ → List ℕ → List ℕ
@@ -24,22 +26,33 @@ abbrev pub port_variable : NodeNumber → PortNumber → List ℕ → List ℕ �
 port_variable node port type letter word =
     variable type (port_code node port letter) (port_name port word)
 
+-- the role of a port and its levels, each as a word and as a number
+unfoldable pub role_variables : NodeNumber → PortNumber → List ℕ
+role_variables node port =
+    port_variable node port (codes "string 1") (codes "r") (codes "_role")
+    ++ port_variable node port (codes "reg 2") (codes "a") (codes "_role_code")
+
+unfoldable pub level_variables : NodeNumber → PortNumber → List ℕ
+level_variables node port =
+    port_variable node port (codes "string 1") (codes "h") (codes "_shows")
+    ++ (port_variable node port (codes "reg 2") (codes "b") (codes "_shows_code")
+    ++ (port_variable node port (codes "string 1") (codes "s") (codes "_sends")
+    ++ port_variable node port (codes "reg 3") (codes "c") (codes "_sends_code")))
+
 unfoldable pub port_variables : NodeNumber → PortNumber → List ℕ
 port_variables node port =
-    port_variable node port (codes "string 1") (codes "r") (codes "_role")
-    ++ (port_variable node port (codes "string 1") (codes "h") (codes "_shows")
-    ++ (port_variable node port (codes "string 1") (codes "s") (codes "_sends")
+    role_variables node port
+    ++ (level_variables node port
     ++ (port_variable node port (codes "event 1") (codes "g") (codes "_grant")
     ++ (port_variable node port (codes "reg 32") (codes "p") (codes "_packet")
-    ++ port_variable node port (codes "event 1") (codes "d") (codes "_done")))))
+    ++ port_variable node port (codes "event 1") (codes "d") (codes "_done"))))
 
 -- no cable is there
 unfoldable pub port_values : NodeNumber → PortNumber → List ℕ
 port_values node port =
-    port_line node port (codes "r") (codes "s- ")
-    ++ (port_line node port (codes "h") (codes "sIDLE ")
-    ++ (port_line node port (codes "s") (codes "s- ")
-    ++ port_line node port (codes "p") (codes "bx ")))
+    role_lines node port 0
+    ++ (shown_lines node port level.Idle
+    ++ (sent_value node port (codes "s- ") 4 ++ port_line node port (codes "p") (codes "bx ")))
 
 -- so it is for the ports from a number on
 abbrev pub all_port_variables : NodeNumber → PortNumber → List PortView → List ℕ
@@ -57,9 +70,10 @@ all_port_values node port (p ∷ ports) =
 unfoldable pub node_variables : NodeNumber → List ℕ
 node_variables node =
     variable (codes "string 1") (node_code node (codes "s")) (codes "state")
+    ++ (variable (codes "reg 3") (node_code node (codes "c")) (codes "state_code")
     ++ (variable (codes "reg 6") (node_code node (codes "i")) (codes "phy_ID")
     ++ (variable (codes "reg 1") (node_code node (codes "t")) (codes "timeout")
-    ++ variable (codes "reg 1") (node_code node (codes "r")) (codes "root")))
+    ++ variable (codes "reg 1") (node_code node (codes "r")) (codes "root"))))
 
 -- the module of a node, by its name
 abbrev pub node_scope : Names → NodeNumber → List PortView → List ℕ
@@ -68,12 +82,14 @@ node_scope names node ports =
     ++ (node_variables node ++ (all_port_variables node 0 ports ++ codes "$upscope $end\n"))))
 
 -- R0, and no ID
-abbrev pub node_values : NodeNumber → List PortView → List ℕ
-node_values node ports =
-    node_line node (codes "s") (codes "sR0 ")
+unfoldable pub own_values : NodeNumber → List ℕ
+own_values node =
+    state_lines node phase.ResetStart
     ++ (node_line node (codes "i") (codes "bx ")
-    ++ (node_line node (codes "t") (codes "b0 ")
-    ++ (node_line node (codes "r") (codes "b0 ") ++ all_port_values node 0 ports)))
+    ++ (node_line node (codes "t") (codes "b0 ") ++ node_line node (codes "r") (codes "b0 ")))
+
+abbrev pub node_values : NodeNumber → List PortView → List ℕ
+node_values node ports = own_values node ++ all_port_values node 0 ports
 
 -- so it is for the nodes from a number on
 abbrev pub all_scopes : Names → NodeNumber → List PortNode → List ℕ

@@ -92,3 +92,25 @@ role parent port p = if is_port parent port then 2 else flag p.child
 abbrev pub role_value : ℕ → List ℕ
 role_value role =
     if role == 2 then codes "sparent " else (if role == 1 then codes "schild " else codes "s- ")
+
+-- ---- a word, and in the variable beside it its number, for readers that show no words
+
+-- a state; its number is that of the standard's order
+unfoldable pub state_lines : NodeNumber → Phase → List ℕ
+state_lines node phase =
+    node_line node (codes "s") (state_value phase)
+    ++ node_line node (codes "c") (number 3 (state_number phase))
+
+unfoldable pub role_lines : NodeNumber → PortNumber → ℕ → List ℕ
+role_lines node port role =
+    port_line node port (codes "r") (role_value role) ++ port_line node port (codes "a") (number 2 role)
+
+unfoldable pub shown_lines : NodeNumber → PortNumber → Level → List ℕ
+shown_lines node port level =
+    port_line node port (codes "h") (level_value level)
+    ++ port_line node port (codes "b") (number 2 (level_number level))
+
+-- what is sent: the numbers of the levels are those of what is shown, and 4 is that no cable is there
+unfoldable pub sent_value : NodeNumber → PortNumber → List ℕ → ℕ → List ℕ
+sent_value node port value code =
+    port_line node port (codes "s") value ++ port_line node port (codes "c") (number 3 code)

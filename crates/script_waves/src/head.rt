@@ -1,12 +1,14 @@
 //! What stands before the first change.
 ghost use Rattle.std.specs.Prelude.{◌≡◌, ◌≤◌, ◌<◌, ◌++◌, length, IfOk, OnOk};
 ghost use Rattle.script_waves.specs.Value.{node_code, port_code};
-ghost use Rattle.script_waves.specs.Head.{all_port_values, all_port_variables, all_scopes, all_values, head, node_scope, node_values, node_variables, opening, picoseconds, port_values, port_variable, port_variables, unit, variable};
+ghost use Rattle.script_waves.specs.Head.{all_port_values, all_port_variables, all_scopes, all_values, head, level_variables, node_scope, node_values, node_variables, opening, own_values, picoseconds, port_values, port_variable, port_variables, role_variables, unit, variable};
 
+use crate::node::put_state_lines;
+use crate::port::{put_role_lines, put_sent_value, put_shown_lines};
 use crate::value::{put_node_code, put_node_line, put_port_code, put_port_line};
 use crate::waves::Waves;
 use cable_world::WorldRun;
-use port_state::PortViews;
+use port_state::{Level, Phase, PortViews};
 use script_text::{Name, OutOfMemory, put_name, put_numbered};
 use script_trace::Legend;
 use std::alloc::Global;
@@ -60,6 +62,30 @@ fn put_port_variable(
     Ok(())
 }
 
+/// Appends the variables of a port's role.
+#[tactic(auto, unfolding(crate::specs::Head::role_variables))]
+fn put_role_variables(out: &mut Vec<u8>, node: u8, port: u8) -> Result<(), OutOfMemory>
+    requires node { node ≤ 62 }
+    requires port { port ≤ 15 }
+    ensures { OnOk result (out.new.items ≡ out.old.items ++ role_variables node port) }
+{
+    put_port_variable(out, node, port, b"string 1", b"r", b"_role")?;
+    put_port_variable(out, node, port, b"reg 2", b"a", b"_role_code")
+}
+
+/// Appends the variables of a port's levels.
+#[tactic(auto, unfolding(crate::specs::Head::level_variables))]
+fn put_level_variables(out: &mut Vec<u8>, node: u8, port: u8) -> Result<(), OutOfMemory>
+    requires node { node ≤ 62 }
+    requires port { port ≤ 15 }
+    ensures { OnOk result (out.new.items ≡ out.old.items ++ level_variables node port) }
+{
+    put_port_variable(out, node, port, b"string 1", b"h", b"_shows")?;
+    put_port_variable(out, node, port, b"reg 2", b"b", b"_shows_code")?;
+    put_port_variable(out, node, port, b"string 1", b"s", b"_sends")?;
+    put_port_variable(out, node, port, b"reg 3", b"c", b"_sends_code")
+}
+
 /// Appends the variables of a port.
 #[tactic(auto, unfolding(crate::specs::Head::port_variables))]
 fn put_port_variables(out: &mut Vec<u8>, node: u8, port: u8) -> Result<(), OutOfMemory>
@@ -67,9 +93,8 @@ fn put_port_variables(out: &mut Vec<u8>, node: u8, port: u8) -> Result<(), OutOf
     requires port { port ≤ 15 }
     ensures { OnOk result (out.new.items ≡ out.old.items ++ port_variables node port) }
 {
-    put_port_variable(out, node, port, b"string 1", b"r", b"_role")?;
-    put_port_variable(out, node, port, b"string 1", b"h", b"_shows")?;
-    put_port_variable(out, node, port, b"string 1", b"s", b"_sends")?;
+    put_role_variables(out, node, port)?;
+    put_level_variables(out, node, port)?;
     put_port_variable(out, node, port, b"event 1", b"g", b"_grant")?;
     put_port_variable(out, node, port, b"reg 32", b"p", b"_packet")?;
     put_port_variable(out, node, port, b"event 1", b"d", b"_done")
@@ -82,9 +107,9 @@ fn put_port_values(out: &mut Vec<u8>, node: u8, port: u8) -> Result<(), OutOfMem
     requires port { port ≤ 15 }
     ensures { OnOk result (out.new.items ≡ out.old.items ++ port_values node port) }
 {
-    put_port_line(out, node, port, b"r", b"s- ")?;
-    put_port_line(out, node, port, b"h", b"sIDLE ")?;
-    put_port_line(out, node, port, b"s", b"s- ")?;
+    put_role_lines(out, node, port, 0)?;
+    put_shown_lines(out, node, port, Level::Idle)?;
+    put_sent_value(out, node, port, b"s- ", 4)?;
     put_port_line(out, node, port, b"p", b"bx ")
 }
 
@@ -118,6 +143,7 @@ fn put_node_variables(out: &mut Vec<u8>, node: u8) -> Result<(), OutOfMemory>
     ensures { OnOk result (out.new.items ≡ out.old.items ++ node_variables node) }
 {
     put_variable(out, node, b"string 1", b"s", b"state")?;
+    put_variable(out, node, b"reg 3", b"c", b"state_code")?;
     put_variable(out, node, b"reg 6", b"i", b"phy_ID")?;
     put_variable(out, node, b"reg 1", b"t", b"timeout")?;
     put_variable(out, node, b"reg 1", b"r", b"root")
@@ -144,15 +170,24 @@ fn put_scope(
     Ok(())
 }
 
+/// Appends the first values of a node's own variables.
+#[tactic(auto, unfolding(crate::specs::Head::own_values))]
+fn put_own_values(out: &mut Vec<u8>, node: u8) -> Result<(), OutOfMemory>
+    requires { node ≤ 62 }
+    ensures { OnOk result (out.new.items ≡ out.old.items ++ own_values node) }
+{
+    put_state_lines(out, node, Phase::ResetStart)?;
+    put_node_line(out, node, b"i", b"bx ")?;
+    put_node_line(out, node, b"t", b"b0 ")?;
+    put_node_line(out, node, b"r", b"b0 ")
+}
+
 /// Appends the first values of a node.
 fn put_values(out: &mut Vec<u8>, node: u8, ports: &PortViews) -> Result<(), OutOfMemory>
     requires { node ≤ 62 }
     ensures { OnOk result (out.new.items ≡ out.old.items ++ node_values node ports.now) }
 {
-    put_node_line(out, node, b"s", b"sR0 ")?;
-    put_node_line(out, node, b"i", b"bx ")?;
-    put_node_line(out, node, b"t", b"b0 ")?;
-    put_node_line(out, node, b"r", b"b0 ")?;
+    put_own_values(out, node)?;
     put_all_port_values(out, node, ports)
 }
 

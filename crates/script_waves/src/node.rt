@@ -1,6 +1,6 @@
 //! What comes to be another value of a node's own variables.
 ghost use Rattle.std.specs.Prelude.{◌≡◌, ◌≤◌, ◌<◌, ◌++◌, OnOk};
-ghost use Rattle.script_waves.specs.Value.{flag, id_number, is_root, state_value};
+ghost use Rattle.script_waves.specs.Value.{flag, id_number, is_root, state_lines, state_value};
 ghost use Rattle.script_waves.specs.Change.{id_change, root_change, state_change, timeout_change};
 
 use crate::value::{put_node_line, put_node_number};
@@ -49,6 +49,16 @@ fn is_root(view: &View) -> bool
     view.parent.is_none() && state_number(view.phase) >= 6
 }
 
+/// Appends a state and its number.
+#[tactic(auto, unfolding(crate::specs::Value::state_lines))]
+pub(crate) fn put_state_lines(out: &mut Vec<u8>, node: u8, phase: Phase) -> Result<(), OutOfMemory>
+    requires { node ≤ 62 }
+    ensures { OnOk result (out.new.items ≡ out.old.items ++ state_lines node phase) }
+{
+    put_node_line(out, node, b"s", state_value(phase))?;
+    put_node_number(out, node, b"c", 3, u32::from(state_number(phase)))
+}
+
 /// Appends the state, if it is another.
 pub(crate) fn put_state(
     out: &mut Vec<u8>,
@@ -61,7 +71,7 @@ pub(crate) fn put_state(
         ≡ out.old.items ++ state_change node before.now after.now) }
 {
     if state_number(before.phase) != state_number(after.phase) {
-        put_node_line(out, node, b"s", state_value(after.phase))?;
+        put_state_lines(out, node, after.phase)?;
     }
     Ok(())
 }

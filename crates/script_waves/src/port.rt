@@ -2,11 +2,11 @@
 ghost use Rattle.std.specs.Prelude.{◌≡◌, ◌≤◌, ◌++◌, slice_index_or, OnOk};
 ghost use Rattle.std.specs.Option.{option_to_list};
 ghost use Rattle.port_state.specs.Ports.{is_port};
-ghost use Rattle.script_waves.specs.Value.{level_number, level_value, role, role_value};
+ghost use Rattle.script_waves.specs.Value.{level_number, level_value, role, role_lines, role_value, sent_value, shown_lines};
 ghost use Rattle.script_waves.specs.Change.{gone_change, port_at, role_change, sent_change, sent_changes, shown_change, signal_line};
 
 use crate::node::flag;
-use crate::value::{put_port_line, put_port_quad};
+use crate::value::{put_port_line, put_port_number};
 use cable_world::Travelling;
 use port_state::{Level, PortView, Signal, View};
 use script_text::OutOfMemory;
@@ -87,6 +87,56 @@ fn level_value(level: Level) -> &'static [u8]
     }
 }
 
+/// Appends a role and its number.
+#[tactic(auto, unfolding(crate::specs::Value::role_lines))]
+pub(crate) fn put_role_lines(
+    out: &mut Vec<u8>,
+    node: u8,
+    port: u8,
+    role: u8,
+) -> Result<(), OutOfMemory>
+    requires node { node ≤ 62 }
+    requires port { port ≤ 15 }
+    ensures { OnOk result (out.new.items ≡ out.old.items ++ role_lines node port role) }
+{
+    put_port_line(out, node, port, b"r", role_value(role))?;
+    put_port_number(out, node, port, b"a", 2, u32::from(role))
+}
+
+/// Appends a level that is shown, and its number.
+#[tactic(auto, unfolding(crate::specs::Value::shown_lines))]
+pub(crate) fn put_shown_lines(
+    out: &mut Vec<u8>,
+    node: u8,
+    port: u8,
+    level: Level,
+) -> Result<(), OutOfMemory>
+    requires node { node ≤ 62 }
+    requires port { port ≤ 15 }
+    ensures { OnOk result (out.new.items ≡ out.old.items ++ shown_lines node port level) }
+{
+    put_port_line(out, node, port, b"h", level_value(level))?;
+    put_port_number(out, node, port, b"b", 2, u32::from(level_number(level)))
+}
+
+/// Appends what is sent, and its number, 4 where there is no cable.
+#[tactic(auto, unfolding(crate::specs::Value::sent_value))]
+pub(crate) fn put_sent_value(
+    out: &mut Vec<u8>,
+    node: u8,
+    port: u8,
+    value: &[u8],
+    code: u8,
+) -> Result<(), OutOfMemory>
+    requires node { node ≤ 62 }
+    requires port { port ≤ 15 }
+    ensures { OnOk result (out.new.items
+        ≡ out.old.items ++ sent_value node port value.now code) }
+{
+    put_port_line(out, node, port, b"s", value)?;
+    put_port_number(out, node, port, b"c", 3, u32::from(code))
+}
+
 /// Appends the role of a port, if it is another.
 pub(crate) fn put_role(
     out: &mut Vec<u8>,
@@ -103,7 +153,7 @@ pub(crate) fn put_role(
 {
     let now = role(after.parent, port, view);
     if role(before.parent, port, port_at(before, port)) != now {
-        put_port_line(out, node, port, b"r", role_value(now))?;
+        put_role_lines(out, node, port, now)?;
     }
     Ok(())
 }
@@ -122,7 +172,7 @@ pub(crate) fn put_shown(
         ≡ out.old.items ++ shown_change node before.now port view) }
 {
     if level_number(port_at(before, port).shown) != level_number(view.shown) {
-        put_port_line(out, node, port, b"h", level_value(view.shown))?;
+        put_shown_lines(out, node, port, view.shown)?;
     }
     Ok(())
 }
@@ -141,7 +191,7 @@ pub(crate) fn put_gone(
         ≡ out.old.items ++ gone_change node before.now port view) }
 {
     if port_at(before, port).connected && !view.connected {
-        put_port_line(out, node, port, b"s", b"s- ")?;
+        put_sent_value(out, node, port, b"s- ", 4)?;
     }
     Ok(())
 }
@@ -153,12 +203,12 @@ fn put_signal(out: &mut Vec<u8>, node: u8, port: u8, signal: Signal) -> Result<(
     ensures { OnOk result (out.new.items ≡ out.old.items ++ signal_line node port signal) }
 {
     match signal {
-        Signal::Reset => put_port_line(out, node, port, b"s", b"sBUS_RESET "),
-        Signal::Idle => put_port_line(out, node, port, b"s", b"sIDLE "),
-        Signal::Parent => put_port_line(out, node, port, b"s", b"sTX_PARENT_NOTIFY "),
-        Signal::Child => put_port_line(out, node, port, b"s", b"sTX_CHILD_NOTIFY "),
+        Signal::Reset => put_sent_value(out, node, port, b"sBUS_RESET ", 0),
+        Signal::Idle => put_sent_value(out, node, port, b"sIDLE ", 1),
+        Signal::Parent => put_sent_value(out, node, port, b"sTX_PARENT_NOTIFY ", 2),
+        Signal::Child => put_sent_value(out, node, port, b"sTX_CHILD_NOTIFY ", 3),
         Signal::Grant => put_port_line(out, node, port, b"g", b"1"),
-        Signal::Packet(quad) => put_port_quad(out, node, port, b"p", quad),
+        Signal::Packet(quad) => put_port_number(out, node, port, b"p", 32, quad),
         Signal::Done => put_port_line(out, node, port, b"d", b"1"),
     }
 }

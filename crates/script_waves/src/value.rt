@@ -110,20 +110,22 @@ pub(crate) fn put_port_line(
     Ok(())
 }
 
-/// Appends a number of 32 digits as the value of a port's variable.
-pub(crate) fn put_port_quad(
+/// Appends a number of so many binary digits, at most 32, as the value of a port's variable.
+pub(crate) fn put_port_number(
     out: &mut Vec<u8>,
     node: u8,
     port: u8,
     letter: &[u8],
-    quad: u32,
+    digits: u32,
+    n: u32,
 ) -> Result<(), OutOfMemory>
     requires node { node ≤ 62 }
     requires port { port ≤ 15 }
+    requires digits { digits ≤ 32 }
     ensures { OnOk result (out.new.items
-        ≡ out.old.items ++ port_line node port letter.now (number 32 quad)) }
+        ≡ out.old.items ++ port_line node port letter.now (number digits n)) }
 {
-    put_number(out, 32, quad)?;
+    put_number(out, digits, n)?;
     put_port_code(out, node, port, letter)?;
     out.push(b'\n')?;
     Ok(())
