@@ -6,4 +6,5 @@ pub mod EachMaps
 pub mod EachWaiting
 pub mod Heard
 pub mod Listed
+pub mod Viewed
 pub mod codings

@@ -17,6 +17,7 @@ mod steps;
 mod table;
 mod telling;
 mod turns;
+mod viewed;
 mod waves;
 
 pub use bus::Bus;

@@ -69,8 +69,8 @@ impl Bus {
         Ok(Bus { world, notes })
     }
 
-    /// `turn K`
-    pub(crate) fn turn<L: Listener>(
+    /// Does so many turns. `TooManyTurns` comes where they would pass 2,000,000 turns.
+    pub fn turn<L: Listener>(
         self,
         alloc: Global,
         count: u32,

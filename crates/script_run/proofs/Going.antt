@@ -11,7 +11,8 @@ use Rattle.script_lines.specs.declared.command.Command.{Command}
 use Rattle.script_lines.specs.declared.command.Command.TheVariants.{Settle}
 use Rattle.script_told.specs.Bus.{Bus}
 use Rattle.script_told.specs.Step.{Settles}
-use Rattle.script_told.specs.Script.{Stage, fresh, running, Told, bus_of, fault_at, script_lines}
+use Rattle.script_lines.specs.Line.{Reads}
+use Rattle.script_told.specs.Script.{Stage, fresh, running, Told, bus_of, ranges_of, Follows, fault_at, script_lines}
 use Rattle.script_told.specs.Run.{Entry, ScriptRun, done, stopped, behind, last_run, RunsFrom, IsRun, printed, IsTold}
 use Rattle.script_run.specs.Answered.{StopsWith, IsRefused, IsOnlyFault}
 use Rattle.script_bus.specs.Running.{IfFault, Stops}
@@ -34,6 +35,12 @@ printed-more [] entry = append-nil entry.text
 printed-more (e ∷ entries) entry =
     ap (λ (l : List ℕ). e.text ++ l) (printed-more entries entry)
     ∙ sym (append_assoc e.text (printed entries) entry.text)
+
+-- a command of a line is at fault
+pub done-fails : (stage : Stage) (line : List ℕ) (command : Command) (stop : LineStop) → Reads (ranges_of stage) line (Ok (Some command)) →
+    Stops (Follows stage command) stop → IfFault (LineFails stage line) stop
+done-fails stage line command (Fault kind) reads fails = inr (command, reads, fails)
+done-fails stage line command (Memory e) reads fails = tt
 
 -- no line was taken yet
 pub went-first : (bytes : List ℕ) → Went bytes [] 1 (script_lines bytes) fresh

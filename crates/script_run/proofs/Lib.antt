@@ -3,3 +3,6 @@ pub mod Going
 pub mod Listing
 pub mod AdviceEnds
 pub mod Tracing
+pub mod Viewing
+pub mod NamedEnd
+pub mod OneView

@@ -64,7 +64,7 @@ dump-ends bytes said out mid new dump number stage after text empty have settles
     (t.run, t.is, (after, t.ends, record { changes = new; told = t.told; text_is = is }))
 
 -- what ended a run that tells a fault
-end-is :
+pub end-is :
     (run : ScriptRun) (fault : ScriptFault) (end : Result Bus ScriptFault) → run.end ≡ end →
     Err fault ≡ unless_stopped (printed run.entries) end → run.end ≡ Err fault
 end-is run fault (Ok bus) at e = absurd cc

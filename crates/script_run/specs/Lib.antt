@@ -1,3 +1,5 @@
 pub mod Answered
 pub mod Listed
+pub mod Viewed
+pub mod OneViewed
 pub mod codings

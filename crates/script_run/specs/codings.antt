@@ -1,3 +1,4 @@
 pub mod Going
 pub mod Declaring
 pub mod Listing
+pub mod Viewing

@@ -7,14 +7,17 @@
 
 mod advise;
 mod draft;
+mod laws;
 mod listed;
 mod run;
 mod script;
 mod stage;
 mod trace;
+mod viewed;
 mod waves;
 
 pub use advise::advise_script;
+pub use laws::scripts_have_one_view;
 pub use listed::list_script;
 pub use script::run_script;
 pub use script_lines::{
@@ -24,4 +27,5 @@ pub use script_made::make_script;
 pub use script_text::{maps_text, report_text, summary};
 pub use topology_stack::OutOfMemory;
 pub use trace::trace_script;
+pub use viewed::{graph_script, json_script};
 pub use waves::dump_script;

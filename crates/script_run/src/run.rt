@@ -5,6 +5,7 @@ ghost use Rattle.script_told.specs.Script.{Declares, Delays, SaysTimes, Follows,
 ghost use Rattle.script_bus.specs.Running.{Stops};
 ghost use Rattle.script_run.specs.codings.Declaring.{IsDraft, IsLine, draft_now, node_said};
 ghost use Rattle.script_run.specs.codings.Going.{HearsAt};
+ghost use Rattle.script_lines.specs.declared.command.Command.TheVariants as command;
 
 use crate::draft::{Draft, GivenCoins, GivenTimes, NodeLine};
 use crate::stage::{Phase, Stage};
@@ -90,6 +91,23 @@ impl Stage {
         let (bus, text) = bus.command(alloc, times, command, listener)?;
         self.phase = Phase::Running(bus);
         Ok(text)
+    }
+
+    /// Turns pass, 1 to 2,000,000.
+    pub fn pass<L: Listener>(
+        &mut self,
+        alloc: Global,
+        count: u32,
+        listener: &mut L,
+    ) -> Result<(), LineStop>
+        ensures done { OnOk result (Follows self.old (command.Turn count) (Ok (self.new, []))) }
+        ensures heard { OnOk result (HearsAt L.voice self.old (command.Turn count) self.new
+            (L.written listener.old) (L.written listener.new)) }
+        ensures stop { IfErr result (Stops (Follows self.old (command.Turn count))) }
+    {
+        let bus = mem::replace(self, Stage::new()).bus(alloc)?;
+        self.phase = Phase::Running(bus.turn(alloc, count, listener)?);
+        Ok(())
     }
 
     /// The delay is said.

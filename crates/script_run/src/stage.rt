@@ -3,20 +3,25 @@ ghost use Rattle.std.specs.Prelude.{◌≡◌, ◌⊎◌, ◌++◌, ℕ, List, O
 ghost use Rattle.settle.specs.Report.{IsReport};
 ghost use Rattle.script_told.specs.Step.{Settles};
 ghost use Rattle.script_told.specs.Bus as shown;
-ghost use Rattle.script_told.specs.Script.{fresh, bus_of};
+ghost use Rattle.script_told.specs.Script.{Follows, fresh, bus_of, ranges_of};
 ghost use Rattle.script_bus.specs.Running.{IfFault, Stops};
 ghost use Rattle.script_bus.specs.Heard.{Hears};
 ghost use Rattle.script_lines.specs.declared.command.Command.TheVariants as command;
 ghost use Rattle.script_run.specs.codings.Going.{LineLeads, LineFails};
 ghost use Rattle.script_run.specs.codings.Listing.{ListsAt, ListFails};
+ghost use Rattle.script_run.specs.Viewed.{prints_report};
+ghost use Rattle.script_run.specs.codings.Viewing.{CommandShows, LineShows};
+ghost use Rattle.script_bus.specs.Viewed.{IsLineOf};
+ghost use Rattle.script_lines.specs.Range.{IsInRange};
 ghost use Rattle.script_advice.specs.Advising.{IsAdvised};
 
 use crate::draft::Draft;
+use port_state::TimeRanges;
 use script_bus::{Bus, Listener, Silent};
-use script_lines::{LineStop, parse_line_with, says_nothing};
+use script_lines::{Command, LineStop, parse_line_with, says_nothing, turn_line};
 use std::alloc::Global;
 use std::marker::Model;
-use topology_stack::Name;
+use topology_stack::{Name, OutOfMemory};
 
 /// What a script has come to between two of its lines.
 #[derive(Drop)]
@@ -47,6 +52,13 @@ impl Model for Stage {
     ghost invariant = { λ s. IsPhase s.phase };
 }
 
+/// Whether a command prints a report.
+fn prints_report(command: &Command) -> bool
+    ensures { result ≡ prints_report command.now }
+{
+    matches!(command, Command::Settle | Command::Plan { .. })
+}
+
 impl Stage {
     /// Before the first line.
     pub fn new() -> Stage
@@ -73,7 +85,10 @@ impl Stage {
         if says_nothing(line) {
             return Ok(());
         }
-        self.obey(alloc, line, listener, out)
+        match turn_line(line) {
+            Some(count) => Ok(self.pass(alloc, count, listener)?),
+            None => self.obey(alloc, line, listener, out),
+        }
     }
 
     /// A line is taken, as `take` has it.
@@ -127,8 +142,55 @@ impl Stage {
         Ok(bus)
     }
 
+    /// Appends the line of the last report, where the bus runs and has one.
+    fn put_line(&self, alloc: Global, out: &mut Vec<u8>) -> Result<(), OutOfMemory>
+        ensures { OnOk result ((line : List ℕ) × IsLineOf (bus_of self.now) line
+            × (out.new.items ≡ out.old.items ++ line)) }
+    {
+        if let Phase::Running(bus) = &self.phase {
+            let line = bus.line(alloc)?;
+            out.extend_from_slice(line.as_slice())?;
+        }
+        Ok(())
+    }
+
+    /// A command is done, and the line of the report that it prints, if it prints one, is appended.
+    fn show_command(
+        &mut self,
+        alloc: Global,
+        times: TimeRanges,
+        command: Command,
+        out: &mut Vec<u8>,
+    ) -> Result<(), LineStop>
+        requires times { times ≡ ranges_of self.old }
+        requires range { IsInRange times command }
+        ensures done { OnOk result (CommandShows self.old command self.new out.old.items
+            out.new.items) }
+        ensures stop { IfErr result (Stops (Follows self.old command)) }
+    {
+        let prints = prints_report(&command);
+        let _text = self.follow(alloc, times, command, &mut Silent)?;
+        if prints {
+            self.put_line(alloc, out)?;
+        }
+        Ok(())
+    }
+
+    /// A line is taken, and the line of the report that it prints, if it prints one, is appended.
+    pub fn show(&mut self, alloc: Global, line: &[u8], out: &mut Vec<u8>) -> Result<(), LineStop>
+        ensures done { OnOk result (LineShows self.old line.now self.new out.old.items
+            out.new.items) }
+        ensures stop { IfErr result (IfFault (LineFails self.old line.now)) }
+    {
+        let times = self.ranges();
+        let Some(command) = parse_line_with(alloc, line, times)? else {
+            return Ok(());
+        };
+        self.show_command(alloc, times, command, out)
+    }
+
     /// The bus after the `settle` behind the last line.
-    fn settled(self, alloc: Global) -> Result<Bus, LineStop>
+    pub fn settled(self, alloc: Global) -> Result<Bus, LineStop>
         ensures done { IfOk result (λ bus. (text : List ℕ) × Settles (bus_of self) (Ok (bus, text))) }
         ensures stop { IfErr result (Stops (Settles (bus_of self))) }
         ensures reported { IfOk result (λ bus. IsSomeAnd bus.notes.report (IsReport bus.world)) }

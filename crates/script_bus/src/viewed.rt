@@ -1,0 +1,32 @@
+//! The last report of a bus as a picture and as data.
+ghost use Rattle.std.specs.Prelude.{IfOk};
+ghost use Rattle.script_bus.specs.Viewed.{IsGraphOf, IsLineOf};
+
+use crate::bus::Bus;
+use report_views::{report_graph, report_line};
+use std::alloc::Global;
+use topology_stack::OutOfMemory;
+
+impl Bus {
+    /// The graph of the last report, as `report_graph` has it. It is empty where an act came since.
+    pub fn graph(&self, alloc: Global) -> Result<Vec<u8>, OutOfMemory>
+        ensures { IfOk result (λ text. IsGraphOf self.now text.items) }
+    {
+        self.is_sound();
+        match &self.notes.report {
+            Some(report) => report_graph(alloc, self.names(), self.cabling(), report),
+            None => Ok(Vec::new(alloc)),
+        }
+    }
+
+    /// The line of the last report, as `report_line` has it. It is empty where an act came since.
+    pub fn line(&self, alloc: Global) -> Result<Vec<u8>, OutOfMemory>
+        ensures { IfOk result (λ text. IsLineOf self.now text.items) }
+    {
+        self.is_sound();
+        match &self.notes.report {
+            Some(report) => report_line(alloc, self.names(), self.notes.reports, report),
+            None => Ok(Vec::new(alloc)),
+        }
+    }
+}

@@ -1,0 +1,174 @@
+-- A script has one picture and one reporting, exactly where it has a text.
+use Rattle.std.proofs.Common.{◌≡◌, ◌∙◌, ℕ, List, [], ◌∷◌, ◌++◌, refl, sym, ap, subst}
+use Rattle.std.specs.Prelude.{All, IfOk, Result, Option, None, Some, Ok, Err}
+use Rattle.std.proofs.lemmas.List.Elements.{All-head, All-tail}
+use Rattle.topology_stack.specs.OneAnswer.{NoListHasTwoTrees}
+use Rattle.cable_world.specs.Unchanged.{ActKeepsNodes}
+use Rattle.settle.specs.ReadBack.{ListsAreReadBack}
+use Rattle.script_lines.specs.declared.kind.ScriptFault.{ScriptFault}
+use Rattle.script_lines.specs.declared.command.Command.{Command}
+use Rattle.script_lines.specs.declared.command.Command.TheVariants.{Settle, Plan}
+use Rattle.settle.specs.declared.report.Report.{Report}
+use Rattle.report_views.specs.OneView.{ReportsHaveOneGraph, ReportsHaveOneLine, NamedReportsHaveGraphs, NamedReportsHaveLines}
+use Rattle.script_told.specs.Bus.{Bus}
+use Rattle.script_told.specs.Script.{Stage, Told, bus_of}
+use Rattle.script_told.specs.Run.{Entry, ScriptRun, printed, unless_stopped}
+use Rattle.script_told.specs.OneTold.{ScriptsHaveOneRun}
+use Rattle.script_told.specs.EachReport.{DoesReport, IsReportedAt, ReportsAreSettled}
+use Rattle.script_told.proofs.Lemmas.{IsDone, IsEnd, IsSound, each-done}
+use Rattle.script_bus.specs.Viewed.{IsGraphOf, IsLineOf}
+use Rattle.script_run.specs.Viewed.{IsPictureOf, IsLineAfter, AreLines, AreLinesOf}
+use Rattle.script_run.specs.OneViewed.{ScriptsHaveOnePicture, PicturedScriptsAreTold, PictureFaultsAreTold, HasPicture, RunsHavePictures, ScriptsHaveOneReporting, ReportedScriptsAreTold, ReportingFaultsAreTold, HasReporting, RunsHaveReportings}
+use Rattle.script_run.proofs.NamedEnd.{named-end}
+
+-- ---- a run has one end
+
+same-bus : (a b : Bus) → ◌≡◌ {A = Result Bus ScriptFault} (Ok a) (Ok b) → a ≡ b
+same-bus a b e = cc
+
+same-fault : (a b : ScriptFault) → ◌≡◌ {A = Result Bus ScriptFault} (Err a) (Err b) → a ≡ b
+same-fault a b e = cc
+
+not-both : (run : ScriptRun) (bus : Bus) (fault : ScriptFault) → run.end ≡ Ok bus → run.end ≡ Err fault → ⊥
+not-both run bus fault is also = absurd cc
+
+-- ---- the last report of a bus
+
+abbrev with-report : Bus → Option Report → Bus
+with-report bus report = record bus { notes = record bus.notes { report = report } }
+
+one-graph : ReportsHaveOneGraph → (bus : Bus) (a b : List ℕ) → IsGraphOf bus a → IsGraphOf bus b → a ≡ b
+one-graph one bus a b = by bus.notes.report
+  where
+    by : (o : Option Report) → IsGraphOf (with-report bus o) a → IsGraphOf (with-report bus o) b → a ≡ b
+    by None x y = x ∙ sym y
+    by (Some report) x y = one bus.notes.names bus.world.cabling report a b x y
+
+one-line : ReportsHaveOneLine → (bus : Bus) (a b : List ℕ) → IsLineOf bus a → IsLineOf bus b → a ≡ b
+one-line one bus a b = by bus.notes.report
+  where
+    by : (o : Option Report) → IsLineOf (with-report bus o) a → IsLineOf (with-report bus o) b → a ≡ b
+    by None x y = x ∙ sym y
+    by (Some report) x y = one bus.notes.names bus.notes.reports report a b x y
+
+-- a bus that was just reported has them
+some-graph : ListsAreReadBack → NamedReportsHaveGraphs → (bus : Bus) → IsEnd bus →
+    (graph : List ℕ) × IsGraphOf bus graph
+some-graph read graphs bus end =
+    let has = graphs bus.notes.names bus.world.cabling end.report (named-end read bus end) in
+    (has.text, subst (λ (o : Option Report). IsGraphOf (with-report bus o) has.text) (sym end.last) has.is)
+
+some-line : ListsAreReadBack → NamedReportsHaveLines → (bus : Bus) → IsEnd bus →
+    (line : List ℕ) × IsLineOf bus line
+some-line read lines bus end =
+    let has = lines bus.notes.names bus.notes.reports end.report (named-end read bus end) in
+    (has.line, subst (λ (o : Option Report). IsLineOf (with-report bus o) has.line) (sym end.last) has.is)
+
+-- ---- the picture
+
+same-picture : ReportsHaveOneGraph → (run : ScriptRun) (one other : Told) → IsPictureOf run one →
+    IsPictureOf run other → one ≡ other
+same-picture one run (Ok a) (Ok b) x y =
+    let bus = same-bus y.0 x.0 (sym y.1 ∙ x.1) in
+    ap Ok (one-graph one x.0 a b x.2 (subst (λ (v : Bus). IsGraphOf v b) bus y.2))
+same-picture one run (Ok a) (Err g) x y = absurd (not-both run x.0 g x.1 y)
+same-picture one run (Err f) (Ok b) x y = absurd (not-both run y.0 f y.1 x)
+same-picture one run (Err f) (Err g) x y = ap Err (same-fault f g (sym x ∙ y))
+
+pub one-picture : ScriptsHaveOneRun → ReportsHaveOneGraph → ScriptsHaveOnePicture
+one-picture runs one bytes a b x y =
+    let run = runs bytes y.0 x.0 y.1 x.1 in
+    same-picture one x.0 a b x.2 (subst (λ (r : ScriptRun). IsPictureOf r b) run y.2)
+
+pub picture-told : PicturedScriptsAreTold
+picture-told bytes picture x =
+    (printed x.0.entries, (x.0, x.1, sym (ap (unless_stopped (printed x.0.entries)) x.2.1)))
+
+pub picture-fault : PictureFaultsAreTold
+picture-fault bytes fault x = (x.0, x.1, sym (ap (unless_stopped (printed x.0.entries)) x.2))
+
+pub some-picture : NoListHasTwoTrees → ActKeepsNodes → ListsAreReadBack → NamedReportsHaveGraphs →
+    RunsHavePictures
+some-picture trees keeps read graphs bytes run is = go run.end refl
+  where
+    go : (end : Result Bus ScriptFault) → run.end ≡ end → HasPicture run
+    go (Ok bus) e =
+        let end = subst (λ (r : Result Bus ScriptFault). IfOk r IsEnd) e (each-done trees keeps bytes run is).end in
+        let graph = some-graph read graphs bus end in
+        record { told = Ok graph.0; is = (bus, e, graph.1) }
+    go (Err fault) e = record { told = Err fault; is = e }
+
+-- ---- the line of each report
+
+same-after : ReportsHaveOneLine → (command : Command) (after : Stage) (a b : List ℕ) →
+    IsLineAfter command after a → IsLineAfter command after b → a ≡ b
+same-after one Settle after a b x y = one-line one (bus_of after) a b x y
+same-after one (Plan name) after a b x y = one-line one (bus_of after) a b x y
+same-after one command after a b x y = x ∙ sym y
+
+same-lines : ReportsHaveOneLine → (entries : List Entry) (a b : List ℕ) → AreLines entries a →
+    AreLines entries b → a ≡ b
+same-lines one [] a b x y = x ∙ sym y
+same-lines one (entry ∷ entries) a b x y =
+    x.4
+    ∙ ap (λ (text : List ℕ). text ++ x.1) (same-after one entry.command entry.after x.0 y.0 x.2 y.2)
+    ∙ ap (λ (text : List ℕ). y.0 ++ text) (same-lines one entries x.1 y.1 x.3 y.3)
+    ∙ sym y.4
+
+-- the bus that a report left was just reported
+left-end : (entry : Entry) → IsDone entry → IsReportedAt entry → IsEnd (bus_of entry.after)
+left-end entry done at =
+    subst (λ (s : Stage). IsSound s → IsEnd (bus_of s)) (sym at.after)
+    (λ sound. record { reached = sound; report = at.of.report; last = at.of.kept; is = at.of.is })
+    done.left
+
+abbrev Says : Entry → Type 0
+Says entry = DoesReport entry.command → IsReportedAt entry
+
+module _ (read : ListsAreReadBack) (lines : NamedReportsHaveLines) where
+  some-after : (command : Command) (after : Stage) → (DoesReport command → IsEnd (bus_of after)) →
+      (line : List ℕ) × IsLineAfter command after line
+  some-after Settle after end = some-line read lines (bus_of after) (end tt)
+  some-after (Plan name) after end = some-line read lines (bus_of after) (end tt)
+  some-after command after end = ([], refl)
+
+  some-lines : (entries : List Entry) → All IsDone entries → All Says entries →
+      (text : List ℕ) × AreLines entries text
+  some-lines [] done say = ([], refl)
+  some-lines (entry ∷ entries) done say =
+      let left = left-end entry (All-head IsDone entry entries done) in
+      let one = some-after entry.command entry.after (λ does. left (All-head Says entry entries say does)) in
+      let rest = some-lines entries (All-tail IsDone entry entries done) (All-tail Says entry entries say) in
+      (one.0 ++ rest.0, (one.0, rest.0, one.1, rest.1, refl))
+
+-- ---- the lines of the reports
+
+same-reporting : ReportsHaveOneLine → (run : ScriptRun) (one other : Told) → AreLinesOf run one →
+    AreLinesOf run other → one ≡ other
+same-reporting one run (Ok a) (Ok b) x y = ap Ok (same-lines one run.entries a b x.2 y.2)
+same-reporting one run (Ok a) (Err g) x y = absurd (not-both run x.0 g x.1 y)
+same-reporting one run (Err f) (Ok b) x y = absurd (not-both run y.0 f y.1 x)
+same-reporting one run (Err f) (Err g) x y = ap Err (same-fault f g (sym x ∙ y))
+
+pub one-reporting : ScriptsHaveOneRun → ReportsHaveOneLine → ScriptsHaveOneReporting
+one-reporting runs one bytes a b x y =
+    let run = runs bytes y.0 x.0 y.1 x.1 in
+    same-reporting one x.0 a b x.2 (subst (λ (r : ScriptRun). AreLinesOf r b) run y.2)
+
+pub reporting-told : ReportedScriptsAreTold
+reporting-told bytes lines x =
+    (printed x.0.entries, (x.0, x.1, sym (ap (unless_stopped (printed x.0.entries)) x.2.1)))
+
+pub reporting-fault : ReportingFaultsAreTold
+reporting-fault bytes fault x = (x.0, x.1, sym (ap (unless_stopped (printed x.0.entries)) x.2))
+
+pub some-reporting : NoListHasTwoTrees → ActKeepsNodes → ListsAreReadBack → NamedReportsHaveLines →
+    ReportsAreSettled → RunsHaveReportings
+some-reporting trees keeps read lines settled bytes run is = go run.end refl
+  where
+    go : (end : Result Bus ScriptFault) → run.end ≡ end → HasReporting run
+    go (Ok bus) e =
+        let done = (each-done trees keeps bytes run is).each in
+        let text = some-lines read lines run.entries done (settled bytes run is) in
+        record { told = Ok text.0; is = (bus, e, text.1) }
+    go (Err fault) e = record { told = Err fault; is = e }

@@ -1,0 +1,14 @@
+use Rattle.script_run.proofs.OneView.{one-picture, picture-told, picture-fault, some-picture, one-reporting, reporting-told, reporting-fault, some-reporting}
+use Rattle.script_run.proofs.laws.scripts_have_one_view.Goals as goal
+
+pub returns : goal.returns
+returns c = record {
+  picture = one-picture c.scripts_tell_one_thing.ensures.run c.reports_have_one_view.ensures.graph;
+  picture_told = picture-told;
+  picture_fault = picture-fault;
+  picture_some = some-picture c.one_tree.ensures c.acts_keep.ensures.nodes c.reports_are_read_back.ensures.lists c.reports_have_views.ensures.graphs;
+  reporting = one-reporting c.scripts_tell_one_thing.ensures.run c.reports_have_one_view.ensures.line;
+  reporting_told = reporting-told;
+  reporting_fault = reporting-fault;
+  reporting_some = some-reporting c.one_tree.ensures c.acts_keep.ensures.nodes c.reports_are_read_back.ensures.lists c.reports_have_views.ensures.lines c.reports_are_settled.ensures;
+}

@@ -1,0 +1,44 @@
+-- The reports of a script as a picture and as data.
+use Rattle.std.specs.Prelude.{◌≡◌, ℕ, Bool, true, false, MatchBool, List, [], ◌∷◌, ◌++◌, Ok, Err}
+use Rattle.script_told.specs.Bus.{Bus}
+use Rattle.script_told.specs.Script.{Stage, Told, bus_of}
+use Rattle.script_told.specs.Run.{Entry, ScriptRun, IsRun}
+use Rattle.script_lines.specs.declared.command.Command.{Command}
+use Rattle.script_lines.specs.declared.command.Command.TheVariants.{Settle, Plan}
+use Rattle.script_bus.specs.Viewed.{IsGraphOf, IsLineOf}
+
+-- the graph of the report at the end of a run, or the run's fault
+abbrev pub IsPictureOf : ScriptRun → Told → Type 0
+IsPictureOf run (Ok text) = (bus : Bus) × (run.end ≡ Ok bus) × IsGraphOf bus text
+IsPictureOf run (Err fault) = run.end ≡ Err fault
+
+-- The graph of a script: that of the report of the `settle` behind its last line.
+abbrev pub IsPictured : List ℕ → Told → Type 0
+IsPictured bytes told = (run : ScriptRun) × IsRun bytes run × IsPictureOf run told
+
+-- `settle` and `plan` print a report
+abbrev pub prints_report : Command → Bool
+prints_report Settle = true
+prints_report (Plan name) = true
+prints_report command = false
+
+-- the line of the report that a command printed which led to this stage, and else nothing
+abbrev pub IsLineAfter : Command → Stage → List ℕ → Type 0
+IsLineAfter command after line =
+    MatchBool (prints_report command) (IsLineOf (bus_of after) line) (line ≡ [])
+
+-- the lines of commands, one after the other
+abbrev pub AreLines : List Entry → List ℕ → Type 0
+AreLines [] text = text ≡ []
+AreLines (entry ∷ entries) text =
+    (one : List ℕ) × (more : List ℕ) × IsLineAfter entry.command entry.after one
+    × AreLines entries more × (text ≡ one ++ more)
+
+-- the lines of the reports of a run, or the run's fault
+abbrev pub AreLinesOf : ScriptRun → Told → Type 0
+AreLinesOf run (Ok text) = (bus : Bus) × (run.end ≡ Ok bus) × AreLines run.entries text
+AreLinesOf run (Err fault) = run.end ≡ Err fault
+
+-- The reports of a script as JSON: a line for each that it prints.
+abbrev pub AreReported : List ℕ → Told → Type 0
+AreReported bytes told = (run : ScriptRun) × IsRun bytes run × AreLinesOf run told
