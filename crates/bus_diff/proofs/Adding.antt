@@ -1,9 +1,8 @@
 -- Lists of changes to which changes are added.
-use Rattle.std.proofs.Common.{◌≡◌, ℕ, ◌+◌, ◌<◌, ◌≤◌, ◌⊎◌, inl, inr, ⊎_elim, List, [], ◌∷◌, ◌++◌, length, get_or, take, refl, sym, subst, arith}
+use Rattle.std.proofs.Common.{◌≡◌, ℕ, ◌+◌, ◌<◌, ◌≤◌, ◌⊎◌, inl, inr, ⊎_elim, List, [], ◌∷◌, ◌++◌, sym, subst, arith}
 use Rattle.std.specs.Prelude.{Contains}
 use Rattle.std.proofs.lemmas.Bool.{cases_lt}
-use Rattle.std.proofs.lemmas.List.{take_more, take_all}
-use Rattle.std.proofs.lemmas.List.Elements.{Contains-append_left, Contains-push, Contains-push_cases}
+use Rattle.std.proofs.lemmas.List.Elements.{Contains-append_left, Contains-append_right, Contains-append_cases, Contains-push, Contains-push_cases}
 use Rattle.bus_diff.specs.declared.pair.Pair.{Pair}
 use Rattle.bus_diff.specs.declared.change.Change.{Change}
 use Rattle.bus_diff.specs.codings.Told.{Adds, Below, OfSome}
@@ -73,32 +72,31 @@ below_more P n xs ys zs a b =
 pub some_none : (P : Pair → Change → Type 0) (xs : List Change) → Adds xs xs (OfSome [] P)
 some_none P xs = adds_none xs (OfSome [] P) (λ c s. let lt : s.1.0 < 0 = s.1.1 in absurd (omega (arith, lt)))
 
-some_up : (P : Pair → Change → Type 0) (ps : List Pair) (p : Pair) (c : Change) →
-    OfSome ps P c ⊎ P p c → OfSome (ps ++ p ∷ []) P c
-some_up P ps p c h = ⊎_elim
-    (λ (s : OfSome ps P c). (s.0, Contains-append_left ps (p ∷ []) s.0 s.1, s.2))
-    (λ (here : P p c). (p, Contains-push ps p, here))
+pub front_cases : (p : Pair) (ps : List Pair) (q : Pair) → Contains (p ∷ ps) q → (p ≡ q) ⊎ Contains ps q
+front_cases p ps q there = ⊎_elim
+    (λ (here : Contains (p ∷ []) q). ⊎_elim
+    (λ (nil : Contains [] q). let lt : nil.0 < 0 = nil.1 in absurd (omega (arith, lt)))
+    (λ (is : p ≡ q). inl is)
+    (Contains-push_cases [] p q here))
+    (λ (later : Contains ps q). inr later)
+    (Contains-append_cases (p ∷ []) ps q there)
+
+some_up : (P : Pair → Change → Type 0) (p : Pair) (ps : List Pair) (c : Change) →
+    P p c ⊎ OfSome ps P c → OfSome (p ∷ ps) P c
+some_up P p ps c h = ⊎_elim
+    (λ (here : P p c). (p, Contains-append_left (p ∷ []) ps p (Contains-push [] p), here))
+    (λ (s : OfSome ps P c). (s.0, Contains-append_right (p ∷ []) ps s.0 s.1, s.2))
     h
 
-some_down : (P : Pair → Change → Type 0) (ps : List Pair) (p : Pair) (c : Change) →
-    OfSome (ps ++ p ∷ []) P c → OfSome ps P c ⊎ P p c
-some_down P ps p c s = ⊎_elim
-    (λ (there : Contains ps s.0). inl (s.0, there, s.2))
-    (λ (same : p ≡ s.0). inr (subst (λ (q : Pair). P q c) (sym same) s.2))
-    (Contains-push_cases ps p s.0 s.1)
+some_down : (P : Pair → Change → Type 0) (p : Pair) (ps : List Pair) (c : Change) →
+    OfSome (p ∷ ps) P c → P p c ⊎ OfSome ps P c
+some_down P p ps c s = ⊎_elim
+    (λ (same : p ≡ s.0). inl (subst (λ (q : Pair). P q c) (sym same) s.2))
+    (λ (there : Contains ps s.0). inr (s.0, there, s.2))
+    (front_cases p ps s.0 s.1)
 
-some_push : (P : Pair → Change → Type 0) (ps : List Pair) (p : Pair) (xs ys zs : List Change) →
-    Adds xs ys (OfSome ps P) → Adds ys zs (P p) → Adds xs zs (OfSome (ps ++ p ∷ []) P)
-some_push P ps p xs ys zs a b =
-    adds_same xs zs (λ c. OfSome ps P c ⊎ P p c) (OfSome (ps ++ p ∷ []) P) (some_up P ps p) (some_down P ps p) (adds_then xs ys zs (OfSome ps P) (P p) a b)
-
-pub some_more : (P : Pair → Change → Type 0) (ps : List Pair) (i : ℕ) (d : Pair)
-    (xs ys zs : List Change) → i < length ps → Adds xs ys (OfSome (take i ps) P) →
-    Adds ys zs (P (get_or ps i d)) → Adds xs zs (OfSome (take (i + 1) ps) P)
-some_more P ps i d xs ys zs lt a b =
-    subst (λ (qs : List Pair). Adds xs zs (OfSome qs P)) (sym (take_more ps i d lt)) (some_push P (take i ps) (get_or ps i d) xs ys zs a b)
-
--- at the end of the list
-pub some_all : (P : Pair → Change → Type 0) (ps : List Pair) (i : ℕ) (xs ys : List Change) →
-    length ps ≤ i → Adds xs ys (OfSome (take i ps) P) → Adds xs ys (OfSome ps P)
-some_all P ps i xs ys le a = subst (λ (qs : List Pair). Adds xs ys (OfSome qs P)) (take_all i ps le) a
+-- of the first of some pairs, and then of the others
+pub some_front : (P : Pair → Change → Type 0) (p : Pair) (ps : List Pair) (xs ys zs : List Change) →
+    Adds xs ys (P p) → Adds ys zs (OfSome ps P) → Adds xs zs (OfSome (p ∷ ps) P)
+some_front P p ps xs ys zs a b =
+    adds_same xs zs (λ c. P p c ⊎ OfSome ps P c) (OfSome (p ∷ ps) P) (some_up P p ps) (some_down P p ps) (adds_then xs ys zs (P p) (OfSome ps P) a b)

@@ -1,4 +1,8 @@
-mod Adding
-mod Single
-mod Matched
-mod Whole
+pub mod Adding
+pub mod Furthest
+pub mod Matched
+pub mod Parts
+pub mod Reached
+pub mod Room
+pub mod Steps
+pub mod Whole

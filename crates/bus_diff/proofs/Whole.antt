@@ -1,12 +1,10 @@
 -- The parts of a comparison make it whole.
-use Rattle.std.proofs.Common.{◌≡◌, ◌≢◌, ◌∙◌, ℕ, ◌+◌, ◌<◌, ◌≤◌, ◌⊎◌, inl, inr, ⊎_elim, Bool, false, Option, Some, None, List, [], ◌∷◌, ◌++◌, length, refl, sym, subst, ap, arith}
+use Rattle.std.proofs.Common.{◌≡◌, ◌≢◌, ◌∙◌, ℕ, ◌+◌, ◌<◌, ◌⊎◌, inl, inr, ⊎_elim, Some, List, [], length, refl, sym, subst, ap, arith}
 use Rattle.std.specs.Prelude.{Contains, slice_get}
-use Rattle.std.proofs.lemmas.Option.{slice_get_past}
 use Rattle.self_id.specs.declared.node.Attrs.{Attrs}
 use Rattle.self_id.specs.Node.{Node}
 use Rattle.topology_stack.specs.Tree.{Tree, walk}
 use Rattle.topology_stack.specs.Elect.{elected}
-use Rattle.view_text.specs.declared.cable.Cable.{Cable}
 use Rattle.view_text.specs.Cable.{cables}
 use Rattle.bus_diff.specs.declared.pair.Pair.{Pair}
 use Rattle.bus_diff.specs.declared.change.Change.{Change}
@@ -15,7 +13,7 @@ use Rattle.bus_diff.specs.declared.change.Quality.{Quality}
 use Rattle.bus_diff.specs.declared.change.Quality.TheVariants.{Link, Gap, Speed, Contender, Power}
 use Rattle.bus_diff.specs.Change.{value_of, hangs_on, pulled, plugged, Says, IsChange, AreChanges}
 use Rattle.bus_diff.specs.codings.Told.{Adds, Below, IsGoneAt, IsNewAt, IsMoveOf, IsValueOf, IsSomeValueOf, IsValueAt, OfSome, IsRootChange, IsManagerChange}
-use Rattle.bus_diff.proofs.Adding.{adds_then, adds_same, adds_none}
+use Rattle.bus_diff.proofs.Adding.{adds_then, adds_same}
 
 -- ---- the values of a node
 
@@ -82,18 +80,6 @@ adds_values ns ms p m n a b xs ys at_m at_n a_is b_is adds =
     let same : Value p q (value_of q a) (value_of q b) ≡ Value p q s.1 s.2 = rw (from_is, to_is) refl in
     (q, (other, s.6 ∙ sym same)))
     adds
-
-pub values_past_old : (ns ms : List Node) (p : Pair) (xs : List Change) → length ns ≤ p.old →
-    Adds xs xs (IsValueAt ns ms p)
-values_past_old ns ms p xs le =
-    let none : slice_get ns p.old ≡ None = slice_get_past ns p.old le in
-    adds_none xs (IsValueAt ns ms p) (λ c s. let bad : ⊥ = rw none at s.3 in bad)
-
-pub values_past_new : (ns ms : List Node) (p : Pair) (xs : List Change) → length ms ≤ p.new →
-    Adds xs xs (IsValueAt ns ms p)
-values_past_new ns ms p xs le =
-    let none : slice_get ms p.new ≡ None = slice_get_past ms p.new le in
-    adds_none xs (IsValueAt ns ms p) (λ c s. let bad : ⊥ = rw none at s.4 in bad)
 
 -- ---- the whole
 
@@ -176,27 +162,3 @@ whole t u ps from to s1 s2 s3 s4 s5 s6 old_root new_root h1 h2 h3 h4 h5 h6 =
           (t6.0 c there),
       λ c is. t6.1 c (inr (parts_of t u ps from to old_root new_root c is)),
     )
-
--- the same, where the parts are told of what the code has
-pub whole_with : (t u : Tree) (ps : List Pair) (from to n m : ℕ) (a b : Option ℕ)
-    (oc nc od nd : List Cable) (ns ms : List Node) (s0 s1 s2 s3 s4 s5 s6 : List Change) → s0 ≡ [] →
-    oc ≡ cables t → nc ≡ cables u → od ≡ cables t → nd ≡ cables u → ns ≡ walk t → ms ≡ walk u → n ≡ length (walk t) →
-    m ≡ length (walk u) → a ≡ elected t → b ≡ elected u → from + 1 ≡ length (walk t) →
-    to + 1 ≡ length (walk u) → Adds s0 s1 (Below (IsGoneAt oc ps) n) →
-    Adds s1 s2 (Below (IsNewAt nc ps) m) → Adds s2 s3 (OfSome ps (IsMoveOf ps od nd)) →
-    Adds s3 s4 (OfSome ps (IsValueAt ns ms)) → Adds s4 s5 (IsRootChange ps from to) →
-    Adds s5 s6 (IsManagerChange ps a b) → AreChanges t u ps s6
-whole_with t u ps from to n m a b oc nc od nd ns ms s0 s1 s2 s3 s4 s5 s6 none oc_is nc_is od_is nd_is ns_is ms_is n_is m_is a_is b_is old_root new_root h1 h2 h3 h4 h5 h6 =
-    whole t u ps from to s1 s2 s3 s4 s5 s6 old_root new_root
-    (subst (λ (x : List Change). Adds x s1 (Below (IsGoneAt (cables t) ps) (length (walk t)))) none
-    (subst (λ (k : ℕ). Adds s0 s1 (Below (IsGoneAt (cables t) ps) k)) n_is
-    (subst (λ (cs : List Cable). Adds s0 s1 (Below (IsGoneAt cs ps) n)) oc_is h1)))
-    (subst (λ (k : ℕ). Adds s1 s2 (Below (IsNewAt (cables u) ps) k)) m_is
-    (subst (λ (cs : List Cable). Adds s1 s2 (Below (IsNewAt cs ps) m)) nc_is h2))
-    (subst (λ (cs : List Cable). Adds s2 s3 (OfSome ps (IsMoveOf ps (cables t) cs))) nd_is
-    (subst (λ (cs : List Cable). Adds s2 s3 (OfSome ps (IsMoveOf ps cs nd))) od_is h3))
-    (subst (λ (xs : List Node). Adds s3 s4 (OfSome ps (IsValueAt (walk t) xs))) ms_is
-    (subst (λ (xs : List Node). Adds s3 s4 (OfSome ps (IsValueAt xs ms))) ns_is h4))
-    h5
-    (subst (λ (x : Option ℕ). Adds s5 s6 (IsManagerChange ps (elected t) x)) b_is
-    (subst (λ (x : Option ℕ). Adds s5 s6 (IsManagerChange ps x b)) a_is h6))

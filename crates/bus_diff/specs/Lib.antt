@@ -1,4 +1,6 @@
 pub mod Matching
+pub mod Along
 pub mod Change
+pub mod Listed
 pub mod Text
 pub mod codings

@@ -1,5 +1,5 @@
 -- The changes as text: a line for each.
-use Rattle.std.specs.Prelude.{ℕ, Option, Some, None, List, [], ◌∷◌, ◌++◌, codes, decimal}
+use Rattle.std.specs.Prelude.{ℕ, Option, Some, None, List, [], ◌∷◌, ◌++◌, codes}
 use Rattle.view_text.specs.declared.cable.Cable.{Cable}
 use Rattle.view_text.specs.Packet.{field}
 use Rattle.bus_diff.specs.declared.pair.Pair.{Pair}

@@ -1,10 +1,12 @@
 //! What differs between two buses.
-ghost use Rattle.std.specs.Prelude.{◌≡◌, ◌||◌, is_some, Contains, IfOk, OnOk};
+ghost use Rattle.std.specs.Prelude.{◌≡◌, ◌||◌, ◌++◌, is_some, Contains, IfOk, OnOk};
 ghost use Rattle.bus_diff.specs.declared.change.Change.{Change};
 ghost use Rattle.bus_diff.specs.Matching.{IsMatching};
 ghost use Rattle.bus_diff.specs.Change.{IsChange, AreChanges, is_one_or_none};
-ghost use Rattle.bus_diff.specs.codings.Told.{Adds, Below, IsGoneAt, IsNewAt, IsMoveOf, IsValueOf, IsSomeValueOf, IsValueAt, OfSome, IsRootChange, IsManagerChange};
+ghost use Rattle.bus_diff.specs.Along.{matched};
+ghost use Rattle.bus_diff.specs.Listed.{if_gone, gone, if_come, come, if_moved, moved, if_other, other_attrs, values_at, values, if_rooted, if_managed, changes, changes_along};
 
+use crate::along::matched_along;
 use crate::change::{Change, Quality, value_of};
 use crate::hanging::{hangs_on, plugged, pulled};
 use crate::matching::matched;
@@ -30,7 +32,7 @@ fn put_gone(
     cables: &[Cable],
     id: u8,
 ) -> Result<(), OutOfMemory>
-    ensures { OnOk result (Adds out.old.items out.new.items (IsGoneAt cables.now pairs.now id)) }
+    ensures { OnOk result (out.new.items ≡ out.old.items ++ if_gone cables.now pairs.now id) }
 {
     if stays(pairs, id) {
         return Ok(());
@@ -47,8 +49,7 @@ fn put_all_gone(
     cables: &[Cable],
     count: u8,
 ) -> Result<(), OutOfMemory>
-    ensures { OnOk result (Adds out.old.items out.new.items
-        (Below (IsGoneAt cables.now pairs.now) count)) }
+    ensures { OnOk result (out.new.items ≡ out.old.items ++ gone cables.now pairs.now count) }
 {
     for id in 0..count {
         put_gone(out, pairs, cables, id)?;
@@ -63,7 +64,7 @@ fn put_new(
     cables: &[Cable],
     id: u8,
 ) -> Result<(), OutOfMemory>
-    ensures { OnOk result (Adds out.old.items out.new.items (IsNewAt cables.now pairs.now id)) }
+    ensures { OnOk result (out.new.items ≡ out.old.items ++ if_come cables.now pairs.now id) }
 {
     if stood(pairs, id) {
         return Ok(());
@@ -80,8 +81,7 @@ fn put_all_new(
     cables: &[Cable],
     count: u8,
 ) -> Result<(), OutOfMemory>
-    ensures { OnOk result (Adds out.old.items out.new.items
-        (Below (IsNewAt cables.now pairs.now) count)) }
+    ensures { OnOk result (out.new.items ≡ out.old.items ++ come cables.now pairs.now count) }
 {
     for id in 0..count {
         put_new(out, pairs, cables, id)?;
@@ -104,8 +104,8 @@ fn put_move(
     new: &[Cable],
     pair: Pair,
 ) -> Result<(), OutOfMemory>
-    ensures { OnOk result (Adds out.old.items out.new.items
-        (IsMoveOf pairs.now old.now new.now pair)) }
+    ensures { OnOk result (out.new.items
+        ≡ out.old.items ++ if_moved pairs.now old.now new.now pair) }
 {
     let from = pulled(pairs, old, new, pair.old);
     let to = plugged(pairs, old, new, pair.new);
@@ -124,7 +124,7 @@ fn put_value(
     old: Attrs,
     new: Attrs,
 ) -> Result<(), OutOfMemory>
-    ensures { OnOk result (Adds out.old.items out.new.items (IsValueOf pair old new quality)) }
+    ensures { OnOk result (out.new.items ≡ out.old.items ++ if_other pair old new quality) }
 {
     let from = value_of(quality, old);
     let to = value_of(quality, new);
@@ -142,7 +142,7 @@ fn put_value(
 
 /// Appends which values a node says of itself that are others.
 fn put_attrs(out: &mut Vec<Change>, pair: Pair, old: Attrs, new: Attrs) -> Result<(), OutOfMemory>
-    ensures { OnOk result (Adds out.old.items out.new.items (IsSomeValueOf pair old new)) }
+    ensures { OnOk result (out.new.items ≡ out.old.items ++ other_attrs pair old new) }
 {
     put_value(out, pair, Quality::Link, old, new)?;
     put_value(out, pair, Quality::Gap, old, new)?;
@@ -166,7 +166,7 @@ fn put_values(
     old: &[SelfId],
     new: &[SelfId],
 ) -> Result<(), OutOfMemory>
-    ensures { OnOk result (Adds out.old.items out.new.items (IsValueAt old.now new.now pair)) }
+    ensures { OnOk result (out.new.items ≡ out.old.items ++ values_at old.now new.now pair) }
 {
     let (old_id, new_id) = (pair.old as usize, pair.new as usize);
     if old_id >= old.len() {
@@ -186,8 +186,8 @@ fn put_moves(
     old: &[Cable],
     new: &[Cable],
 ) -> Result<(), OutOfMemory>
-    ensures { OnOk result (Adds out.old.items out.new.items
-        (OfSome pairs.now (IsMoveOf pairs.now old.now new.now))) }
+    ensures { OnOk result (out.new.items
+        ≡ out.old.items ++ moved pairs.now old.now new.now pairs.now) }
 {
     for pair in pairs {
         put_move(out, pairs, old, new, *pair)?;
@@ -202,8 +202,8 @@ fn put_all_values(
     old: &[SelfId],
     new: &[SelfId],
 ) -> Result<(), OutOfMemory>
-    ensures { OnOk result (Adds out.old.items out.new.items
-        (OfSome pairs.now (IsValueAt old.now new.now))) }
+    ensures { OnOk result (out.new.items
+        ≡ out.old.items ++ values old.now new.now pairs.now) }
 {
     for pair in pairs {
         put_values(out, *pair, old, new)?;
@@ -213,7 +213,7 @@ fn put_all_values(
 
 /// Appends that another node is the root, where it is.
 fn put_root(out: &mut Vec<Change>, pairs: &[Pair], from: u8, to: u8) -> Result<(), OutOfMemory>
-    ensures { OnOk result (Adds out.old.items out.new.items (IsRootChange pairs.now from to)) }
+    ensures { OnOk result (out.new.items ≡ out.old.items ++ if_rooted pairs.now from to) }
 {
     if is_one(pairs, from, to) {
         return Ok(());
@@ -240,7 +240,7 @@ fn put_manager(
     from: Option<u8>,
     to: Option<u8>,
 ) -> Result<(), OutOfMemory>
-    ensures { OnOk result (Adds out.old.items out.new.items (IsManagerChange pairs.now from to)) }
+    ensures { OnOk result (out.new.items ≡ out.old.items ++ if_managed pairs.now from to) }
 {
     if is_one_or_none(pairs, from, to) {
         return Ok(());
@@ -256,7 +256,7 @@ fn changes_of(
     new: &BusTree,
     pairs: &[Pair],
 ) -> Result<Vec<Change>, OutOfMemory>
-    ensures { IfOk result (λ told. AreChanges old.now new.now pairs.now told.items) }
+    ensures { IfOk result (λ told. told.items ≡ changes old.now new.now pairs.now) }
 {
     let old_cables = cables(alloc, old)?;
     let new_cables = cables(alloc, new)?;
@@ -268,6 +268,21 @@ fn changes_of(
     put_root(&mut told, pairs, old.root(), new.root())?;
     put_manager(&mut told, pairs, elect(old), elect(new))?;
     Ok(told)
+}
+
+/// What differs of two buses, with the pairs by which their nodes are matched.
+fn differing(
+    alloc: Global,
+    old: &BusTree,
+    new: &BusTree,
+    pairs: Vec<Pair>,
+) -> Result<Difference, OutOfMemory>
+    ensures pairs { IfOk result (λ d. d.pairs.items ≡ pairs.items) }
+    ensures list { IfOk result (λ d. d.changes.items ≡ changes old.now new.now d.pairs.items) }
+    ensures exact { IfOk result (λ d. AreChanges old.now new.now d.pairs.items d.changes.items) }
+{
+    let changes = changes_of(alloc, old, new, &pairs)?;
+    Ok(Difference { pairs, changes })
 }
 
 /// Which node of a bus is which of another, and what differs: exactly that is told, and each of it is so of both
@@ -283,6 +298,24 @@ pub fn compare(alloc: Global, old: &BusTree, new: &BusTree) -> Result<Difference
         IsChange old.now new.now d.pairs.items change → Contains d.changes.items change) }
 {
     let pairs = matched(alloc, old, new)?;
-    let changes = changes_of(alloc, old, new, &pairs)?;
-    Ok(Difference { pairs, changes })
+    let told = differing(alloc, old, new, pairs)?;
+    Ok(told)
+}
+
+/// The same where both buses are walked along ports of the same numbers, from the first two nodes from which the
+/// most are reached. So two buses have one such answer: its pairs by rising ID in the new bus, and its changes in
+/// the order of their kinds.
+#[tactic(auto, unfolding(crate::specs::Listed::changes_along))]
+pub fn compare_along(alloc: Global, old: &BusTree, new: &BusTree) -> Result<Difference, OutOfMemory>
+    ensures pairs { IfOk result (λ d. d.pairs.items ≡ matched old.now new.now) }
+    ensures list { IfOk result (λ d. d.changes.items ≡ changes_along old.now new.now) }
+    // No node stands in two pairs, and each has as many ports in both.
+    ensures matching { IfOk result (λ d. IsMatching old.now new.now d.pairs.items) }
+    // Exactly what differs is told.
+    ensures exact { IfOk result (λ d.
+        AreChanges old.now new.now d.pairs.items d.changes.items) }
+{
+    let pairs = matched_along(alloc, old, new)?;
+    let told = differing(alloc, old, new, pairs)?;
+    Ok(told)
 }

@@ -6,16 +6,19 @@
 //! That is a guess, and no contract says that it is the best. What is told of the guess is proved.
 #![tactic(auto)]
 
+mod along;
 mod change;
 mod comparing;
 mod guess;
 mod hanging;
+mod laws;
 mod links;
 mod matching;
 mod pair;
 mod text;
 
 pub use change::{Change, Quality};
-pub use comparing::{Difference, compare};
+pub use comparing::{Difference, compare, compare_along};
+pub use laws::each_walk_begins_furthest;
 pub use pair::Pair;
 pub use text::changes_text;

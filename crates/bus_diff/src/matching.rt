@@ -1,12 +1,12 @@
 //! Which node of one bus is which of another.
-ghost use Rattle.std.specs.Prelude.{◌≡◌, ◌<◌, length, IfOk, OnOk};
+ghost use Rattle.std.specs.Prelude.{◌≡◌, slice_get, IfOk, OnOk};
 ghost use Rattle.topology_stack.specs.Tree.{walk};
-ghost use Rattle.bus_diff.specs.Matching.{is_port, port_count, HasPorts, IsMatching};
-ghost use Rattle.bus_diff.specs.codings.Told.{GoesOn};
+ghost use Rattle.bus_diff.specs.Matching.{is_port, port_count, IsMatching};
+ghost use Rattle.bus_diff.specs.Along.{ports_of, is_same_count, may_be_one, with_pair};
 
 use crate::guess::{Guess, guessed};
 use crate::links::Links;
-use crate::pair::{Pair, stood};
+use crate::pair::{Pair, stays, stood};
 use self_id::{PortStatus, SelfId};
 use std::alloc::Global;
 use topology_stack::{BusTree, OutOfMemory};
@@ -30,39 +30,47 @@ pub(crate) fn port_count(node: &SelfId) -> usize
         .count()
 }
 
-/// How many ports the node with this ID has.
-fn ports_at(tree: &BusTree, id: u8) -> usize
-    requires { id < length (walk tree.now) }
-    ensures { HasPorts (walk tree.now) id result }
+/// How many ports the node with this ID has. `None` where there is none.
+fn ports_of(tree: &BusTree, id: u8) -> Option<usize>
+    ensures { result ≡ ports_of (slice_get (walk tree.now) id) }
 {
-    port_count(tree.node(id))
+    if id >= tree.len() {
+        return None;
+    }
+    Some(port_count(tree.node(id)))
 }
 
-/// Appends a pair behind those of nodes of the old bus with lower IDs, if it can be one: the node of the new bus
-/// is there and in none of them, and both have as many ports.
-fn put_fitting(
+/// Whether there are two counts, and they are the same.
+fn is_same_count(one: Option<usize>, other: Option<usize>) -> bool
+    ensures { result ≡ is_same_count one other }
+{
+    match (one, other) {
+        (Some(one), Some(other)) => one == other,
+        _ => false,
+    }
+}
+
+/// Whether two nodes may be one: both are there and in no pair yet, and have as many ports.
+fn may_be_one(old: &BusTree, new: &BusTree, pairs: &[Pair], pair: Pair) -> bool
+    ensures { result ≡ may_be_one old.now new.now pairs.now pair }
+{
+    !stays(pairs, pair.old)
+        && !stood(pairs, pair.new)
+        && is_same_count(ports_of(old, pair.old), ports_of(new, pair.new))
+}
+
+/// Appends a pair, if its nodes may be one.
+pub(crate) fn put_pair(
     pairs: &mut Vec<Pair>,
     old: &BusTree,
     new: &BusTree,
     pair: Pair,
 ) -> Result<(), OutOfMemory>
-    requires { pair.old < length (walk old.now) }
-    ensures { OnOk result (GoesOn old.now new.now pair.old pairs.old.items pairs.new.items) }
+    ensures { OnOk result (pairs.new.items ≡ with_pair old.now new.now pairs.old.items pair) }
 {
-    let other = pair.new;
-    if other >= new.len() {
-        return Ok(());
+    if may_be_one(old, new, pairs, pair) {
+        pairs.push(pair)?;
     }
-    let known = stood(pairs, other);
-    if known {
-        return Ok(());
-    }
-    let here = ports_at(old, pair.old);
-    let there = ports_at(new, other);
-    if here != there {
-        return Ok(());
-    }
-    pairs.push(pair)?;
     Ok(())
 }
 
@@ -81,7 +89,7 @@ fn pairs_of(
             old: id,
             new: guess.new_of(id),
         };
-        put_fitting(&mut pairs, old, new, pair)?;
+        put_pair(&mut pairs, old, new, pair)?;
     }
     Ok(pairs)
 }

@@ -1,5 +1,5 @@
 -- What each part of the comparison adds to the changes. No public contract cites this file.
-use Rattle.std.specs.Prelude.{◌≡◌, ◌≢◌, ◌⊎◌, ℕ, ◌+◌, ◌<◌, ◌||◌, false, IsTrue, IsSomeAnd, is_some, Contains, Some, Option, List, slice_get}
+use Rattle.std.specs.Prelude.{◌≡◌, ◌≢◌, ◌⊎◌, ℕ, ◌<◌, ◌||◌, false, IsTrue, is_some, Contains, Option, List}
 use Rattle.self_id.specs.declared.node.Attrs.{Attrs}
 use Rattle.self_id.specs.Node.{Node}
 use Rattle.view_text.specs.declared.cable.Cable.{Cable}
@@ -7,8 +7,7 @@ use Rattle.bus_diff.specs.declared.pair.Pair.{Pair}
 use Rattle.bus_diff.specs.declared.change.Change.{Change}
 use Rattle.bus_diff.specs.declared.change.Change.TheVariants.{Went, Came, Moved, Value, Root, Manager}
 use Rattle.bus_diff.specs.declared.change.Quality.{Quality}
-use Rattle.topology_stack.specs.Tree.{Tree}
-use Rattle.bus_diff.specs.Matching.{stays, stood, is_one, IsMatching}
+use Rattle.bus_diff.specs.Matching.{stays, stood, is_one}
 use Rattle.bus_diff.specs.Change.{hangs_on, pulled, plugged, value_of, Says, is_one_or_none}
 
 -- exactly these changes are added
@@ -60,15 +59,3 @@ IsRootChange pairs from to c = (is_one pairs from to ≡ false) × (c ≡ Root f
 
 abbrev pub IsManagerChange : List Pair → Option ℕ → Option ℕ → Change → Type 0
 IsManagerChange pairs from to c = (is_one_or_none pairs from to ≡ false) × (c ≡ Manager from to)
-
--- ---- matchings
-
--- the pairs are of nodes of the old bus with IDs below this one
-abbrev pub AreBelow : List Pair → ℕ → Type 0
-AreBelow pairs n = (p : Pair) → Contains pairs p → p.old < n
-
--- where pairs below this ID are a matching, so are these, which may have one with this ID more
-abbrev pub GoesOn : Tree → Tree → ℕ → List Pair → List Pair → Type 0
-GoesOn old new n before after =
-    IsMatching old new before → AreBelow before n →
-    IsMatching old new after × AreBelow after (n + 1)
