@@ -3,6 +3,7 @@ pub mod Parts
 pub mod Commas
 pub mod Update
 pub mod OneDrawing
+mod OneTree
 pub mod Judged
 pub mod InOrder
 pub mod OneText

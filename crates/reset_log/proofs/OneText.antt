@@ -130,22 +130,24 @@ same_drawing t a b x y =
     x.text_is ∙ ap (λ (h : ℕ). drawing t h x.root.attrs.gap) (one_hops t x.hops y.hops x.are_hops y.are_hops)
     ∙ ap (λ (n : Node). drawing t y.hops n.attrs.gap) (one_root t x.root y.root x.is_root y.is_root) ∙ sym y.text_is
 
-same_body : (before : Option Tree) (t : Tree) (a b : List ℕ) → IsBody before t a →
-    IsBody before t b → a ≡ b
-same_body before t a b (the_same d draw was e) (the_same o again too f) = e ∙ sym f
-same_body before t a b (the_same d draw was e) (drawn again others) =
+same_body : (before : Option Tree) (t : Tree) (a b more too : List ℕ) → IsBody before t a more →
+    IsBody before t b too → (a ≡ b) × (more ≡ too)
+same_body before t a b more too (the_same d draw was e none) (the_same o again is f empty) = (e ∙ sym f, none ∙ sym empty)
+same_body before t a b more too (the_same d draw was e none) (drawn again others f) =
     let other = others was.0 was.1 in
     absurd (other.2 (same_drawing was.0 other.0 d other.1 was.2 ∙ same_drawing t d b draw again))
-same_body before t a b (drawn draw others) (the_same d again was e) =
+same_body before t a b more too (drawn draw others f) (the_same d again was e none) =
     let other = others was.0 was.1 in
     absurd (other.2 (same_drawing was.0 other.0 d other.1 was.2 ∙ same_drawing t d a again draw))
-same_body before t a b (drawn draw others) (drawn again too) = same_drawing t a b draw again
+same_body before t a b more too (drawn draw others e) (drawn again is f) = (same_drawing t a b draw again, e ∙ sym f)
 
 same_tree_text : (front : List ℕ) (before : Option Tree) (t : Tree) (a b : List ℕ) →
     IsTreeShown front before t a → IsTreeShown front before t b → a ≡ b
 same_tree_text front before t a b x y =
+    let same = same_body before t x.body y.body x.by_node y.by_node x.is_body y.is_body in
     x.text_is
-    ∙ ap (λ (body : List ℕ). front ++ (numbers t ++ (body ++ (changes before t ++ initiators 0 (walk t))))) (same_body before t x.body y.body x.is_body y.is_body)
+    ∙ ap (λ (body : List ℕ). front ++ (numbers t ++ (body ++ (changes before t ++ (x.by_node ++ initiators 0 (walk t)))))) same.0
+    ∙ ap (λ (more : List ℕ). front ++ (numbers t ++ (y.body ++ (changes before t ++ (more ++ initiators 0 (walk t)))))) same.1
     ∙ sym y.text_is
 
 -- ---- a list, a reset, a line, and a log

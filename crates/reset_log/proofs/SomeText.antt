@@ -36,7 +36,7 @@ use Rattle.reset_log.specs.Listing.{before_comma, digits_in, is_of_packet, is_of
 use Rattle.reset_log.specs.declared.line.Begun.{Begun}
 use Rattle.reset_log.specs.declared.notes.Pending.{Pending}
 use Rattle.reset_log.specs.Hear.{IsHeard, IsUnheard}
-use Rattle.reset_log.specs.Texts.{head, place, numbers, changes, initiators, refused}
+use Rattle.reset_log.specs.Texts.{head, place, numbers, changes, node_changes, initiators, refused}
 use Rattle.reset_log.specs.Sentence.{packet_count, quad_at, IsBefore, sentence}
 use Rattle.reset_log.specs.Shown.{IsJudged, unjudged_text, garbled_text, lost_text, told_text, totals_text, IsBody, the_same, drawn, IsListShown, is_refused, is_heard, IsResetShown, is_passed_over, is_unjudged, is_judged, IsPendingShown, IsBegunShown, IsLastShown, IsPacketShown, IsShown, IsLineShown}
 use Rattle.reset_log.specs.Log.{lines_of}
@@ -334,14 +334,15 @@ same_or_not (x ∷ xs) (y ∷ ys) = go (eqb x y) refl (same_or_not xs ys)
     go true e (inr other) = inr (λ f. other (let rest : xs ≡ ys = cc in rest))
     go false e rest = inr (λ f. eqb-false _ _ e (let first : x ≡ y = cc in first))
 
-some_body : (before : Option Tree) (t : Tree) → (text : List ℕ) × IsBody before t text
-some_body None t = let d = some-drawing t in (d.0, drawn d.1 (λ old is. absurd cc))
+some_body : (before : Option Tree) (t : Tree) →
+    (text : List ℕ) × (by_node : List ℕ) × IsBody before t text by_node
+some_body None t = let d = some-drawing t in (d.0, node_changes None t, drawn d.1 (λ old is. absurd cc) refl)
 some_body (Some old) t =
     let d = some-drawing t in
     let o = some-drawing old in
     elim (same_or_not o.0 d.0) [
-      | inl same ↦ (codes "as before\n", the_same d.0 d.1 (old, refl, subst (λ (l : List ℕ). IsDrawing old l) same o.1) refl)
-      | inr other ↦ (d.0, drawn d.1 (λ tree is. (o.0, subst (λ (x : Tree). IsDrawing x o.0) (let same : old ≡ tree = cc in same) o.1, other)))
+      | inl same ↦ (codes "as before\n", [], the_same d.0 d.1 (old, refl, subst (λ (l : List ℕ). IsDrawing old l) same o.1) refl refl)
+      | inr other ↦ (d.0, node_changes (Some old) t, drawn d.1 (λ tree is. (o.0, subst (λ (x : Tree). IsDrawing x o.0) (let same : old ≡ tree = cc in same) o.1, other)) refl)
     ]
 
 -- ---- a list, a reset, a line, and a log
@@ -351,7 +352,7 @@ pub some_list : (standard : Standard) (origin : Origin) (front list : List ℕ) 
 some_list standard origin front list before f = elim (heard_or_not standard origin list) [
   | inl (t, h) ↦
       let b = some_body before t in
-      (front ++ (numbers t ++ (b.0 ++ (changes before t ++ initiators 0 (walk t)))), Some t, is_heard t h (record { body = b.0; is_body = b.1; text_is = refl }) refl)
+      (front ++ (numbers t ++ (b.0 ++ (changes before t ++ (b.1 ++ initiators 0 (walk t))))), Some t, is_heard t h (record { body = b.0; by_node = b.1; is_body = b.2; text_is = refl }) refl)
   | inr (g, un) ↦
       let p = some_before origin list (place g) f in
       (refused front g ++ sentence standard origin list p.0 g, None, is_refused g un (record { before = p.0; is_before = p.1; text_is = refl }) refl)

@@ -1,5 +1,6 @@
 -- Where the reader of a log stands behind bytes.
-use Rattle.std.proofs.Common.{◌≡◌, ◌∙◌, ℕ, ◌+◌, ◌<◌, ◌≤◌, ◌^◌, Bool, ◌||◌, List, [], ◌∷◌, ◌++◌, length, take, refl, sym, ap, subst, append_assoc, length-append, arith}
+use Rattle.std.proofs.Common.{◌≡◌, ◌∙◌, ℕ, zero, suc, ◌+◌, ◌<◌, ◌≤◌, ◌^◌, Bool, ◌||◌, List, [], ◌∷◌, ◌++◌, length, take, refl, sym, ap, subst, append_assoc, length-append, arith}
+use Rattle.std.proofs.lemmas.List.{take_all}
 use Rattle.reset_log.specs.declared.form.LogForm.{LogForm}
 use Rattle.reset_log.specs.Noted.{Noted, nothing}
 use Rattle.reset_log.specs.Notes.{noted}
@@ -8,7 +9,7 @@ use Rattle.reset_log.specs.declared.log.LogReader.{LogReader}
 use Rattle.reset_log.specs.Line.{line_of}
 use Rattle.reset_log.specs.Shown.{IsShown, IsLineShown}
 use Rattle.reset_log.specs.Log.{Parted, parted, AreShown}
-use Rattle.reset_log.specs.codings.Going.{Holds, ShowsLine, KeepsBytes, IsOneLine}
+use Rattle.reset_log.specs.codings.Going.{Holds, ShowsLine, ShowsWhole, KeepsBytes, IsOneLine}
 use Rattle.reset_log.proofs.Going.{ends_line, goes_on, few_lines, same_line}
 use Rattle.reset_log.proofs.InOrder.{one_more}
 
@@ -78,3 +79,44 @@ after_line old mid new done text was is few h sh es ec el en eb et =
       number_is = omega (arith, sh.number_is small, en, h.number_is, count);
       taken_is = omega (arith, sh.taken_is, et, h.taken_is, length-append done (10 ∷ []));
     }
+
+none_kept : (n : ℕ) (line : List ℕ) → 0 < n → take n line ≡ [] → line ≡ []
+none_kept zero line some e = absurd (omega (arith, some))
+none_kept (suc n) [] some e = refl
+none_kept (suc n) (c ∷ line) some e = absurd cc
+
+abbrev opened : List (List ℕ) → List ℕ → Parted
+opened lines rest = record { lines = lines; open_line = rest }
+
+-- behind a line that came whole, and its line feed
+pub after_whole : (old new : LogReader) (done bytes text was is : List ℕ) → IsOneLine bytes →
+    length done + length bytes < 9223372036854775807 → length bytes ≤ 65536 → old.line.items ≡ [] →
+    Holds old done (text ++ was) → ShowsWhole old new bytes was is →
+    Holds new (done ++ (bytes ++ 10 ∷ [])) (text ++ is)
+after_whole old new done bytes text was is one few fits empty h sh =
+    let size = length-append done bytes in
+    let lines = few_lines done in
+    let small : old.number < 2 ^ 63 = omega (arith, lines, few, h.number_is) in
+    let nothing_open : (parted done).open_line ≡ [] = none_kept 65536 (parted done).open_line (omega arith) (sym h.line_is ∙ empty) in
+    let on : parted (done ++ bytes) ≡ opened (parted done).lines bytes =
+    goes_on done bytes one ∙ ap (λ (l : List ℕ). opened (parted done).lines (l ++ bytes)) nothing_open in
+    let place : old.number ≡ 1 + length (parted (done ++ bytes)).lines = omega (arith, h.number_is, ap (λ (p : Parted). length p.lines) on) in
+    let shown : IsLineShown old.form (1 + length (parted (done ++ bytes)).lines) (noted old.notes) (parted (done ++ bytes)).open_line sh.text sh.here (noted new.notes) =
+    by_front old.form old.number _ (noted old.notes) (noted old.notes) (noted new.notes) bytes (parted (done ++ bytes)).open_line sh.text sh.here place refl
+    (sym (take_all 65536 bytes fits) ∙ ap (λ (p : Parted). take 65536 p.open_line) (sym on)) sh.shown in
+    let before : AreShown old.form 1 nothing (parted (done ++ bytes)).lines (text ++ was) old.bad (noted old.notes) =
+    subst (λ (p : Parted). AreShown old.form 1 nothing p.lines (text ++ was) old.bad (noted old.notes)) (sym on) h.shown in
+    let gathered : text ++ is ≡ (text ++ was) ++ sh.text = ap (λ (l : List ℕ). text ++ l) sh.gathered ∙ sym (append_assoc text was sh.text) in
+    let end = ends_line (done ++ bytes) in
+    let count : length (parted ((done ++ bytes) ++ 10 ∷ [])).lines ≡ length (parted (done ++ bytes)).lines + 1 =
+    ap (λ (p : Parted). length p.lines) end ∙ length-append (parted (done ++ bytes)).lines ((parted (done ++ bytes)).open_line ∷ []) in
+    subst (λ (l : List ℕ). Holds new l (text ++ is)) (append_assoc done bytes (10 ∷ []))
+    (record {
+      shown =
+          subst (λ (l : List ℕ). AreShown new.form 1 nothing (parted ((done ++ bytes) ++ 10 ∷ [])).lines l new.bad (noted new.notes)) (sym gathered)
+          (all_same old.form new.form (noted new.notes) (noted new.notes) (old.bad || sh.here) new.bad _ _ sh.form refl sh.bad
+          (line_ended old.form (done ++ bytes) (noted old.notes) (noted new.notes) (text ++ was) sh.text old.bad sh.here before shown));
+      line_is = sh.line_is ∙ empty ∙ ap (λ (p : Parted). take 65536 p.open_line) (sym end);
+      number_is = omega (arith, sh.number_is small, place, count);
+      taken_is = omega (arith, sh.taken_is (omega (arith, h.taken_is, few)), h.taken_is, size, length-append (done ++ bytes) (10 ∷ []));
+    })

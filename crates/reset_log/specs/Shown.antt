@@ -14,7 +14,7 @@ use Rattle.reset_log.specs.declared.notes.Pending.{Pending}
 use Rattle.reset_log.specs.Line.{line_of}
 use Rattle.reset_log.specs.Hear.{IsHeard, IsUnheard}
 use Rattle.reset_log.specs.Noted.{Noted, is_repeated, last_of, compared, after, behind_loss, waiting, begun_at, taken_by}
-use Rattle.reset_log.specs.Texts.{garbled, lost, told, totals, head, unjudged, numbers, changes, initiators}
+use Rattle.reset_log.specs.Texts.{garbled, lost, told, totals, head, unjudged, numbers, changes, node_changes, initiators}
 use Rattle.bus_json.specs.Text.{json_line}
 use Rattle.reset_log.specs.declared.form.LogForm.{LogForm}
 use Rattle.reset_log.specs.declared.form.LogForm.TheVariants.{Text, Json}
@@ -31,20 +31,23 @@ WasOther before drawing =
     (old : Tree) → before ≡ Some old →
     (other : List ℕ) × IsDrawing old other × (other ≡ drawing → ⊥)
 
--- the drawing of a tree, or that it is as before
-pub data IsBody (before : Option Tree) (t : Tree) (text : List ℕ) : Type 0 where
+-- the drawing of a tree, and behind it what changed node by node; or that it is as before
+pub data IsBody (before : Option Tree) (t : Tree) (text by_node : List ℕ) : Type 0 where
   the_same : (drawing : List ℕ) → IsDrawing t drawing → WasDrawn before drawing →
-      text ≡ codes "as before\n" → IsBody before t text
-  drawn : IsDrawing t text → WasOther before text → IsBody before t text
+      text ≡ codes "as before\n" → by_node ≡ [] → IsBody before t text by_node
+  drawn : IsDrawing t text → WasOther before text → by_node ≡ node_changes before t →
+      IsBody before t text by_node
 
 -- what is shown of a tree behind the head of its reset: its numbers, its drawing, what changed, and who
 -- began the reset
 pub record IsTreeShown (head : List ℕ) (before : Option Tree) (t : Tree) (text : List ℕ) :
     Type 0 where
   pub body : List ℕ
-  pub is_body : IsBody before t body
+  pub by_node : List ℕ
+  pub is_body : IsBody before t body by_node
   pub text_is :
-      text ≡ head ++ (numbers t ++ (body ++ (changes before t ++ initiators 0 (walk t))))
+      text ≡ head ++ (numbers t ++ (body ++ (changes before t
+      ++ (by_node ++ initiators 0 (walk t)))))
 
 -- what is shown of a reset's list behind the reset's head, where this tree was there before, and the
 -- tree that it is heard as, if it is

@@ -7,6 +7,8 @@ use Rattle.topology_stack.specs.Tree.{Tree, walk}
 use Rattle.topology_stack.specs.Elect.{elected}
 use Rattle.view_text.specs.Packet.{field}
 use Rattle.view_text.specs.Drawing.{all_have}
+use Rattle.bus_diff.specs.Listed.{changes_along}
+use Rattle.bus_diff.specs.Text.{changes_text}
 use Rattle.bus_json.specs.declared.refusal.Counts.{Counts}
 use Rattle.reset_log.specs.declared.line.Reset.{Reset}
 use Rattle.reset_log.specs.declared.cards.Known.{Known}
@@ -181,6 +183,11 @@ changed old new =
 abbrev pub changes : Option Tree → Tree → List ℕ
 changes None new = []
 changes (Some old) new = changed old new
+
+-- the same node by node, where both buses are walked along ports
+abbrev pub node_changes : Option Tree → Tree → List ℕ
+node_changes None new = []
+node_changes (Some old) new = changes_text (changes_along old new)
 
 -- each node that began the reset
 unfoldable pub initiator : ℕ → Bool → List ℕ

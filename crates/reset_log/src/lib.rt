@@ -20,6 +20,7 @@ mod marks;
 mod notes;
 mod number;
 mod said;
+mod same;
 mod sentence;
 mod shown;
 mod stop;

@@ -1,9 +1,9 @@
 //! Showing a log as it comes.
-ghost use Rattle.std.specs.Prelude.{◌≡◌, ◌≢◌, ◌↔◌, ◌<◌, ◌≤◌, ◌+◌, ◌++◌, ◌∷◌, [], ℕ, Bool, List, length, OnOk, OnErr, IfOk, IfErr, IfSome, IfNone, IsErr, IsErrOf};
+ghost use Rattle.std.specs.Prelude.{◌≡◌, ◌≢◌, ◌↔◌, ◌<◌, ◌≤◌, ◌+◌, ◌++◌, ◌∷◌, [], ℕ, Bool, true, List, length, OnOk, OnErr, IfOk, IfErr, IfSome, IfNone, IsErr, IsErrOf};
 ghost use Rattle.std.specs.Io.KnownBytes.{IsAtEnd, Consumes};
 ghost use Rattle.io_edges.specs.Faults.{Rose};
 ghost use Rattle.io_edges.specs.Told.{IfTold, TookOver};
-ghost use Rattle.reset_log.specs.codings.Going.{IsNew, Holds, Stands, ShowsLine, KeepsBytes, IsOneLine, Begun, BreaksText, Broke, ShowsLines, ShowsAll};
+ghost use Rattle.reset_log.specs.codings.Going.{IsNew, Holds, Stands, ShowsLine, ShowsWhole, KeepsBytes, IsOneLine, Begun, BreaksText, Broke, ShowsLines, ShowsAll};
 ghost use Rattle.reset_log.specs.Cause.{StoppedWriting};
 ghost use Rattle.reset_log.specs.Log.{parted, lines_of, IsLogShown, AreWritten, AreBegun};
 ghost use Rattle.reset_log.specs.Wrote.{Wrote, WroteFront, WroteFrontOf};
@@ -96,6 +96,33 @@ impl LogReader {
         Ok(())
     }
 
+    /// Whether a line that ends with these bytes came whole, and all of it is looked at.
+    fn is_whole(&self, bytes: &[u8]) -> bool
+        ensures kept { result ≡ true → self.now.line.items ≡ [] }
+        ensures few { result ≡ true → length bytes.now ≤ 65536 }
+    {
+        self.line.is_empty() && bytes.len() <= MAX_LINE
+    }
+
+    /// Shows a line that came whole, with its line feed, behind what was gathered.
+    fn show_whole(
+        &mut self,
+        alloc: Global,
+        line: &[u8],
+        out: &mut Vec<u8>,
+    ) -> Result<(), AllocError>
+        ensures ok { OnOk result (ShowsWhole
+            self.old self.new line.now out.old.items out.new.items) }
+        ensures part { OnErr result (out.new.items ≡ out.old.items) }
+    {
+        let shown = show_line(alloc, self.form, &mut self.notes, self.number, line)?;
+        out.extend_from_slice(&shown.text)?;
+        self.bad = self.bad || shown.bad;
+        self.number = self.number.saturating_add(1);
+        self.taken = self.taken.saturating_add(line.len()).saturating_add(1);
+        Ok(())
+    }
+
     /// Keeps bytes of the line, as far as there is room.
     fn keep(&mut self, bytes: &[u8]) -> Result<(), AllocError>
         ensures { OnOk result (KeepsBytes self.old self.new bytes.now) }
@@ -115,6 +142,10 @@ impl LogReader {
         ensures part { OnErr result (out.new.items ≡ out.old.items) }
         ensures same { OnOk result (self.new.form ≡ self.old.form) }
     {
+        if self.is_whole(bytes) {
+            self.show_whole(alloc, bytes, out)?;
+            return Ok(());
+        }
         self.keep(bytes)?;
         self.taken = self.taken.saturating_add(1);
         self.show(alloc, out)?;

@@ -1,5 +1,6 @@
 //! Passing over the lines that are none of the events.
-ghost use Rattle.std.specs.Prelude.{◌≡◌, ◌<◌, ◌||◌, length, true, false, if◌then◌else◌, IfSome, IfNone};
+ghost use Rattle.std.specs.Prelude.{◌≡◌, ◌<◌, ◌||◌, codes, length, true, false, if◌then◌else◌, is_some, IfSome, IfNone};
+ghost use Rattle.reset_log.specs.Words.{behind};
 ghost use Rattle.reset_log.specs.codings.Marks.{is_mark, has_mark, begins_loss};
 
 use crate::words::is_blank;
@@ -18,14 +19,41 @@ fn behind_underscore(text: &[u8]) -> Option<&[u8]>
     }
 }
 
-/// Whether a text goes on as one of the names does behind its underscore.
+fn begins(text: &[u8], key: &[u8]) -> bool
+    ensures { result ≡ is_some (behind key.now text.now) }
+{
+    text.strip_prefix(key).is_some()
+}
+
+/// Whether a text that begins with `c` goes on as one of the names does. Of most the fourth byte tells.
+fn is_c_mark(text: &[u8]) -> bool
+    ensures { result ≡ is_some (behind (codes "complete:") text.now)
+        || is_some (behind (codes "core") text.now) }
+{
+    let [_, _, _, fourth, ..] = text else {
+        return false;
+    };
+    if *fourth == b'p' {
+        begins(text, b"complete:")
+    } else {
+        *fourth == b'e' && begins(text, b"core")
+    }
+}
+
+/// Whether a text goes on as one of the names does behind its underscore. Of most its first byte tells.
 fn is_mark(text: &[u8]) -> bool
     ensures { result ≡ is_mark text.now }
 {
-    text.strip_prefix(b"complete:").is_some()
-        || text.strip_prefix(b"handle:").is_some()
-        || text.strip_prefix(b"core").is_some()
-        || text.strip_prefix(b"ohci").is_some()
+    let [first, ..] = text else {
+        return false;
+    };
+    if *first == b'c' {
+        is_c_mark(text)
+    } else if *first == b'h' {
+        begins(text, b"handle:")
+    } else {
+        *first == b'o' && begins(text, b"ohci")
+    }
 }
 
 /// Whether a mark of one of the names stands in a line.

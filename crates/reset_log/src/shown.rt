@@ -1,5 +1,5 @@
 //! What is shown of a reset's list, and of a line of the log.
-ghost use Rattle.std.specs.Prelude.{◌≡◌, ◌++◌, IfOk, OnOk, None, is_none, IsTrue, ◌↔◌, true, false, Some, Option};
+ghost use Rattle.std.specs.Prelude.{◌≡◌, ◌++◌, IfOk, OnOk, None, is_none, IsTrue, ◌↔◌, true, false, Some, Option, [], codes};
 ghost use Rattle.std.specs.Option.{option_copied};
 ghost use Rattle.topology_stack.specs.Tree.{Tree, walk};
 ghost use Rattle.reset_log.specs.Noted.{last_of, waiting, taken_by};
@@ -12,13 +12,17 @@ use crate::heads::{last_line, put_head, put_lost, put_told, put_unjudged};
 use crate::hear::{ListStop, hear};
 use crate::line::{Begun, LogLine, Origin, Reset, line_of};
 use crate::notes::Notes;
+use crate::same::is_before;
 use crate::sentence::refusal_text;
-use crate::texts::{put_changes, put_garbled, put_initiators, put_numbers};
+use crate::texts::{node_changes, put_changes, put_garbled, put_initiators, put_numbers};
 use crate::values::{garbled_line, lost_line, reset_line, told_line, totals_lines, unjudged_line};
 use self_id::Standard;
 use std::alloc::{AllocError, Global};
 use topology_stack::BusTree;
 use view_text::tree_drawing;
+
+/// How much room for the text of a reset is made at first: enough where the bus is as before.
+const ROOM: usize = 256;
 
 /// What is shown of a line, and whether it is at fault.
 #[derive(Debug, Drop)]
@@ -58,17 +62,43 @@ fn was_drawn(alloc: Global, before: Option<&BusTree>, drawing: &[u8]) -> Result<
     }
 }
 
-/// The drawing of a tree, or that it is as before.
-fn body(alloc: Global, before: Option<&BusTree>, tree: &BusTree) -> Result<Vec<u8>, AllocError>
-    ensures { IfOk result (λ text.
-        IsBody (option_copied before.entry) tree.now text.items) }
+/// What is shown of a tree behind its numbers.
+#[derive(Debug, Drop)]
+struct BehindNumbers {
+    /// The drawing of the tree, or that it is as before.
+    text: Vec<u8>,
+    /// What changed node by node, where it isn't as before.
+    by_node: Vec<u8>,
+}
+
+/// What stands in place of a drawing that is that of the reset before.
+fn as_before(alloc: Global) -> Result<BehindNumbers, AllocError>
+    ensures { IfOk result (λ body.
+        (body.text.items ≡ codes "as before\n") × (body.by_node.items ≡ [])) }
 {
-    let drawing = tree_drawing(alloc, tree)?;
-    if was_drawn(alloc, before, &drawing)? {
-        let text = Vec::from_slice(alloc, b"as before\n")?;
-        Ok(text)
+    let text = Vec::from_slice(alloc, b"as before\n")?;
+    let by_node = Vec::new(alloc);
+    Ok(BehindNumbers { text, by_node })
+}
+
+/// The drawing of a tree, or that it is as before.
+fn body(
+    alloc: Global,
+    before: Option<&BusTree>,
+    tree: &BusTree,
+) -> Result<BehindNumbers, AllocError>
+    ensures { IfOk result (λ body. IsBody (option_copied before.entry) tree.now
+        body.text.items body.by_node.items) }
+{
+    if is_before(before, tree) {
+        return as_before(alloc);
+    }
+    let text = tree_drawing(alloc, tree)?;
+    if was_drawn(alloc, before, &text)? {
+        as_before(alloc)
     } else {
-        Ok(drawing)
+        let by_node = node_changes(alloc, before, tree)?;
+        Ok(BehindNumbers { text, by_node })
     }
 }
 
@@ -83,11 +113,12 @@ fn tree_text(
         IsTreeShown head.now (option_copied before.entry) tree.now text.items) }
 {
     let body = body(alloc, before, tree)?;
-    let mut text = Vec::new(alloc);
+    let mut text = Vec::with_capacity(alloc, ROOM)?;
     text.extend_from_slice(head)?;
     put_numbers(&mut text, tree)?;
-    text.extend_from_slice(&body)?;
+    text.extend_from_slice(&body.text)?;
     put_changes(&mut text, before, tree)?;
+    text.extend_from_slice(&body.by_node)?;
     put_initiators(&mut text, tree)?;
     Ok(text)
 }

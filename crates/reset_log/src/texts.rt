@@ -1,15 +1,16 @@
 //! The texts that show the resets of a log.
-ghost use Rattle.std.specs.Prelude.{◌≡◌, ◌-◌, ◌<◌, ◌++◌, length, slice_get, Some, OnOk};
+ghost use Rattle.std.specs.Prelude.{◌≡◌, ◌-◌, ◌<◌, ◌++◌, length, slice_get, Some, IfOk, OnOk};
 ghost use Rattle.std.specs.Option.{option_copied};
 ghost use Rattle.self_id.specs.Node.{Node};
 ghost use Rattle.topology_stack.specs.Tree.{walk};
 ghost use Rattle.view_text.specs.Drawing.{all_have};
-ghost use Rattle.reset_log.specs.Texts.{garbled, place, kind, known_counts, counts, counts_of, fault_line, refused, manager, numbers, other_nodes, same_manager, other_manager, gap_of, agree, gaps_differ, changed, changes, initiator, initiators};
+ghost use Rattle.reset_log.specs.Texts.{garbled, place, kind, known_counts, counts, counts_of, fault_line, refused, manager, numbers, other_nodes, same_manager, other_manager, gap_of, agree, gaps_differ, changed, changes, node_changes, initiator, initiators};
 
 use crate::hear::ListFault;
+use bus_diff::{changes_text, compare_along};
 use bus_json::Counts;
 use self_id::{GroupFault, SelfId};
-use std::alloc::AllocError;
+use std::alloc::{AllocError, Global};
 use topology_stack::{BusTree, TreeFault, elect};
 use view_text::put_field;
 
@@ -238,6 +239,24 @@ pub(crate) fn put_changes(
     put_other_manager(out, elect(old), elect(new))?;
     put_gaps_differ(out, agree(old), agree(new))?;
     Ok(())
+}
+
+/// What is another than at the reset before node by node, where there was one.
+pub(crate) fn node_changes(
+    alloc: Global,
+    old: Option<&BusTree>,
+    new: &BusTree,
+) -> Result<Vec<u8>, AllocError>
+    ensures { IfOk result (λ text.
+        text.items ≡ node_changes (option_copied old.entry) new.now) }
+{
+    match old {
+        Some(old) => {
+            let found = compare_along(alloc, old, new)?;
+            changes_text(alloc, &found.changes)
+        }
+        None => Ok(Vec::new(alloc)),
+    }
 }
 
 /// Appends that a node began the reset, if it did.

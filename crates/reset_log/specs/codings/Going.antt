@@ -46,6 +46,18 @@ pub record ShowsLine (old new : LogReader) (was is : List ℕ) : Type 0 where
   pub number_is : old.number < 2 ^ 63 → new.number ≡ old.number + 1
   pub taken_is : new.taken ≡ old.taken
 
+-- what is shown of a line that came whole stands behind what was gathered
+pub record ShowsWhole (old new : LogReader) (line was is : List ℕ) : Type 0 where
+  pub text : List ℕ
+  pub here : Bool
+  pub shown : IsLineShown old.form old.number (noted old.notes) line text here (noted new.notes)
+  pub gathered : is ≡ was ++ text
+  pub bad : new.bad ≡ old.bad || here
+  pub form : new.form ≡ old.form
+  pub line_is : new.line.items ≡ old.line.items
+  pub number_is : old.number < 2 ^ 63 → new.number ≡ old.number + 1
+  pub taken_is : old.taken + length line < 2 ^ 63 → new.taken ≡ old.taken + length line + 1
+
 -- bytes of a line were kept
 pub record KeepsBytes (old new : LogReader) (bytes : List ℕ) : Type 0 where
   pub line_is :

@@ -1,6 +1,6 @@
 use Rattle.std.proofs.Common.{◌≡◌, ◌+◌, ◌++◌, ◌∷◌, [], ℕ, List, refl, subst, append_assoc, length-append, arith}
 use Rattle.reset_log.specs.codings.Going.{Holds}
-use Rattle.reset_log.proofs.Standing.{after_bytes, after_line}
+use Rattle.reset_log.proofs.Standing.{after_bytes, after_line, after_whole}
 use Rattle.reset_log.proofs.log.LogReader.end_line.Goals as goal
 
 pub returns-clause-ok : goal.returns-clause-ok
@@ -10,3 +10,7 @@ returns-clause-ok c = λ done text one few h.
     let more : c.saturating_add-self.result ≡ c.keep.new.self.taken + 1 = omega (arith, c.saturating_add-self.ensures, mid.taken_is, few, size) in
     subst (λ (l : List ℕ). Holds c.show.new.self l (text ++ c.show.new.out.items)) (append_assoc done c.args.bytes.now (10 ∷ []))
     (after_line c.keep.new.self _ c.show.new.self (done ++ c.args.bytes.now) text c.args.out.now.items c.show.new.out.items (omega (arith, few, size)) mid c.in_ok-show.ensures.ok refl refl refl refl refl more)
+
+pub returns-then-is_whole-clause-ok : goal.returns-then-is_whole-clause-ok
+returns-then-is_whole-clause-ok c = λ done text one few h.
+    after_whole c.args.self.now c.show_whole.new.self done c.args.bytes.now text c.args.out.now.items c.show_whole.new.out.items one few (c.is_whole.ensures.few c.if-is_whole.true) (c.is_whole.ensures.kept c.if-is_whole.true) h c.in_ok-show_whole.ensures.ok
