@@ -6,6 +6,7 @@ PROVED(busconf_read_capture);
 PROVED(busconf_sentence_capture);
 PROVED(busconf_hops);
 PROVED(busconf_plan);
+PROVED(busconf_diff);
 PROVED(busconf_topology_map);
 PROVED(busconf_speed_rows);
 PROVED(busconf_speed_map);
@@ -37,6 +38,13 @@ enum busconf_status busconf_hops(const uint32_t *quads, size_t count, uint32_t s
 enum busconf_status busconf_plan(const uint32_t *quads, size_t count, uint32_t standard, struct busconf_plan *plan,
                                  struct busconf_fault *fault) {
   return proved_busconf_plan(FROM(quads, count), count, standard, plan, fault);
+}
+
+enum busconf_status busconf_diff(const uint32_t *old_quads, size_t old_count, const uint32_t *new_quads, size_t count,
+                                 uint32_t standard, struct busconf_change *place, size_t room, size_t *needed,
+                                 uint8_t *list, struct busconf_fault *fault) {
+  return proved_busconf_diff(FROM(old_quads, old_count), old_count, FROM(new_quads, count), count, standard,
+                             PLACE(place, room), room, needed, list, fault);
 }
 
 enum busconf_status busconf_topology_map(const uint32_t *quads, size_t count, uint32_t standard, uint32_t generation,

@@ -5,6 +5,7 @@ PROVED(busconf_reader_bus);
 PROVED(busconf_crc16);
 PROVED(busconf_fault_text);
 PROVED(busconf_sentence);
+PROVED(busconf_trace_event);
 
 enum busconf_status busconf_reader_bus(const struct busconf_reader *reader, uint32_t standard,
                                        struct busconf_node *nodes, size_t room, struct busconf_bus *bus,
@@ -23,4 +24,9 @@ enum busconf_status busconf_fault_text(const struct busconf_fault *fault, char *
 enum busconf_status busconf_sentence(const uint32_t *quads, size_t count, uint32_t standard,
                                      const struct busconf_fault *fault, char *place, size_t room, size_t *needed) {
   return proved_busconf_sentence(FROM(quads, count), count, standard, fault, PLACE(place, room), room, needed);
+}
+
+enum busconf_status busconf_trace_event(const char *text, size_t count, size_t at, struct busconf_event *event,
+                                        size_t *next) {
+  return proved_busconf_trace_event(FROM(text, count), count, at, event, next);
 }

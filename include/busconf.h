@@ -154,6 +154,46 @@ struct busconf_packet {
   uint8_t r;         /* 0 or 1 */
 };
 
+/* A cable of a bus, or none: then both IDs are BUSCONF_ID_NONE, and the other numbers 0. */
+struct busconf_cable {
+  uint8_t parent;     /* the ID of the node nearer to the root */
+  uint8_t port;       /* its port */
+  uint8_t child;      /* the ID of the node further from the root */
+  uint8_t child_port; /* its port */
+  uint8_t speed;      /* the less of both nodes' speed codes, where 3 counts as 2 */
+};
+
+/* What differs between two buses, an old one and a new one. */
+enum busconf_change_kind {
+  BUSCONF_CHANGE_WENT = 1,      /* the node old_id of the old bus isn't in the new one; it hung on old_cable */
+  BUSCONF_CHANGE_CAME = 2,      /* the node new_id of the new bus wasn't in the old one; it hangs on new_cable */
+  BUSCONF_CHANGE_MOVED = 3,     /* the node hung on old_cable, which isn't in the new bus, and hangs on new_cable, which
+                                   wasn't in the old one; there may be one of them alone */
+  BUSCONF_CHANGE_LINK = 4,      /* it said old_value of its link, and says new_value: 1 active, else 0 */
+  BUSCONF_CHANGE_GAP = 5,       /* the same of its gap count */
+  BUSCONF_CHANGE_SPEED = 6,     /* of its speed code */
+  BUSCONF_CHANGE_CONTENDER = 7, /* of whether it contends, 1 or 0 */
+  BUSCONF_CHANGE_POWER = 8,     /* of its power class */
+  BUSCONF_CHANGE_ROOT = 9,      /* the root was the node old_id of the old bus and is new_id of the new one, another one */
+  BUSCONF_CHANGE_MANAGER = 10   /* the same of the isochronous resource manager, which there may not be */
+};
+
+struct busconf_change {
+  uint8_t kind;                   /* an enum busconf_change_kind */
+  uint8_t old_id;                 /* the node's ID in the old bus, or BUSCONF_ID_NONE */
+  uint8_t new_id;                 /* its ID in the new bus, or BUSCONF_ID_NONE */
+  uint8_t old_value;              /* where the kind has it, else 0 */
+  uint8_t new_value;              /* where the kind has it, else 0 */
+  struct busconf_cable old_cable; /* of the old bus, where the kind has it, else none; none at the root too */
+  struct busconf_cable new_cable; /* of the new bus, where the kind has it, else none; none at the root too */
+};
+
+/* Which of two lists is meant. */
+enum busconf_list {
+  BUSCONF_LIST_OLD = 1,
+  BUSCONF_LIST_NEW = 2
+};
+
 struct busconf_plan {
   uint32_t packet; /* the first quadlet of the PHY configuration packet that makes the root root */
   uint8_t root;    /* the ID of the root, an eligible node of least reach, the highest of these */
@@ -231,6 +271,16 @@ enum busconf_status busconf_speed_rows(const uint32_t *quads, size_t count, uint
 enum busconf_status busconf_speed_map(const uint32_t *quads, size_t count, uint32_t standard, uint32_t generation,
                                       uint32_t *place, size_t room, size_t *needed, struct busconf_fault *fault);
 
+/* Tells what differs between the buses of two lists, which are read by one standard: an old one of `old_count` quadlets
+ * and a new one. After a bus reset each node may have another ID, so nodes are matched by how they hang together, along
+ * ports of the same number. Which node is which is a guess; by that guess exactly what differs is told.
+ * BUSCONF_OK: the first `*needed` records at `place` are the changes, none where nothing differs. BUSCONF_TOO_SHORT:
+ * `*needed` is how many they are. BUSCONF_REFUSED: `*list` is BUSCONF_LIST_OLD or BUSCONF_LIST_NEW, the list that no bus
+ * tree emits, and `fault` its fault; the old one's, where neither is a bus's. Takes memory. */
+enum busconf_status busconf_diff(const uint32_t *old_quads, size_t old_count, const uint32_t *new_quads, size_t count,
+                                 uint32_t standard, struct busconf_change *place, size_t room, size_t *needed,
+                                 uint8_t *list, struct busconf_fault *fault);
+
 /* ---- Reading a list as it comes
  *
  * A reader is a place of the caller's, of fixed size, which only busconf_reader_init and busconf_reader_push write. It is
@@ -281,7 +331,7 @@ enum busconf_status busconf_encode(const struct busconf_packet *packet, uint32_t
 
 /* ---- Scripts (docs/SCRIPTS.md)
  *
- * A script is a text of at most 1,048,576 bytes that names nodes, plugs cables and asks for reports. Each of these calls
+ * A script is a text of at most 1,048,576 bytes that names nodes, plugs cables and asks for reports. Each call that takes one
  * runs it from its first line to the `settle` behind its last, with the machines of its nodes, and answers
  * - BUSCONF_OK: the first `*needed` bytes at `place` are what is told, with no byte 0 behind them;
  * - BUSCONF_TOO_SHORT: `*needed` is how many they are, and nothing is written;
@@ -328,6 +378,83 @@ enum busconf_status busconf_advice(const char *script, size_t count, char *place
 /* Tells what happens on a script's bus, turn by turn, as `busview trace` writes it. Takes memory. */
 enum busconf_status busconf_trace(const char *script, size_t count, char *place, size_t room, size_t *needed,
                                   struct busconf_script_fault *fault);
+
+/* The events of a trace: what happens, at a node and on a port of it. */
+enum busconf_event_kind {
+  /* an act of the script */
+  BUSCONF_EVENT_PLUG = 1,      /* a cable is plugged into the port and into other_port of the node `other` */
+  BUSCONF_EVENT_PULL = 2,      /* the cable is pulled out of the port */
+  BUSCONF_EVENT_RESET = 3,     /* the node is made to reset the bus */
+  BUSCONF_EVENT_HOLD = 4,      /* the port is held for `value` turns */
+  BUSCONF_EVENT_CONFIG = 5,    /* the node sends a PHY configuration packet with root ID `value` and gap count `second`,
+                                  either of which may be BUSCONF_NUMBER_NONE */
+  /* what happens at the node */
+  BUSCONF_EVENT_ENTERS = 6,    /* it enters the state `value`, an enum busconf_state */
+  BUSCONF_EVENT_TIMEOUT = 7,   /* its configuration times out */
+  BUSCONF_EVENT_TO_PARENT = 8, /* the port comes to lead to its parent */
+  BUSCONF_EVENT_TO_CHILD = 9,  /* the port comes to lead to a child */
+  BUSCONF_EVENT_COIN = 10,     /* it draws a coin, `second`, and waits `value` turns; the coin is 0 or 1, or
+                                  BUSCONF_NUMBER_NONE behind the first 32 since the reset */
+  BUSCONF_EVENT_PHY_ID = 11,   /* it takes the ID `value` */
+  BUSCONF_EVENT_SENDS = 12     /* it sends on the port the signal `value`, an enum busconf_signal */
+};
+
+/* The states of a node by the standard's names. Self-ID is entered at S0. */
+enum busconf_state {
+  BUSCONF_STATE_R0 = 0, /* reset start */
+  BUSCONF_STATE_R1 = 1, /* reset wait */
+  BUSCONF_STATE_T0 = 2, /* tree ID start */
+  BUSCONF_STATE_T1 = 3, /* child handshake */
+  BUSCONF_STATE_T2 = 4, /* parent handshake */
+  BUSCONF_STATE_T3 = 5, /* root contention */
+  BUSCONF_STATE_S0 = 6, /* self-ID start */
+  BUSCONF_STATE_A0 = 7  /* idle */
+};
+
+/* What a node sends. */
+enum busconf_signal {
+  BUSCONF_SIGNAL_RESET = 0,  /* BUS_RESET */
+  BUSCONF_SIGNAL_IDLE = 1,   /* IDLE */
+  BUSCONF_SIGNAL_PARENT = 2, /* TX_PARENT_NOTIFY */
+  BUSCONF_SIGNAL_CHILD = 3,  /* TX_CHILD_NOTIFY */
+  BUSCONF_SIGNAL_GRANT = 4,  /* TX_GRANT */
+  BUSCONF_SIGNAL_PACKET = 5, /* a self-ID packet, whose first quadlet is `second` */
+  BUSCONF_SIGNAL_DONE = 6    /* TX_IDENT_DONE */
+};
+
+/* Where a number of an event isn't there, this stands for it. */
+#define BUSCONF_NUMBER_NONE 4294967295u
+
+/* Names are parts of the text in which the event was found: where they begin, in bytes from 0, and their length. */
+struct busconf_event {
+  size_t name;         /* the name of the node */
+  size_t name_length;  /* 1 to 16 */
+  size_t other;        /* the name of the other node of BUSCONF_EVENT_PLUG, else 0 */
+  size_t other_length; /* its length, else 0 */
+  uint32_t turn;       /* how many turns are done */
+  uint32_t port;       /* the node's port, where the kind has one, else 0 */
+  uint32_t other_port; /* the other node's port of BUSCONF_EVENT_PLUG, else 0 */
+  uint32_t value;      /* what the kind says, else 0 */
+  uint32_t second;     /* what the kind says, else 0 */
+  uint8_t kind;        /* an enum busconf_event_kind */
+};
+
+/* Tells the event whose line stands at the place `at` of a trace's text, in bytes from 0. BUSCONF_OK: `event` is the
+ * event, exactly its line stands there, and `*next` is the place behind its line feed. BUSCONF_REFUSED: `at` is the end
+ * of the text, or no event was found there. */
+enum busconf_status busconf_trace_event(const char *text, size_t count, size_t at, struct busconf_event *event,
+                                        size_t *next);
+
+/* Is called for an event with what busconf_trace_each was given for it. `line` is the event's line, of `length` bytes with
+ * its line feed, and the names of the event are parts of it. Both are there until this returns. */
+typedef int (*busconf_event_call)(void *context, const struct busconf_event *event, const char *line, size_t length);
+
+/* Calls back for each event of a script's bus, in the order in which they happen, until a call returns something other
+ * than 0 or the last event is told. BUSCONF_OK, BUSCONF_REFUSED, BUSCONF_TOO_LONG and BUSCONF_NO_MEMORY as for
+ * busconf_trace; only with BUSCONF_OK was there a call. BUSCONF_INCOMPLETE: at some line no event was found, and those
+ * before it were told. Takes memory. */
+enum busconf_status busconf_trace_each(const char *script, size_t count, busconf_event_call call, void *context,
+                                       struct busconf_script_fault *fault);
 
 /* Tells what changes on a script's bus as a Value Change Dump (IEEE Std 1364-2005, 18.2), as `busview waves` writes it.
  * Takes memory. */

@@ -17,7 +17,6 @@ from __future__ import annotations
 
 import ctypes
 import os
-import re
 from collections.abc import Callable, Iterable, Iterator
 from dataclasses import dataclass
 from enum import IntEnum
@@ -143,6 +142,70 @@ class RomFaultKind(IntEnum):
     SELF_TARGET = 9
 
 
+class Which(IntEnum):
+    """Which of two lists is meant."""
+
+    OLD = 1
+    NEW = 2
+
+
+class ChangeKind(IntEnum):
+    """What differs between two buses. LINK to POWER are what a node says of itself."""
+
+    WENT = 1
+    CAME = 2
+    MOVED = 3
+    LINK = 4
+    GAP = 5
+    SPEED = 6
+    CONTENDER = 7
+    POWER = 8
+    ROOT = 9
+    MANAGER = 10
+
+
+class EventKind(IntEnum):
+    """The kinds of events of a script's bus. PLUG to CONFIG are acts of the script."""
+
+    PLUG = 1
+    PULL = 2
+    RESET = 3
+    HOLD = 4
+    CONFIG = 5
+    ENTERS = 6
+    TIMEOUT = 7
+    TO_PARENT = 8
+    TO_CHILD = 9
+    COIN = 10
+    PHY_ID = 11
+    SENDS = 12
+
+
+class State(IntEnum):
+    """The states of a node by the standard's names."""
+
+    R0 = 0
+    R1 = 1
+    T0 = 2
+    T1 = 3
+    T2 = 4
+    T3 = 5
+    S0 = 6
+    A0 = 7
+
+
+class Signal(IntEnum):
+    """What a node sends on a port."""
+
+    RESET = 0
+    IDLE = 1
+    PARENT = 2
+    CHILD = 3
+    GRANT = 4
+    PACKET = 5
+    DONE = 6
+
+
 class GrantKind(IntEnum):
     """Why an allocation or a release is refused."""
 
@@ -155,6 +218,7 @@ ID_NONE = 63
 MAX_NODES = 63
 MAX_SLOTS = 27
 READER_QUADS = 253
+NUMBER_NONE = 4294967295
 
 
 # ---- records, as C has them
@@ -185,6 +249,22 @@ class _Packet(ctypes.Structure):
 
 class _Plan(ctypes.Structure):
     _fields_ = [("packet", U32), ("root", U8), ("hops", U8), ("gap", U8), ("reach", U8)]
+
+
+class _Cable(ctypes.Structure):
+    words = ("parent", "port", "child", "child_port", "speed")
+    _fields_ = [(it, U8) for it in words]
+
+
+class _Change(ctypes.Structure):
+    words = ("kind", "old_id", "new_id", "old_value", "new_value")
+    _fields_ = [*((it, U8) for it in words), ("old_cable", _Cable), ("new_cable", _Cable)]
+
+
+class _Event(ctypes.Structure):
+    words = ("turn", "port", "other_port", "value", "second")
+    _fields_ = [*((it, SIZE) for it in ("name", "name_length", "other", "other_length")), *((it, U32) for it in words),
+                ("kind", U8)]
 
 
 class _Reader(ctypes.Structure):
@@ -284,17 +364,47 @@ class RomFault:
 @dataclass(frozen=True)
 class Event:
     """What happens on a bus once `turn` turns are done: at a node, on one of its ports or on none. Of an act of the
-    script there is no node, and `what` is its line. As a text it is the line of a trace."""
+    script there is no node, and `what` is its line. As a text it is the line of a trace. `value` and `second` are those
+    of the header's enum busconf_event_kind: the `State` that is entered, say, or the `Signal` that is sent."""
 
     turn: int
     node: str | None
     port: int | None
     what: str
+    kind: EventKind
+    value: int | None
+    second: int | None
 
     def __str__(self) -> str:
         node = "" if self.node is None else f"{self.node} "
         port = "" if self.port is None else f"port {self.port} "
         return f"turn {self.turn} {node}{port}{self.what}"
+
+
+@dataclass(frozen=True)
+class Cable:
+    """A cable of a bus: the node nearer to the root and the one further from it, each by its ID and with its port, and
+    the less of both nodes' speed codes."""
+
+    parent: int
+    port: int
+    child: int
+    child_port: int
+    speed: int
+
+
+@dataclass(frozen=True)
+class Change:
+    """Something that differs between two buses: of a node by its IDs in the old one and the new one, where it is in them,
+    and what the kind says of it, as the header's enum busconf_change_kind has it."""
+
+    kind: ChangeKind
+    old_id: int | None
+    new_id: int | None
+    old_value: int
+    new_value: int
+    old_cable: Cable | None
+    new_cable: Cable | None
 
 
 @dataclass(frozen=True)
@@ -322,13 +432,15 @@ class Block:
 
 class Refused(ValueError):
     """What was read has a fault. `line` is what the program `busconf` writes of it, and `sentence` says what was found
-    and what was wanted; of a ROM there is no sentence."""
+    and what was wanted; of a ROM there is no sentence. Of two lists `which` says the one that has the fault."""
 
-    def __init__(self, fault: Fault | ScriptFault | RomFault, line: str, sentence: str = "") -> None:
+    def __init__(self, fault: Fault | ScriptFault | RomFault, line: str, sentence: str = "",
+                 which: Which | None = None) -> None:
         super().__init__(f"{line}: {sentence}" if sentence else line)
         self.fault = fault
         self.line = line
         self.sentence = sentence
+        self.which = which
 
 
 class Denied(Exception):
@@ -475,6 +587,29 @@ def plan(quads: Iterable[int], standard: int = Standard.IEEE2000) -> Plan | None
     return Plan(found.packet, found.root, found.hops, found.gap, found.reach)
 
 
+def _cable_of(cable: _Cable) -> Cable | None:
+    return None if cable.child == ID_NONE else Cable(*(getattr(cable, it) for it in _Cable.words))
+
+
+def _change_of(it: _Change) -> Change:
+    return Change(ChangeKind(it.kind), _id_of(it.old_id), _id_of(it.new_id), it.old_value, it.new_value,
+                  _cable_of(it.old_cable), _cable_of(it.new_cable))
+
+
+def diff(old: Iterable[int], new: Iterable[int], standard: int = Standard.IEEE2000) -> list[Change]:
+    """What differs between the buses of two lists; which node of one is which of the other is a guess, and by that guess
+    exactly what differs is told. Raises as `read`: `which` of the exception is the list that is refused."""
+    lists = _listed(old), _listed(new)
+    which, fault = U8(), _Fault()
+    before, behind = (*lists[0], *lists[1], U32(standard)), (ctypes.byref(which), ctypes.byref(fault))
+    status, told = _told(_library.busconf_diff, before, behind, _Change)
+    if status == Status.REFUSED:
+        refused = _refused(fault, _library.busconf_sentence, (*lists[which.value - 1], U32(standard)))
+        refused.which = Which(which.value)
+        raise refused
+    return [_change_of(it) for it in told]
+
+
 def _map(call: Callable[..., int], quads: Iterable[int], standard: int, more: tuple[Any, ...], item: Any) -> Any:
     words, fault = (*_listed(quads), U32(standard)), _Fault()
     status, told = _told(call, (*words, *more), (ctypes.byref(fault),), item)
@@ -594,23 +729,36 @@ def trace(script: str | bytes) -> str:
     return _script(_library.busconf_trace, script).decode("ascii")
 
 
-_SIGNAL = r"BUS_RESET|IDLE|TX_PARENT_NOTIFY|TX_CHILD_NOTIFY|TX_GRANT|TX_IDENT_DONE|packet [0-9a-f]{8}"
-_AT_NODE = re.compile(
-    r"([a-z]\w{0,15}) (?:(enters [A-Z]\d|configuration timeout|coin (?:[01] )?wait \d+|phy_ID \d+)"
-    rf"|port (\d+) (to its parent|to a child|sends (?:{_SIGNAL})))")
+_ON_PORT = (EventKind.TO_PARENT, EventKind.TO_CHILD, EventKind.SENDS)
+
+
+def _number_of(number: int) -> int | None:
+    return None if number == NUMBER_NONE else number
+
+
+def _event_of(event: _Event, text: str, at: int, end: int) -> Event:
+    """The event whose line has these places in a trace."""
+    kind, numbers = EventKind(event.kind), (_number_of(event.value), _number_of(event.second))
+    if kind <= EventKind.CONFIG:
+        return Event(event.turn, None, None, text[at:end].split(" ", 2)[2], kind, *numbers)
+    behind = event.name + event.name_length
+    what = text[behind + 1 : end]
+    if kind in _ON_PORT:
+        return Event(event.turn, text[event.name : behind], event.port, what.split(" ", 2)[2], kind, *numbers)
+    return Event(event.turn, text[event.name : behind], None, what, kind, *numbers)
 
 
 def events(script: str | bytes) -> Iterator[Event]:
     """The events of a script's bus, in the order in which they happen: those of `trace`. Raises as `run`."""
-    for line in trace(script).splitlines():
-        _, turn, words = line.split(" ", 2)
-        at = _AT_NODE.fullmatch(words)
-        if not at:
-            yield Event(int(turn), None, None, words)
-        elif at[2]:
-            yield Event(int(turn), at[1], None, at[2])
-        else:
-            yield Event(int(turn), at[1], int(at[3]), at[4])
+    text = _script(_library.busconf_trace, script)
+    words, shown = _bytes(text), text.decode("ascii")
+    event, at, next_at = _Event(), 0, SIZE()
+    while at < len(text):
+        status = _library.busconf_trace_event(*words, SIZE(at), ctypes.byref(event), ctypes.byref(next_at))
+        if _answer(status) != Status.OK:
+            raise RuntimeError(f"no event is found at the byte {at} of the trace")
+        yield _event_of(event, shown, at, next_at.value - 1)
+        at = next_at.value
 
 
 def waves(script: str | bytes) -> str:

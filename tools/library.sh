@@ -215,7 +215,7 @@ make_programs() {
     languages+=(-c++)
     for file in recorder bench; do program "$room/$file-c++" "$top/examples/c/$file.c" c++ -std=c++17 -x c++; done
   fi
-  for file in check null rom refusal script speed; do
+  for file in check null rom refusal diff script events speed; do
     program "$room/$file" "$top/tools/library/$file.c" $cc -std=c99
   done
 }
@@ -245,7 +245,10 @@ try_calls() {
   for form in run advice; do cases "$top/cases/busconf/$form" cat "${runs[@]}" "$room/script" $form; done
   for form in trace waves; do cases "$top/cases/busview/$form" cat "${runs[@]}" "$room/script" $form; done
   capture_cases
+  diff_cases "${check[@]}"
+  cases "$top/cases/busview/trace" cat "${runs[@]}" "$room/events"
   for file in two-nodes hub plan loop; do
+    "${check[@]}" "$room/events" <"$top/examples/$file.script" >/dev/null || [ $? -eq 1 ]
     for form in run advice trace waves "capture a"; do
       "${check[@]}" "$room/script" $form <"$top/examples/$file.script" >/dev/null || [ $? -eq 1 ]
     done
@@ -283,6 +286,26 @@ capture_cases() {
     count=$((count + 1))
   done
   echo "library: script capture: $count cases of capture"
+}
+
+# What differs between two captures, where a case names them: the words behind `diff`, and the file of the case. A capture
+# whose pairs are bad has no list.
+diff_cases() {
+  local input words standard count=0
+  for input in $(captures "$top/cases/busview/diff"); do
+    if [ ! -f "$input.args" ] || grep -qE ' (BadInverse|BadLength)$' "$input.stdout"; then continue; fi
+    mapfile -t words <"$input.args"
+    standard=2000
+    if [ "${words[1]}" = --1995 ]; then standard=1995; words=(diff "${words[@]:2}"); fi
+    [ "${#words[@]}" -eq 3 ] && [ "${words[0]}" = diff ] || continue
+    if ! (cd "$top/cases/busview/diff" && "$@" "$room/diff" "$standard" "${words[@]:1}") <"$input" >"$room/said" \
+      || ! cmp -s "$room/said" "$input.stdout"; then
+      echo "library: diff on $input: not what is wanted" >&2
+      return 1
+    fi
+    count=$((count + 1))
+  done
+  echo "library: diff: $count cases of diff"
 }
 
 captures() {

@@ -55,6 +55,22 @@ AT(packet, n, 21);
 AT(packet, kept, 22);
 AT(packet, r, 23);
 
+SIZE(cable, 5);
+AT(cable, parent, 0);
+AT(cable, port, 1);
+AT(cable, child, 2);
+AT(cable, child_port, 3);
+AT(cable, speed, 4);
+
+SIZE(change, 15);
+AT(change, kind, 0);
+AT(change, old_id, 1);
+AT(change, new_id, 2);
+AT(change, old_value, 3);
+AT(change, new_value, 4);
+AT(change, old_cable, 5);
+AT(change, new_cable, 10);
+
 SIZE(plan, 8);
 AT(plan, packet, 0);
 AT(plan, root, 4);
@@ -69,6 +85,18 @@ AT(reader, quads, 4);
 SIZE(script_fault, 8);
 AT(script_fault, line, 0);
 AT(script_fault, kind, 4);
+
+SIZE(event, 56);
+AT(event, name, 0);
+AT(event, name_length, 8);
+AT(event, other, 16);
+AT(event, other_length, 24);
+AT(event, turn, 32);
+AT(event, port, 36);
+AT(event, other_port, 40);
+AT(event, value, 44);
+AT(event, second, 48);
+AT(event, kind, 52);
 
 SIZE(block, 10);
 AT(block, at, 0);

@@ -53,6 +53,11 @@ families = {
     "block_crc": (busconf.BlockCrc, "CRC_"),
     "rom_fault_kind": (busconf.RomFaultKind, "ROM_"),
     "grant_kind": (busconf.GrantKind, "GRANT_"),
+    "change_kind": (busconf.ChangeKind, "CHANGE_"),
+    "list": (busconf.Which, "LIST_"),
+    "event_kind": (busconf.EventKind, "EVENT_"),
+    "state": (busconf.State, "STATE_"),
+    "signal": (busconf.Signal, "SIGNAL_"),
 }
 header = text("include/busconf.h")
 for name, body in re.findall(r"^enum busconf_(\w+) \{\n(.*?)^\};", header, re.M | re.S):
@@ -61,7 +66,7 @@ for name, body in re.findall(r"^enum busconf_(\w+) \{\n(.*?)^\};", header, re.M 
         family, prefix = families.pop(name, (busconf.Status, "?"))
         expect(has == {prefix + it.name: it.value for it in family}, f"enum busconf_{name}")
 expect(not families, f"no enum of the header: {', '.join(families)}")
-for name in ("ID_NONE", "MAX_NODES", "MAX_SLOTS", "READER_QUADS"):
+for name in ("ID_NONE", "MAX_NODES", "MAX_SLOTS", "READER_QUADS", "NUMBER_NONE"):
     expect(f"#define BUSCONF_{name} {getattr(busconf, name)}u" in header, name)
 version = re.search(r'VERSION: &str = "(.*)"', text("crates/about/src/lib.rt"))[1]
 expect(version == ".".join(map(str, busconf.VERSION)), f"the version is {version}")
@@ -142,6 +147,54 @@ def refusal_of(wanted):
     return found[0] if found else ""
 
 
+def list_of(capture):
+    return [int.from_bytes(capture[at : at + 4], "big") for at in range(0, len(capture) // 8 * 8, 8)]
+
+
+def has_list(capture):
+    pairs = [capture[at : at + 8] for at in range(0, len(capture), 8)]
+    return all(len(it) == 8 and all(a ^ b == 0xFF for a, b in zip(it, it[4:])) for it in pairs)
+
+
+def place(word, cable):
+    return f" {word} port {cable.port} of node {cable.parent} on its port {cable.child_port}"
+
+
+def change_line(it):
+    """The line of a change, as `busview diff` writes it."""
+    old, new, kind = it.old_cable, it.new_cable, it.kind
+    none = lambda number: "none" if number is None else number
+    if kind == busconf.ChangeKind.WENT:
+        return f"node {it.old_id}" + (place("went from", old) if old else " went")
+    if kind == busconf.ChangeKind.CAME:
+        return f"node {it.new_id}" + (place("came to", new) if new else " came")
+    if kind == busconf.ChangeKind.MOVED:
+        left = place("moved from" if new else "left", old) if old else ""
+        return f"node {it.old_id} now {it.new_id}{left}" + (place("to" if old else "joined", new) if new else "")
+    if kind == busconf.ChangeKind.ROOT:
+        return f"root old {it.old_id} new {it.new_id}"
+    if kind == busconf.ChangeKind.MANAGER:
+        return f"irm old {none(it.old_id)} new {none(it.new_id)}"
+    return f"node {it.old_id} now {it.new_id} {kind.name.lower()} {it.old_value} now {it.new_value}"
+
+
+def differs(capture, words):
+    """What differs between the captures that the words name, or the one refusal that is told."""
+    standard, words = (1995, words[2:]) if "--1995" in words else (2000, words[1:])
+    captures = [capture if it == "-" else data(os.path.join(top, "cases/busview/diff", it)) for it in words]
+    if len(words) != 2 or not all(map(has_list, captures)):
+        return None
+    lists = list(map(list_of, captures))
+    try:
+        return "".join(f"{change_line(it)}\n" for it in busconf.diff(*lists, standard))
+    except busconf.Refused as refused:
+        return f"{words[refused.which - 1]}: {refused.line}\n"
+
+
+def first_refusal(wanted):
+    return re.sub(r"\A(\S+: refused .*\n)[^:]+: refused .*\n\Z", r"\1", wanted)
+
+
 def captured(script, words):
     if len(words) != 2 or words[0] != "capture":
         return None
@@ -160,6 +213,7 @@ compare("busconf/advice", lambda it, words: said_of(busconf.advice, it))
 compare("busview/trace", lambda it, words: explained(busconf.trace, it))
 compare("busview/trace", lambda it, words: explained(lambda: "".join(f"{event}\n" for event in busconf.events(it))))
 compare("busview/waves", lambda it, words: explained(busconf.waves, it))
+compare("busview/diff", differs, first_refusal)
 for path, words, wanted in cases("busview/capture"):
     answer = captured(data(path), words)
     expect(answer in (None, data(path + ".stdout").decode("latin-1")), os.path.relpath(path, top))
@@ -174,6 +228,13 @@ bus = busconf.read(quads)
 at_nodes = [it for it in busconf.events(script) if it.node is not None]
 expect({it.node for it in at_nodes} == {"a", "b"}, "the nodes of events")
 expect(sum(it.what.startswith("phy_ID ") for it in at_nodes) >= len(bus.nodes), "each node takes an ID")
+for it in at_nodes:
+    if it.kind == busconf.EventKind.PHY_ID:
+        expect(it.what == f"phy_ID {it.value}", "the ID of an event")
+    if it.kind == busconf.EventKind.ENTERS:
+        expect(it.what == f"enters {busconf.State(it.value).name}", "the state of an event")
+    if it.kind == busconf.EventKind.SENDS and it.value == busconf.Signal.PACKET:
+        expect(it.what == f"sends packet {it.second:08x}", "the packet of an event")
 reader = busconf.Reader()
 for quad in quads:
     expect(reader.state()[0] == busconf.Status.INCOMPLETE, "a list that goes on")

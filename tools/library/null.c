@@ -56,6 +56,18 @@ static void tell_nothing(void) {
   expect(busconf_plan(NULL, 0, BUSCONF_IEEE2000, &plan, &fault) == BUSCONF_REFUSED, "a plan");
 }
 
+static void compare_nothing(void) {
+  struct busconf_fault fault;
+  size_t needed = 7;
+  uint8_t list = 9;
+  expect(busconf_diff(NULL, 0, NULL, 0, BUSCONF_IEEE2000, NULL, 0, &needed, &list, &fault) == BUSCONF_REFUSED
+             && list == BUSCONF_LIST_OLD && fault.kind == BUSCONF_FAULT_EMPTY && needed == 7, "two empty lists");
+  expect(busconf_diff(one, 1, NULL, 0, BUSCONF_IEEE2000, NULL, 0, &needed, &list, &fault) == BUSCONF_REFUSED
+             && list == BUSCONF_LIST_NEW && fault.kind == BUSCONF_FAULT_EMPTY && needed == 7, "an empty new list");
+  expect(busconf_diff(one, 1, one, 1, BUSCONF_IEEE2000, NULL, 0, &needed, &list, &fault) == BUSCONF_OK && needed == 0,
+         "no change, and no room");
+}
+
 static void map_nothing(void) {
   struct busconf_fault fault;
   size_t needed = 7;
@@ -95,6 +107,23 @@ static void run_nothing(script_call call, const char *what) {
   expect(call(script, sizeof script - 1, NULL, 0, &needed, &fault) == BUSCONF_TOO_SHORT, what);
 }
 
+static int count_call(void *context, const struct busconf_event *event, const char *line, size_t length) {
+  (void)event;
+  (void)line;
+  (void)length;
+  ++*(int *)context;
+  return 0;
+}
+
+static void trace_nothing(void) {
+  struct busconf_script_fault fault;
+  struct busconf_event event;
+  size_t next = 7;
+  int calls = 0;
+  expect(busconf_trace_event(NULL, 0, 0, &event, &next) == BUSCONF_REFUSED && next == 7, "an empty trace");
+  expect(busconf_trace_each(NULL, 0, count_call, &calls, &fault) == BUSCONF_OK && calls == 0, "no events");
+}
+
 static void say_nothing(void) {
   static const char script[] = "node a 3\n";
   struct busconf_script_fault fault;
@@ -114,12 +143,14 @@ static void say_nothing(void) {
 int main(void) {
   read_nothing();
   tell_nothing();
+  compare_nothing();
   map_nothing();
   check_nothing();
   run_nothing(busconf_run, "a run");
   run_nothing(busconf_advice, "an advice");
   run_nothing(busconf_trace, "a trace");
   run_nothing(busconf_waves, "waves");
+  trace_nothing();
   say_nothing();
   if (!failed) printf("null: each call takes null where the length is 0\n");
   return failed;

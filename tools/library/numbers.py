@@ -41,10 +41,18 @@ want("BLOCK_", f"{crate}/specs/Roms.antt", r"kind_number (\w+) = (\d+)")
 want("CRC_", f"{crate}/specs/Roms.antt", r"block_of b \(?(\w+).*? = block_with b (\d+)")
 want("GRANT_", f"{heapless}/specs/Registers.antt", r"grant_record \(?(\w+).* kind = (\d+) }")
 want("SCRIPT_", f"{scripts}/specs/Faults.antt", r"^kind_number (\w+) = (\d+)$")
+want("CHANGE_", f"{crate}/specs/Changes.antt", r"^change_record \((\w+) .*?\) = \w+ (\d+) ")
+want("CHANGE_", f"{crate}/specs/Changes.antt", r"^quality_number (\w+) = (\d+)$")
+want("LIST_", f"{crate}/specs/Changes.antt", r"no_(old|new) : (?:\(old : Tree\))?[^:]*?IsMarked (\d)")
+want("EVENT_", f"{heapless}/specs/Events.antt", r"^what_record turn \((\w+) .*?\) =\s+(?:record \()?at_node (\d+) ")
+want("SIGNAL_", f"{heapless}/specs/Events.antt", r"^signal_number \(?signal\.(\w+).*? = (\d+)$")
 want("SLOT_", "crates/self_id/specs/Node.antt", r"^status_bits (\w+) = (\d)$")
 for name, number in re.findall(r"^(bad_\w+) pair = fault_with (\d+)", text(f"{records}/specs/Faults.antt"), re.M):
     wants["FAULT_" + name.upper()] = int(number)
-for name, number in re.findall(r"pub const (\w+): \w+ = (\d+);", text(f"{border}/src/status.rt") + text(f"{records}/src/records.rt") + text(f"{heapless}/src/records.rt")):
+states = dict(re.findall(r"^state_words phase\.(\w+) = codes \" enters (\w+)\"$", text("crates/trace_event/specs/Event.antt"), re.M))
+for phase, number in re.findall(r"^state_number phase\.(\w+) = (\d)$", text(f"{heapless}/specs/Events.antt"), re.M):
+    wants["STATE_" + states[phase]] = int(number)
+for name, number in re.findall(r"pub const (\w+): \w+ = ([\d_]+);", text(f"{border}/src/status.rt") + text(f"{records}/src/records.rt") + text(f"{heapless}/src/records.rt")):
     wants[name] = int(number)
 for year in re.findall(r"year == (\d+) then Some", text(f"{records}/specs/Standards.antt")):
     wants[f"IEEE{year}"] = int(year)
@@ -71,7 +79,7 @@ for file in [border, records, heapless, crate, scripts]:
         bad += [f"{path}: status {it}" for it in sorted(head) if wants.get(head[it].replace(" ", "_").upper()) != it]
         bad += [f"{path}: the head doesn't say what status {it} is" for it in sorted(used - set(head))]
 
-widths = {"u8": "uint8_t", "u16": "uint16_t", "u32": "uint32_t", "usize": "size_t", "SlotRecord": "struct busconf_slot"}
+widths = {"u8": "uint8_t", "u16": "uint16_t", "u32": "uint32_t", "usize": "size_t", "SlotRecord": "struct busconf_slot", "CableRecord": "struct busconf_cable"}
 arrays = {"MAX_SLOTS": "BUSCONF_MAX_SLOTS", "READER_QUADS": "BUSCONF_READER_QUADS"}
 in_header = {
     name: [(kind, field, size) for kind, field, size in re.findall(r"^  ([\w ]+) (\w+)(?:\[(\w+)\])?;", body, re.M)]
@@ -98,6 +106,14 @@ for it in [records, heapless]:
 declared = {}
 for said, name in re.findall(r"/\*((?:(?!\*/).)*)\*/\n(?:enum )?\w+ (busconf_\w+)\(", header, re.S):
     declared[name] = "Takes memory." in said
+# What is C alone takes memory where its file does.
+alone = []
+for it in ("heapless_c", "busconf_c", "script_c"):
+    said = text(f"border/{it}.c")
+    for name in re.findall(r"^(?:enum )?\w+ (busconf_\w+)\(", said, re.M):
+        if f"PROVED({name});" not in said:
+            exports[name] = "malloc(" in said
+            alone.append(name)
 bad += [f"{it}: only in one of the header and the crates" for it in sorted(set(exports) ^ set(declared))]
 bad += [f"{it}: whether it takes memory" for it in sorted(set(exports) & set(declared)) if exports[it] != declared[it]]
 
@@ -109,6 +125,6 @@ for it in ("heapless_c", "busconf_c", "script_c"):
     bad += [f"{name}: in border/{it}.c, and not in the crate {it}" for name in found if homes.get(name) != it]
     before += found
 lengths = re.findall(r"^(?:enum )?\w+ (busconf_\w+)\([^;]*\bsize_t (?:count|room)\b[^;]*\);", header, re.M)
-bad += [f"{it}: a length without border/, or the other way round" for it in sorted(set(before) ^ set(lengths))]
+bad += [f"{it}: a length without border/, or the other way round" for it in sorted({*before, *alone} ^ set(lengths))]
 print("\n".join(bad) or f"numbers: {len(wants)} numbers, {len(shown)} records and {len(exports)} calls of the header are the crates'")
 sys.exit(1 if bad else 0)

@@ -1,4 +1,5 @@
 pub mod Answers
+pub mod Changes
 pub mod Maps
 pub mod Plans
 pub mod Roms

@@ -4,6 +4,8 @@
 #![tactic(auto)]
 
 mod answer;
+mod change;
+mod diff;
 mod read;
 mod records;
 mod rom;

@@ -1,5 +1,6 @@
 pub use Rattle.topology_map.specs.Crc
 pub use Rattle.bus_manager.specs.Gap
+pub mod Events
 pub mod Packets
 pub mod Reading
 pub mod Reader

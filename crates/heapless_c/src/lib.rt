@@ -4,6 +4,7 @@
 #![tactic(auto)]
 
 mod crc;
+mod event;
 mod fault;
 mod gap;
 mod links;

@@ -108,3 +108,32 @@ pub struct GrantRecord {
     /// The number of the kind.
     pub kind: u8,
 }
+
+/// What stands for a number of an event where there is none.
+pub const NUMBER_NONE: u32 = 4_294_967_295;
+
+/// An event of a trace.
+#[repr(C)]
+#[derive(Clone, Copy, Debug, PartialEq, Eq)]
+pub struct EventRecord {
+    /// Where the name of the node begins in the text, in bytes from 0.
+    pub name: usize,
+    /// How many bytes that name has.
+    pub name_length: usize,
+    /// Where the name of a second node begins, or 0.
+    pub other: usize,
+    /// How many bytes that name has, or 0.
+    pub other_length: usize,
+    /// How many turns are done.
+    pub turn: u32,
+    /// The port of the node, where the kind has one, else 0.
+    pub port: u32,
+    /// The port of the second node, where the kind has one, else 0.
+    pub other_port: u32,
+    /// What the kind says, else 0.
+    pub value: u32,
+    /// What the kind says, else 0.
+    pub second: u32,
+    /// The number of the kind.
+    pub kind: u8,
+}

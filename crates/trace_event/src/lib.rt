@@ -1,0 +1,11 @@
+//! The lines of a trace, read back: what happened, when and at which node. It takes no memory.
+#![tactic(auto)]
+
+mod acts;
+mod event;
+mod happenings;
+mod line;
+mod words;
+
+pub use event::{Event, Part, What};
+pub use line::{Found, event_at};
