@@ -2,7 +2,7 @@
 _busconf() {
   local forms
   case ${1##*/} in
-  busview) forms="packets tree dot json trace waves explain capture script flawed resets nosy diff --help --version" ;;
+  busview) forms="packets tree dot json trace waves dot-run json-run explain capture script flawed resets nosy diff --help --version" ;;
   *) forms="run advice read read95 maps rom make --help --version" ;;
   esac
   COMPREPLY=()

@@ -21,6 +21,6 @@ pub use form::{CaptureForm, Form, USAGE};
 pub use help::HELP;
 pub use input::MAX_INPUT;
 pub use laws::one_answer;
-pub use line::{rom_line, script_line};
+pub use line::{kind_word, rom_line, script_line};
 pub use status::{NO_FORM, NO_MEMORY, READ_FAULT, REFUSED, TOO_LONG, VALID, WRITE_FAULT};
 pub use top::bus_main;

@@ -39,28 +39,28 @@ pub fn rom_line(fault: RomFault) -> ShortText
 }
 
 /// The word of a kind of fault of a script. It has at most 20 bytes.
-fn kind_word(kind: Kind) -> &'static [u8]
+pub fn kind_word(kind: Kind) -> &'static str
     ensures word { result.now ≡ kind_word kind }
     ensures few { length result.now ≤ 20 }
 {
     match kind {
-        Kind::Word => b"Word",
-        Kind::Number => b"Number",
-        Kind::Name => b"Name",
-        Kind::Twice => b"Twice",
-        Kind::Late => b"Late",
-        Kind::TooManyNodes => b"TooManyNodes",
-        Kind::NoNode => b"NoNode",
-        Kind::NoPort => b"NoPort",
-        Kind::InUse => b"InUse",
-        Kind::SameNode => b"SameNode",
-        Kind::NotPlugged => b"NotPlugged",
-        Kind::Range => b"Range",
-        Kind::NotSettled => b"NotSettled",
-        Kind::NoManager => b"NoManager",
-        Kind::NotManager => b"NotManager",
-        Kind::TooManyTurns => b"TooManyTurns",
-        Kind::TooManyMaps => b"TooManyMaps",
+        Kind::Word => "Word",
+        Kind::Number => "Number",
+        Kind::Name => "Name",
+        Kind::Twice => "Twice",
+        Kind::Late => "Late",
+        Kind::TooManyNodes => "TooManyNodes",
+        Kind::NoNode => "NoNode",
+        Kind::NoPort => "NoPort",
+        Kind::InUse => "InUse",
+        Kind::SameNode => "SameNode",
+        Kind::NotPlugged => "NotPlugged",
+        Kind::Range => "Range",
+        Kind::NotSettled => "NotSettled",
+        Kind::NoManager => "NoManager",
+        Kind::NotManager => "NotManager",
+        Kind::TooManyTurns => "TooManyTurns",
+        Kind::TooManyMaps => "TooManyMaps",
     }
 }
 
@@ -73,7 +73,7 @@ pub fn script_line(fault: ScriptFault) -> ShortText
     line.put(b"refused line ");
     line.put_number(fault.line as usize);
     line.put(b" ");
-    line.put(kind_word(fault.kind));
+    line.put(kind_word(fault.kind).as_bytes());
     line.put(b"\n");
     line
 }

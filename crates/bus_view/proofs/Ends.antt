@@ -9,11 +9,11 @@ use Rattle.io_edges.specs.declared.stop.ReadStop.TheVariants.{TooLong, Memory}
 use Rattle.bus_view.specs.declared.answer.View.{View}
 use Rattle.bus_view.specs.Form.{Asks, AsksNoInput, IsForm}
 use Rattle.bus_view.specs.declared.form.ViewForm.{ViewForm}
-use Rattle.bus_view.specs.declared.form.ViewForm.TheVariants.{Capture, Trace, Waves, Script, ListOf, Explain, Resets, Nosy, OfItself}
+use Rattle.bus_view.specs.declared.form.ViewForm.TheVariants.{Capture, Trace, Waves, DotRun, JsonRun, Script, ListOf, Explain, Resets, Nosy, OfItself}
 use Rattle.about.specs.declared.asked.About.{About}
 use Rattle.io_edges.specs.Streams.{IsWritten}
 use Rattle.bus_view.specs.Log.{status_if}
-use Rattle.bus_view.specs.Answer.{IsViewOfItself, Reading, spelt, refused, status_of, traced, at_fault, dumped, not_dumped, IsListView, has_list, has_none, IsView, Answers, viewed, no_form, has_text, has_fault}
+use Rattle.bus_view.specs.Answer.{IsViewOfItself, Reading, spelt, refused, status_of, traced, at_fault, dumped, not_dumped, pictured, not_pictured, reported, not_reported, IsListView, has_list, has_none, IsView, Answers, viewed, no_form, has_text, has_fault}
 use Rattle.bus_view.specs.Captured.{AnswersCapture, CapturesAreOfReports}
 use Rattle.script_made.specs.Made.{made_script}
 use Rattle.bus_view.proofs.Forms.{one_form}
@@ -56,6 +56,10 @@ few_status Trace bytes status text (traced e x) = omega (arith, e)
 few_status Trace bytes status text (at_fault fault e x t) = omega (arith, e)
 few_status Waves bytes status text (dumped e x) = omega (arith, e)
 few_status Waves bytes status text (not_dumped fault e x t) = omega (arith, e)
+few_status DotRun bytes status text (pictured e x) = omega (arith, e)
+few_status DotRun bytes status text (not_pictured fault e x t) = omega (arith, e)
+few_status JsonRun bytes status text (reported e x) = omega (arith, e)
+few_status JsonRun bytes status text (not_reported fault e x t) = omega (arith, e)
 few_status Explain bytes status text (has_text printed e x t) = omega (arith, e)
 few_status Explain bytes status text (has_fault fault e x t) = omega (arith, e)
 few_status (Script nodes seed) bytes status text x = let e = x.0 in omega (arith, e)

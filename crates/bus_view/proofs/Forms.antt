@@ -11,7 +11,7 @@ use Rattle.self_id.specs.declared.standard.Standard.TheVariants.{Ieee1995, Ieee2
 use Rattle.bus_view.specs.declared.form.CaptureView.{CaptureView}
 use Rattle.bus_view.specs.declared.form.CaptureView.TheVariants.{Packets, Tree, Dot, Json}
 use Rattle.bus_view.specs.declared.form.ViewForm.{ViewForm}
-use Rattle.bus_view.specs.declared.form.ViewForm.TheVariants.{Capture, Trace, Waves, Script, ListOf, Explain, Resets, Nosy, OfItself}
+use Rattle.bus_view.specs.declared.form.ViewForm.TheVariants.{Capture, Trace, Waves, DotRun, JsonRun, Script, ListOf, Explain, Resets, Nosy, OfItself}
 use Rattle.script_lines.specs.Name.{is_name}
 use Rattle.script_lines.specs.Number.{number_of}
 use Rattle.bus_view.specs.Form.{standard_words, AreWordsOf, Asks, AsksLog, AsksNoInput, IsForm}
@@ -78,11 +78,13 @@ form_of [] = None
 form_of (word ∷ []) =
     cond (same word (codes "trace")) (Some Trace)
     (cond (same word (codes "waves")) (Some Waves)
+    (cond (same word (codes "dot-run")) (Some DotRun)
+    (cond (same word (codes "json-run")) (Some JsonRun)
     (cond (same word (codes "explain")) (Some Explain)
     (cond (same word (codes "--help")) (Some (OfItself Help))
     (cond (same word (codes "-h")) (Some (OfItself Help))
     (cond (same word (codes "--version")) (Some (OfItself Version))
-    (log_of word (Text Ieee2000) (capture_of (view_of word) Ieee2000)))))))
+    (log_of word (Text Ieee2000) (capture_of (view_of word) Ieee2000)))))))))
 form_of (word ∷ next ∷ []) =
     cond (same word (codes "capture")) (named (is_name next) next)
     (cond (same next (codes "--1995")) (log_of word (Text Ieee1995) (capture_of (view_of word) Ieee1995))
@@ -120,6 +122,8 @@ is_found (Capture Json Ieee1995) words e = ap (λ (ws : List (List ℕ)). form_o
 is_found (Capture Json Ieee2000) words e = ap (λ (ws : List (List ℕ)). form_of ws) e
 is_found Trace words e = ap (λ (ws : List (List ℕ)). form_of ws) e
 is_found Waves words e = ap (λ (ws : List (List ℕ)). form_of ws) e
+is_found DotRun words e = ap (λ (ws : List (List ℕ)). form_of ws) e
+is_found JsonRun words e = ap (λ (ws : List (List ℕ)). form_of ws) e
 is_found Explain words e = ap (λ (ws : List (List ℕ)). form_of ws) e
 is_found (Resets (Text Ieee1995)) words e = ap (λ (ws : List (List ℕ)). form_of ws) e
 is_found (Resets (Text Ieee2000)) words e = ap (λ (ws : List (List ℕ)). form_of ws) e
@@ -205,20 +209,24 @@ no_form form P e = absurd cc
 one_word : (word : List ℕ) (form : ViewForm) →
     cond (same word (codes "trace")) (Some Trace)
     (cond (same word (codes "waves")) (Some Waves)
+    (cond (same word (codes "dot-run")) (Some DotRun)
+    (cond (same word (codes "json-run")) (Some JsonRun)
     (cond (same word (codes "explain")) (Some Explain)
     (cond (same word (codes "--help")) (Some (OfItself Help))
     (cond (same word (codes "-h")) (Some (OfItself Help))
     (cond (same word (codes "--version")) (Some (OfItself Version))
-    (log_of word (Text Ieee2000) (capture_of (view_of word) Ieee2000))))))) ≡ Some form →
+    (log_of word (Text Ieee2000) (capture_of (view_of word) Ieee2000))))))))) ≡ Some form →
     AreWordsOf form (word ∷ [])
 one_word word form =
     or_rest _ (word ∷ []) Trace form _ (with_standard Ieee2000 word (codes "trace"))
     (or_rest _ (word ∷ []) Waves form _ (with_standard Ieee2000 word (codes "waves"))
+    (or_rest _ (word ∷ []) DotRun form _ (with_standard Ieee2000 word (codes "dot-run"))
+    (or_rest _ (word ∷ []) JsonRun form _ (with_standard Ieee2000 word (codes "json-run"))
     (or_rest _ (word ∷ []) Explain form _ (with_standard Ieee2000 word (codes "explain"))
     (or_rest _ (word ∷ []) (OfItself Help) form _ (λ e. inl (with_standard Ieee2000 word (codes "--help") e))
     (or_rest _ (word ∷ []) (OfItself Help) form _ (λ e. inr (with_standard Ieee2000 word (codes "-h") e))
     (or_rest _ (word ∷ []) (OfItself Version) form _ (with_standard Ieee2000 word (codes "--version"))
-    (log_words word (Text Ieee2000) form _ (of_capture (view_of word) Ieee2000 word form (view_is word))))))))
+    (log_words word (Text Ieee2000) form _ (of_capture (view_of word) Ieee2000 word form (view_is word))))))))))
 
 by_name : (test : Bool) (word next : List ℕ) (form : ViewForm) → is_name next ≡ test →
     word ≡ codes "capture" → named test next ≡ Some form → AreWordsOf form (word ∷ next ∷ [])
@@ -328,6 +336,8 @@ pub is_read : (words : List (String Global)) (form : ViewForm) → Asks words fo
 is_read words (Capture view standard) asks no_log none = tt
 is_read words Trace asks no_log none = tt
 is_read words Waves asks no_log none = tt
+is_read words DotRun asks no_log none = tt
+is_read words JsonRun asks no_log none = tt
 is_read words Explain asks no_log none = tt
 is_read words (Script nodes seed) asks no_log none = absurd (none (inl (nodes, seed, asks)))
 is_read words (ListOf name) asks no_log none = tt
@@ -351,6 +361,8 @@ pub is_held : (words : List (String Global)) (form : ViewForm) → Asks words fo
 is_held words (Capture view standard) asks no_log = tt
 is_held words Trace asks no_log = tt
 is_held words Waves asks no_log = tt
+is_held words DotRun asks no_log = tt
+is_held words JsonRun asks no_log = tt
 is_held words Explain asks no_log = tt
 is_held words (Script nodes seed) asks no_log = (asks.some_nodes, asks.few_nodes)
 is_held words (ListOf name) asks no_log = tt

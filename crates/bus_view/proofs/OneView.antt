@@ -11,12 +11,16 @@ use Rattle.topology_stack.specs.Tree.{Tree}
 use Rattle.bus_manager.proofs.Lemmas.{one_hops}
 use Rattle.capture_reading.specs.declared.fault.CaptureFault.{CaptureFault}
 use Rattle.capture_reading.specs.OneReading.{NoCaptureHasTwoTrees, NoCaptureHasATreeAndAFault, NoCaptureHasTwoFaults}
-use Rattle.bus_cli.specs.Line.{script_line}
+use Rattle.bus_cli.specs.Line.{kind_word, script_line}
+use Rattle.bus_json.specs.Text.{json_line}
+use Rattle.bus_json.specs.Refusal.{line_refusal_value}
 use Rattle.script_lines.specs.declared.kind.ScriptFault.{ScriptFault}
 use Rattle.script_words.specs.Before.{feed_lines}
 use Rattle.script_told.specs.Script.{Told, script_lines}
 use Rattle.script_told.specs.Run.{ScriptRun, IsTold}
 use Rattle.script_run.specs.Listed.{listed_at, IsListed}
+use Rattle.script_run.specs.Viewed.{IsPictured, AreReported}
+use Rattle.script_run.specs.OneViewed.{ScriptsHaveOnePicture, PicturedScriptsAreTold, ScriptsHaveOneReporting, ReportedScriptsAreTold}
 use Rattle.script_told.specs.OneTold.{ScriptsHaveOneRun, ScriptsTellOneThing}
 use Rattle.script_trace.specs.Trace.{IsTrace}
 use Rattle.script_trace.specs.OneTrace.{ScriptsHaveOneTrace, TracedScriptsAreTold}
@@ -27,8 +31,8 @@ use Rattle.view_text.specs.Drawing.{IsDrawing, IsRoot, drawing}
 use Rattle.bus_view.specs.declared.form.CaptureView.{CaptureView}
 use Rattle.bus_view.specs.declared.form.CaptureView.TheVariants.{Packets, Tree as Drawn, Dot, Json}
 use Rattle.bus_view.specs.declared.form.ViewForm.{ViewForm}
-use Rattle.bus_view.specs.declared.form.ViewForm.TheVariants.{Capture, Trace, Waves, Script, ListOf, Explain, Resets, Nosy, OfItself}
-use Rattle.bus_view.specs.Answer.{Reading, spelt, refused, IsReading, status_of, ShowsPackets, HasText, IsCaptureView, IsTraceView, traced, at_fault, IsWavesView, dumped, not_dumped, IsListView, has_list, has_none, IsView, viewed, no_form, IsExplainView, has_text, has_fault}
+use Rattle.bus_view.specs.declared.form.ViewForm.TheVariants.{Capture, Trace, Waves, DotRun, JsonRun, Script, ListOf, Explain, Resets, Nosy, OfItself}
+use Rattle.bus_view.specs.Answer.{Reading, spelt, refused, IsReading, status_of, ShowsPackets, HasText, IsCaptureView, IsTraceView, traced, at_fault, IsWavesView, dumped, not_dumped, IsGraphView, pictured, not_pictured, IsReportsView, reported, not_reported, IsListView, has_list, has_none, IsView, viewed, no_form, IsExplainView, has_text, has_fault}
 use Rattle.reset_log.specs.OneText.{NoLogHasTwoTexts}
 use Rattle.nosy_dump.specs.OneText.{NoDumpHasTwoTexts}
 use Rattle.bus_view.specs.Explained.{explanation, IsExplained}
@@ -49,6 +53,10 @@ pub record HasOneReading : Type 0 where
   pub texts : TracedScriptsAreTold
   pub dumps : ScriptsHaveOneDump
   pub dumped_texts : DumpedScriptsAreTold
+  pub pictures : ScriptsHaveOnePicture
+  pub pictured_texts : PicturedScriptsAreTold
+  pub reports : ScriptsHaveOneReporting
+  pub reported_texts : ReportedScriptsAreTold
   pub logs : NoLogHasTwoTexts
   pub bus_dumps : NoDumpHasTwoTexts
 
@@ -177,6 +185,41 @@ same_waves one bytes s r a b (not_dumped g e x t) (dumped f y) = absurd (dump-ap
 same_waves one bytes s r a b (not_dumped g e x t) (not_dumped h f y u) =
     (e ∙ sym f, t ∙ ap (explanation bytes) (same_fault g h (one.told bytes (Err g) (Err h) x y)) ∙ sym u)
 
+-- ---- a script has one graph
+
+graph-apart : HasOneReading → (bytes graph : List ℕ) (fault : ScriptFault) → IsPictured bytes (Ok graph) →
+    IsTold bytes (Err fault) → ⊥
+graph-apart one bytes graph fault x y =
+    let text = one.pictured_texts bytes graph x in no-fault one bytes text.0 fault text.1 y
+
+same_graph : HasOneReading → (bytes : List ℕ) (s r : ℕ) (a b : List ℕ) → IsGraphView bytes s a →
+    IsGraphView bytes r b → (s ≡ r) × (a ≡ b)
+unfolding trace-text
+same_graph one bytes s r a b (pictured e x) (pictured f y) =
+    (e ∙ sym f, ap trace-text (one.pictures bytes (Ok a) (Ok b) x y))
+same_graph one bytes s r a b (pictured e x) (not_pictured g f y t) = absurd (graph-apart one bytes a g x y)
+same_graph one bytes s r a b (not_pictured g e x t) (pictured f y) = absurd (graph-apart one bytes b g y x)
+same_graph one bytes s r a b (not_pictured g e x t) (not_pictured h f y u) =
+    (e ∙ sym f, t ∙ ap (explanation bytes) (same_fault g h (one.told bytes (Err g) (Err h) x y)) ∙ sym u)
+
+-- ---- a script has one list of reports
+
+reports-apart : HasOneReading → (bytes lines : List ℕ) (fault : ScriptFault) → AreReported bytes (Ok lines) →
+    IsTold bytes (Err fault) → ⊥
+reports-apart one bytes lines fault x y =
+    let text = one.reported_texts bytes lines x in no-fault one bytes text.0 fault text.1 y
+
+same_reports : HasOneReading → (bytes : List ℕ) (s r : ℕ) (a b : List ℕ) → IsReportsView bytes s a →
+    IsReportsView bytes r b → (s ≡ r) × (a ≡ b)
+unfolding trace-text
+same_reports one bytes s r a b (reported e x) (reported f y) =
+    (e ∙ sym f, ap trace-text (one.reports bytes (Ok a) (Ok b) x y))
+same_reports one bytes s r a b (reported e x) (not_reported g f y t) = absurd (reports-apart one bytes a g x y)
+same_reports one bytes s r a b (not_reported g e x t) (reported f y) = absurd (reports-apart one bytes b g y x)
+same_reports one bytes s r a b (not_reported g e x t) (not_reported h f y u) =
+    let same : g ≡ h = same_fault g h (one.told bytes (Err g) (Err h) x y) in
+    (e ∙ sym f, t ∙ ap (λ (k : ScriptFault). json_line (line_refusal_value k.line (kind_word k.kind))) same ∙ sym u)
+
 -- ---- a script lists one thing of a node
 
 one_listed : HasOneReading → (bytes name : List ℕ) (a b : Told) → IsListed bytes name a →
@@ -200,6 +243,8 @@ same_view : HasOneReading → (form : ViewForm) (bytes : List ℕ) (s r : ℕ) (
     IsView form bytes s a → IsView form bytes r b → (s ≡ r) × (a ≡ b)
 same_view one Trace bytes s r a b x y = same_trace one bytes s r a b x y
 same_view one Waves bytes s r a b x y = same_waves one bytes s r a b x y
+same_view one DotRun bytes s r a b x y = same_graph one bytes s r a b x y
+same_view one JsonRun bytes s r a b x y = same_reports one bytes s r a b x y
 same_view one Explain bytes s r a b x y = same_explanation one bytes s r a b x y
 same_view one (Capture view standard) bytes s r a b x y =
     same_capture one view standard bytes s r a b x y

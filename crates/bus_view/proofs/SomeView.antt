@@ -5,11 +5,13 @@ use Rattle.quad_lanes.specs.Pairs.{quads_of}
 use Rattle.self_id.specs.declared.standard.Standard.{Standard}
 use Rattle.capture_reading.specs.OneReading.{EachCaptureHasATreeOrAFault}
 use Rattle.capture_reading.specs.Line.{fault_line}
-use Rattle.bus_cli.specs.Line.{script_line}
+use Rattle.bus_cli.specs.Line.{kind_word, script_line}
 use Rattle.script_made.specs.Made.{made_script}
 use Rattle.script_told.specs.Script.{Told, script_lines}
 use Rattle.script_told.specs.Run.{ScriptRun, IsRun, printed, unless_stopped, told_by}
 use Rattle.script_run.specs.Listed.{listed_at}
+use Rattle.script_run.specs.Viewed.{IsPictureOf, AreLinesOf}
+use Rattle.script_run.specs.OneViewed.{RunsHavePictures, RunsHaveReportings}
 use Rattle.quad_lanes.specs.Capture.{capture}
 use Rattle.script_bus.specs.SomeRun.{EachScriptHasARun}
 use Rattle.script_trace.specs.Trace.{IsTraceOf}
@@ -20,10 +22,11 @@ use Rattle.view_text.specs.Pairs.{pairs_text}
 use Rattle.view_text.specs.Graph.{graph}
 use Rattle.bus_json.specs.Text.{json_line}
 use Rattle.bus_json.specs.Bus.{bus_value}
+use Rattle.bus_json.specs.Refusal.{line_refusal_value}
 use Rattle.bus_view.specs.declared.form.CaptureView.{CaptureView}
 use Rattle.bus_view.specs.declared.form.CaptureView.TheVariants.{Packets, Tree as Drawn, Dot, Json}
 use Rattle.bus_view.specs.declared.form.ViewForm.{ViewForm}
-use Rattle.bus_view.specs.declared.form.ViewForm.TheVariants.{Capture, Trace, Waves, Script, ListOf, Explain, Resets, Nosy, OfItself}
+use Rattle.bus_view.specs.declared.form.ViewForm.TheVariants.{Capture, Trace, Waves, DotRun, JsonRun, Script, ListOf, Explain, Resets, Nosy, OfItself}
 use Rattle.about.specs.Told.{about_text}
 use Rattle.reset_log.specs.OneText.{EachLogHasAText}
 use Rattle.nosy_dump.specs.OneText.{EachDumpHasAText}
@@ -31,7 +34,7 @@ use Rattle.bus_view.specs.declared.help.TheConstants.{VIEW_HELP}
 use Rattle.bus_view.specs.Form.{IsForm}
 use Rattle.bus_view.specs.Log.{status_if}
 use Rattle.bus_view.specs.Sentence.{place, note}
-use Rattle.bus_view.specs.Answer.{Reading, spelt, refused, IsReading, status_of, HasText, IsCaptureView, IsTraceView, traced, at_fault, IsWavesView, dumped, not_dumped, IsListView, has_list, has_none, IsView, Answers, viewed, no_form, IsExplainView, has_text, has_fault}
+use Rattle.bus_view.specs.Answer.{Reading, spelt, refused, IsReading, status_of, HasText, IsCaptureView, IsTraceView, traced, at_fault, IsWavesView, dumped, not_dumped, IsGraphView, pictured, not_pictured, IsReportsView, reported, not_reported, IsListView, has_list, has_none, IsView, Answers, viewed, no_form, IsExplainView, has_text, has_fault}
 use Rattle.script_words.specs.Before.{feed_lines}
 use Rattle.bus_view.specs.Explained.{explanation}
 use Rattle.bus_view.specs.Json.{fault_value}
@@ -74,6 +77,8 @@ pub record HasSomeReading : Type 0 where
   pub run : EachScriptHasARun
   pub traces : RunsHaveTraces
   pub dumps : RunsHaveDumps
+  pub pictures : RunsHavePictures
+  pub reportings : RunsHaveReportings
   pub logs : EachLogHasAText
   pub bus_dumps : EachDumpHasAText
 
@@ -115,6 +120,28 @@ module _ (have : HasSomeReading) where
       go run is (Ok text) dumps = (0, text, dumped refl (run, is, dumps))
       go run is (Err f) e = (1, explanation bytes f, not_dumped f refl (run, is, sym (ap (unless_stopped (printed run.entries)) e)) refl)
 
+  some-graph : (bytes : List ℕ) → HasSome (IsGraphView bytes)
+  some-graph bytes =
+      let r = have.run bytes in
+      let t = have.pictures bytes r.run r.is in
+      go r.run r.is t.told t.is
+    where
+      go : (run : ScriptRun) → IsRun bytes run → (told : Told) → IsPictureOf run told → HasSome (IsGraphView bytes)
+      go run is (Ok text) graph = (0, text, pictured refl (run, is, graph))
+      go run is (Err f) e = (1, explanation bytes f, not_pictured f refl (run, is, sym (ap (unless_stopped (printed run.entries)) e)) refl)
+
+  some-reports : (bytes : List ℕ) → HasSome (IsReportsView bytes)
+  some-reports bytes =
+      let r = have.run bytes in
+      let t = have.reportings bytes r.run r.is in
+      go r.run r.is t.told t.is
+    where
+      go : (run : ScriptRun) → IsRun bytes run → (told : Told) → AreLinesOf run told → HasSome (IsReportsView bytes)
+      go run is (Ok text) lines = (0, text, reported refl (run, is, lines))
+      go run is (Err f) e =
+          let told = sym (ap (unless_stopped (printed run.entries)) e) in
+          (1, json_line (line_refusal_value f.line (kind_word f.kind)), not_reported f refl (run, is, told) refl)
+
   some-list : (name bytes : List ℕ) → HasSome (IsListView name bytes)
   some-list name bytes =
       let r = have.run bytes in
@@ -129,6 +156,8 @@ module _ (have : HasSomeReading) where
   some-view (Capture view standard) bytes fit = some-capture view standard bytes fit
   some-view Trace bytes fit = some-trace bytes
   some-view Waves bytes fit = some-waves bytes
+  some-view DotRun bytes fit = some-graph bytes
+  some-view JsonRun bytes fit = some-reports bytes
   some-view Explain bytes fit = some-explanation bytes
   some-view (Script nodes seed) bytes fit = (0, made_script nodes seed, (refl, refl))
   some-view (ListOf name) bytes fit = some-list name bytes

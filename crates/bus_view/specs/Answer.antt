@@ -11,12 +11,13 @@ use Rattle.topology_stack.specs.Tree.{Tree}
 use Rattle.capture_reading.specs.declared.fault.CaptureFault.{CaptureFault}
 use Rattle.capture_reading.specs.Capture.{Spells, CaptureRefused}
 use Rattle.capture_reading.specs.Line.{fault_line}
-use Rattle.bus_cli.specs.Line.{script_line}
+use Rattle.bus_cli.specs.Line.{kind_word, script_line}
 use Rattle.script_lines.specs.declared.kind.ScriptFault.{ScriptFault}
 use Rattle.script_words.specs.Before.{feed_lines}
 use Rattle.script_made.specs.Made.{made_script}
 use Rattle.script_told.specs.Run.{IsTold}
 use Rattle.script_run.specs.Listed.{IsListed}
+use Rattle.script_run.specs.Viewed.{IsPictured, AreReported}
 use Rattle.script_trace.specs.Trace.{IsTrace}
 use Rattle.script_waves.specs.Waves.{IsWaves}
 use Rattle.view_text.specs.Pairs.{AreShown, pairs_text}
@@ -24,10 +25,11 @@ use Rattle.view_text.specs.Drawing.{IsDrawing}
 use Rattle.view_text.specs.Graph.{graph}
 use Rattle.bus_json.specs.Text.{json_line}
 use Rattle.bus_json.specs.Bus.{bus_value}
+use Rattle.bus_json.specs.Refusal.{line_refusal_value}
 use Rattle.bus_view.specs.declared.form.CaptureView.{CaptureView}
 use Rattle.bus_view.specs.declared.form.CaptureView.TheVariants.{Packets, Tree as Drawn, Dot, Json}
 use Rattle.bus_view.specs.declared.form.ViewForm.{ViewForm}
-use Rattle.bus_view.specs.declared.form.ViewForm.TheVariants.{Capture, Trace, Waves, Script, ListOf, Explain, Resets, Nosy, OfItself}
+use Rattle.bus_view.specs.declared.form.ViewForm.TheVariants.{Capture, Trace, Waves, DotRun, JsonRun, Script, ListOf, Explain, Resets, Nosy, OfItself}
 use Rattle.bus_view.specs.declared.help.TheConstants.{VIEW_HELP}
 use Rattle.bus_view.specs.Form.{Asks, IsForm}
 use Rattle.bus_view.specs.Sentence.{place, note}
@@ -93,6 +95,19 @@ pub data IsWavesView (bytes : List ℕ) (status : ℕ) (text : List ℕ) : Type 
   not_dumped : (fault : ScriptFault) → status ≡ 1 → IsTold bytes (Err fault) →
       text ≡ explanation bytes fault → IsWavesView bytes status text
 
+-- and so is the graph of its last report
+pub data IsGraphView (bytes : List ℕ) (status : ℕ) (text : List ℕ) : Type 0 where
+  pictured : status ≡ 0 → IsPictured bytes (Ok text) → IsGraphView bytes status text
+  not_pictured : (fault : ScriptFault) → status ≡ 1 → IsTold bytes (Err fault) →
+      text ≡ explanation bytes fault → IsGraphView bytes status text
+
+-- and so are the lines of its reports, with the fault as a line of JSON
+pub data IsReportsView (bytes : List ℕ) (status : ℕ) (text : List ℕ) : Type 0 where
+  reported : status ≡ 0 → AreReported bytes (Ok text) → IsReportsView bytes status text
+  not_reported : (fault : ScriptFault) → status ≡ 1 → IsTold bytes (Err fault) →
+      text ≡ json_line (line_refusal_value fault.line (kind_word fault.kind)) →
+      IsReportsView bytes status text
+
 -- a script has no fault, or the one for which `busconf run` refuses it and those that are told behind it
 pub data IsExplainView (bytes : List ℕ) (status : ℕ) (text : List ℕ) : Type 0 where
   has_text : (printed : List ℕ) → status ≡ 0 → IsTold bytes (Ok printed) →
@@ -121,6 +136,8 @@ abbrev pub IsView : ViewForm → List ℕ → ℕ → List ℕ → Type 0
 IsView (Capture view standard) bytes status text = IsCaptureView view standard bytes status text
 IsView Trace bytes status text = IsTraceView bytes status text
 IsView Waves bytes status text = IsWavesView bytes status text
+IsView DotRun bytes status text = IsGraphView bytes status text
+IsView JsonRun bytes status text = IsReportsView bytes status text
 IsView Explain bytes status text = IsExplainView bytes status text
 IsView (Script nodes seed) bytes status text = IsScriptView nodes seed status text
 IsView (ListOf name) bytes status text = IsListView name bytes status text

@@ -12,7 +12,7 @@ use Rattle.reset_log.specs.Form.{AreWordsBy as AreResetsWords}
 use Rattle.nosy_dump.specs.Form.{AreWordsBy as AreNosyWords}
 use Rattle.bus_view.specs.declared.form.CaptureView.TheVariants.{Packets, Tree, Dot, Json}
 use Rattle.bus_view.specs.declared.form.ViewForm.{ViewForm}
-use Rattle.bus_view.specs.declared.form.ViewForm.TheVariants.{Capture, Trace, Waves, Script, ListOf, Explain, Resets, Nosy, OfItself}
+use Rattle.bus_view.specs.declared.form.ViewForm.TheVariants.{Capture, Trace, Waves, DotRun, JsonRun, Script, ListOf, Explain, Resets, Nosy, OfItself}
 
 -- what stands behind the word of a capture's form
 abbrev pub standard_words : Standard → List (List ℕ)
@@ -37,6 +37,8 @@ AreWordsOf (Capture Dot standard) words = words ≡ codes "dot" ∷ standard_wor
 AreWordsOf (Capture Json standard) words = words ≡ codes "json" ∷ standard_words standard
 AreWordsOf Trace words = words ≡ codes "trace" ∷ []
 AreWordsOf Waves words = words ≡ codes "waves" ∷ []
+AreWordsOf DotRun words = words ≡ codes "dot-run" ∷ []
+AreWordsOf JsonRun words = words ≡ codes "json-run" ∷ []
 AreWordsOf Explain words = words ≡ codes "explain" ∷ []
 AreWordsOf (Script nodes seed) words = AreScriptWords nodes seed words
 AreWordsOf (ListOf name) words = (words ≡ codes "capture" ∷ name ∷ []) × IsTrue (is_name name)

@@ -4,7 +4,7 @@ ghost use Rattle.std.specs.Io.KnownBytes.{IsAtEnd};
 ghost use Rattle.io_edges.specs.Faults.{Rose};
 ghost use Rattle.io_edges.specs.Told.{AreLeft, IfTold, TookOver};
 ghost use Rattle.bus_view.specs.declared.form.CaptureView.{CaptureView};
-ghost use Rattle.bus_view.specs.Answer.{IsFault, IsCaptureView, IsTraceView, IsWavesView, IsScriptView, IsListView, IsView, IsExplainView, IsViewOfItself};
+ghost use Rattle.bus_view.specs.Answer.{IsFault, IsCaptureView, IsTraceView, IsWavesView, IsGraphView, IsReportsView, IsScriptView, IsListView, IsView, IsExplainView, IsViewOfItself};
 ghost use Rattle.bus_view.specs.Explained.{explanation_in, explanation, line_said, AreSaid, IsBehind, IsExplained};
 ghost use Rattle.script_words.specs.Before.{feed_lines};
 ghost use Rattle.bus_view.specs.codings.Reading.{IsRead, IsHeld};
@@ -15,13 +15,16 @@ use crate::help::VIEW_HELP;
 use crate::refusal::fault_json;
 use crate::sentence::note_of;
 use about::{About, about_text};
-use bus_cli::{MAX_INPUT, REFUSED, VALID, script_line};
-use bus_json::bus_line;
+use bus_cli::{MAX_INPUT, REFUSED, VALID, kind_word, script_line};
+use bus_json::{bus_line, line_refusal};
 use capture_reading::{CaptureFault, CaptureStop, fault_line, read_capture};
 use io_edges::{ReadStop, Source, read_all};
 use quad_lanes::{capture_of, quads_of};
 use script_made::make_script;
-use script_run::{ScriptFault, ScriptStop, dump_script, list_script, run_script, trace_script};
+use script_run::{
+    ScriptFault, ScriptStop, dump_script, graph_script, json_script, list_script, run_script,
+    trace_script,
+};
 use script_words::{CutScript, Kind, put_sentence};
 use self_id::Standard;
 use std::alloc::Global;
@@ -283,6 +286,42 @@ fn view_waves(alloc: Global, bytes: &[u8]) -> Result<View, OutOfMemory>
     }
 }
 
+/// The graph of a script's last report.
+fn view_graph(alloc: Global, bytes: &[u8]) -> Result<View, OutOfMemory>
+    requires { length bytes.now ≤ 1048576 }
+    ensures { IfOk result (λ view. IsGraphView bytes.now view.status view.text.items) }
+{
+    match graph_script(alloc, bytes) {
+        Ok(text) => Ok(View {
+            status: VALID,
+            text,
+        }),
+        Err(ScriptStop::Fault(fault)) => Ok(View {
+            status: REFUSED,
+            text: explained(alloc, bytes, fault)?,
+        }),
+        Err(ScriptStop::Memory(error)) => Err(error),
+    }
+}
+
+/// The reports of a script as JSON.
+fn view_reports(alloc: Global, bytes: &[u8]) -> Result<View, OutOfMemory>
+    requires { length bytes.now ≤ 1048576 }
+    ensures { IfOk result (λ view. IsReportsView bytes.now view.status view.text.items) }
+{
+    match json_script(alloc, bytes) {
+        Ok(text) => Ok(View {
+            status: VALID,
+            text,
+        }),
+        Err(ScriptStop::Fault(fault)) => Ok(View {
+            status: REFUSED,
+            text: line_refusal(alloc, fault.line, kind_word(fault.kind))?,
+        }),
+        Err(ScriptStop::Memory(error)) => Err(error),
+    }
+}
+
 /// The capture of the list of a script's node.
 fn view_list(alloc: Global, name: &Name, bytes: &[u8]) -> Result<View, OutOfMemory>
     requires { length bytes.now ≤ 1048576 }
@@ -336,6 +375,8 @@ fn view_of(alloc: Global, form: ViewForm, bytes: &[u8]) -> Result<View, OutOfMem
         ViewForm::Capture(CaptureView::Json, standard) => view_json(alloc, standard, bytes),
         ViewForm::Trace => view_trace(alloc, bytes),
         ViewForm::Waves => view_waves(alloc, bytes),
+        ViewForm::DotRun => view_graph(alloc, bytes),
+        ViewForm::JsonRun => view_reports(alloc, bytes),
         ViewForm::Explain => view_explain(alloc, bytes),
         ViewForm::ListOf(name) => view_list(alloc, &name, bytes),
         ViewForm::Script { .. } => unreachable!(),

@@ -32,6 +32,10 @@ pub enum ViewForm {
     Trace,
     /// `waves`: what changes on the bus of a script, as a Value Change Dump.
     Waves,
+    /// `dot-run`: the last report of a script as a Graphviz graph.
+    DotRun,
+    /// `json-run`: the reports of a script as JSON, a line for each.
+    JsonRun,
     /// `explain`: what stands at the fault of a script and what was wanted there.
     Explain,
     /// `script N SEED`: the script that `busconf make N SEED` runs, for 1 to 63 nodes and a seed. The
@@ -62,6 +66,8 @@ impl ViewForm {
             "json" => Some(ViewForm::Capture(CaptureView::Json, Standard::Ieee2000)),
             "trace" => Some(ViewForm::Trace),
             "waves" => Some(ViewForm::Waves),
+            "dot-run" => Some(ViewForm::DotRun),
+            "json-run" => Some(ViewForm::JsonRun),
             "explain" => Some(ViewForm::Explain),
             "resets" => Some(ViewForm::Resets(LogForm::Text(Standard::Ieee2000))),
             "nosy" => Some(ViewForm::Nosy(LogForm::Text(Standard::Ieee2000))),
@@ -151,6 +157,7 @@ pub const VIEW_USAGE: &str = "usage: busview packets [--1995] [CAPTURE ..]\n    
     busview tree [--1995] [CAPTURE ..]\n       busview dot [--1995] [CAPTURE]\n       \
     busview json [--1995] [CAPTURE]\n       \
     busview trace [SCRIPT]\n       busview waves [SCRIPT]\n       \
+    busview dot-run [SCRIPT]\n       busview json-run [SCRIPT]\n       \
     busview explain [SCRIPT]\n       busview capture NAME [SCRIPT]\n       \
     busview script N SEED\n       busview flawed KIND N SEED [--1995]\n       \
     busview resets [--1995] [--json] [LOG ..]\n       \

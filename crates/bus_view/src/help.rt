@@ -11,6 +11,8 @@ busview dot [CAPTURE]       the tree of the bus as a graph for Graphviz
 busview json [CAPTURE]      the tree of the bus as JSON, for programs
 busview trace [SCRIPT]      what happens on the bus of a script, turn by turn
 busview waves [SCRIPT]      what changes on it, for waveform viewers
+busview dot-run [SCRIPT]    its last report as a graph for Graphviz
+busview json-run [SCRIPT]   its reports as JSON, a line for each
 busview explain [SCRIPT]    what is at fault in a script, and what was wanted
 busview capture NAME [SCRIPT]  the capture of the bus with that node at the end
 busview script N SEED       the script that busconf make N SEED runs

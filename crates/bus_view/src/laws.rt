@@ -10,6 +10,7 @@ use nosy_dump::dumps_have_one_text;
 use reset_log::logs_have_one_text;
 use script_bus::each_script_has_a_run;
 use script_made::made_scripts_have_no_fault;
+use script_run::scripts_have_one_view;
 use script_told::{reported_trees_are_managed, reports_are_settled, scripts_tell_one_thing};
 use script_trace::scripts_have_one_trace;
 use script_waves::scripts_have_one_dump;
@@ -24,6 +25,7 @@ pub fn one_view()
     scripts_tell_one_thing();
     scripts_have_one_trace();
     scripts_have_one_dump();
+    scripts_have_one_view();
     each_script_has_a_run();
     logs_have_one_text();
     dumps_have_one_text();

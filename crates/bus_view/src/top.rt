@@ -13,6 +13,7 @@ ghost use Rattle.bus_view.specs.declared.form.CaptureView.{CaptureView};
 ghost use Rattle.bus_view.specs.declared.form.ViewForm.{ViewForm};
 ghost use Rattle.bus_view.specs.Form.{Asks, AsksLog, AsksNoInput, IsForm};
 ghost use Rattle.bus_view.specs.Answer.{IsCaptureView, IsTraceView, IsWavesView, IsExplainView};
+ghost use Rattle.bus_view.specs.Answer.{IsGraphView, IsReportsView};
 ghost use Rattle.bus_view.specs.Answer.{Answers, IsViewOfItself};
 ghost use Rattle.bus_view.specs.Log.{IsLogView, IsDumpView, IsLogBegun, ShowsAsItComes};
 ghost use Rattle.bus_view.specs.Captured.{AnswersCapture};
@@ -131,7 +132,7 @@ fn view_asked<S: Source, K: Sink>(
 /// | status | comes |
 /// |---|---|
 /// | 0 | the capture was read to its end and spells a tree, or the script has no fault, and the whole view was written; or, with `script`, the whole script that is made; or all resets of a log or a dump without fault; or the whole help or version |
-/// | 1 | the capture was read to its end and is refused, as `busconf read` refuses it; with `packets` all its pairs were written, with the line of the fault and a sentence on it below the pair at fault, with the other forms the line alone, which `json` writes as JSON. Or the script is refused, as `busconf run` refuses it, and the line of its fault was written. Or something in a log or a dump is at fault, and all that is shown of it was written |
+/// | 1 | the capture was read to its end and is refused, as `busconf read` refuses it; with `packets` all its pairs were written, with the line of the fault and a sentence on it below the pair at fault, with the other forms the line alone, which `json` writes as JSON. Or the script is refused, as `busconf run` refuses it, and the line of its fault was written, which `json-run` writes as JSON. Or something in a log or a dump is at fault, and all that is shown of it was written |
 /// | 2 | the words are none of the forms; nothing was read or written |
 /// | 3 | the source failed; nothing was written, but of a log or a dump what came before |
 /// | 4 | the sink failed; the first bytes of the text were written, or none |
@@ -174,11 +175,16 @@ pub fn view_main<S: Source, K: Sink>(
         IsWritten (IsCaptureView CaptureView.Json standard)
         result (S.left source.old) (K.written sink.old) (K.written sink.new) }
 
-    // With `trace` it is the trace of the script, with `waves` its dump, and with `explain` what is
-    // said of its faults, or the explanation of the script's fault.
+    // With `trace` it is the trace of the script, with `waves` its dump, with `dot-run` the graph of its
+    // last report, and with `explain` what is said of its faults, or the explanation of the script's
+    // fault; and with `json-run` the lines of its reports, or that of its fault.
     ensures trace { Asks words.now ViewForm.Trace → IsWritten IsTraceView
         result (S.left source.old) (K.written sink.old) (K.written sink.new) }
     ensures waves { Asks words.now ViewForm.Waves → IsWritten IsWavesView
+        result (S.left source.old) (K.written sink.old) (K.written sink.new) }
+    ensures dot_run { Asks words.now ViewForm.DotRun → IsWritten IsGraphView
+        result (S.left source.old) (K.written sink.old) (K.written sink.new) }
+    ensures json_run { Asks words.now ViewForm.JsonRun → IsWritten IsReportsView
         result (S.left source.old) (K.written sink.old) (K.written sink.new) }
     ensures explain { Asks words.now ViewForm.Explain → IsWritten IsExplainView
         result (S.left source.old) (K.written sink.old) (K.written sink.new) }

@@ -73,7 +73,10 @@ fn why_no_reset(front: &[u8]) -> &'static str {
 fn is_piped(form: &ViewForm) -> bool {
     matches!(
         form,
-        ViewForm::Waves | ViewForm::ListOf(_) | ViewForm::Capture(CaptureView::Dot, _)
+        ViewForm::Waves
+            | ViewForm::DotRun
+            | ViewForm::ListOf(_)
+            | ViewForm::Capture(CaptureView::Dot, _)
     )
 }
 
@@ -93,9 +96,12 @@ fn hint_of(form: &ViewForm, front: &[u8]) -> &'static [u8] {
         ViewForm::Capture(CaptureView::Tree | CaptureView::Dot | CaptureView::Json, _) => {
             hint_text(likeness_of(front))
         }
-        ViewForm::Trace | ViewForm::Waves | ViewForm::Explain | ViewForm::ListOf(_) => {
-            other_hint(front)
-        }
+        ViewForm::Trace
+        | ViewForm::Waves
+        | ViewForm::DotRun
+        | ViewForm::JsonRun
+        | ViewForm::Explain
+        | ViewForm::ListOf(_) => other_hint(front),
         ViewForm::Nosy(_) if begins_capture(front) => other_hint(front),
         _ => b"",
     }

@@ -1,13 +1,15 @@
 -- Which forms read an input. No public contract cites this file.
 use Rattle.std.specs.Prelude.{◌≤◌}
 use Rattle.bus_view.specs.declared.form.ViewForm.{ViewForm}
-use Rattle.bus_view.specs.declared.form.ViewForm.TheVariants.{Capture, Trace, Waves, Script, ListOf, Explain, Resets, Nosy, OfItself}
+use Rattle.bus_view.specs.declared.form.ViewForm.TheVariants.{Capture, Trace, Waves, DotRun, JsonRun, Script, ListOf, Explain, Resets, Nosy, OfItself}
 
 -- the whole input is read with this form before anything is written
 abbrev pub IsRead : ViewForm → Type 0
 IsRead (Capture view standard) = Unit {0}
 IsRead Trace = Unit {0}
 IsRead Waves = Unit {0}
+IsRead DotRun = Unit {0}
+IsRead JsonRun = Unit {0}
 IsRead Explain = Unit {0}
 IsRead (Script nodes seed) = ⊥
 IsRead (ListOf name) = Unit {0}
@@ -21,6 +23,8 @@ abbrev pub IsHeld : ViewForm → Type 0
 IsHeld (Capture view standard) = Unit {0}
 IsHeld Trace = Unit {0}
 IsHeld Waves = Unit {0}
+IsHeld DotRun = Unit {0}
+IsHeld JsonRun = Unit {0}
 IsHeld Explain = Unit {0}
 IsHeld (Script nodes seed) = (1 ≤ nodes) × (nodes ≤ 63)
 IsHeld (ListOf name) = Unit {0}

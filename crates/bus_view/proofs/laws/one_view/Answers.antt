@@ -9,6 +9,8 @@ returns-clause-some c =
       run = c.each_script_has_a_run.ensures;
       traces = c.scripts_have_one_trace.ensures.some;
       dumps = c.scripts_have_one_dump.ensures.some;
+      pictures = c.scripts_have_one_view.ensures.picture_some;
+      reportings = c.scripts_have_one_view.ensures.reporting_some;
       logs = c.logs_have_one_text.ensures.some;
       bus_dumps = c.dumps_have_one_text.ensures.some;
     }
@@ -25,6 +27,10 @@ returns-clause-one c =
       texts = c.scripts_have_one_trace.ensures.told;
       dumps = c.scripts_have_one_dump.ensures.one;
       dumped_texts = c.scripts_have_one_dump.ensures.told;
+      pictures = c.scripts_have_one_view.ensures.picture;
+      pictured_texts = c.scripts_have_one_view.ensures.picture_told;
+      reports = c.scripts_have_one_view.ensures.reporting;
+      reported_texts = c.scripts_have_one_view.ensures.reporting_told;
       logs = c.logs_have_one_text.ensures.one;
       bus_dumps = c.dumps_have_one_text.ensures.one;
     }

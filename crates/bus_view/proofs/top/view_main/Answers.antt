@@ -1,6 +1,6 @@
 use Rattle.script_made.specs.Made.{made_script}
 use Rattle.bus_view.specs.declared.form.CaptureView.TheVariants.{Packets, Tree, Dot, Json}
-use Rattle.bus_view.specs.declared.form.ViewForm.TheVariants.{Capture, Trace, Waves, ListOf, Explain}
+use Rattle.bus_view.specs.declared.form.ViewForm.TheVariants.{Capture, Trace, Waves, DotRun, JsonRun, ListOf, Explain}
 use Rattle.bus_view.proofs.Forms.{log_apart}
 use Rattle.bus_view.proofs.Ends.{form_written, capture_written}
 use Rattle.bus_view.proofs.top.view_main.Goals as goal
@@ -22,6 +22,12 @@ returns-clause-trace g c = λ asks. form_written c.args.words.now Trace asks _ _
 
 pub returns-clause-waves : goal.returns-clause-waves
 returns-clause-waves g c = λ asks. form_written c.args.words.now Waves asks _ _ _ _ (c.view_asked.ensures.streams (log_apart c.args.words.now Waves tt asks)).answer
+
+pub returns-clause-dot_run : goal.returns-clause-dot_run
+returns-clause-dot_run g c = λ asks. form_written c.args.words.now DotRun asks _ _ _ _ (c.view_asked.ensures.streams (log_apart c.args.words.now DotRun tt asks)).answer
+
+pub returns-clause-json_run : goal.returns-clause-json_run
+returns-clause-json_run g c = λ asks. form_written c.args.words.now JsonRun asks _ _ _ _ (c.view_asked.ensures.streams (log_apart c.args.words.now JsonRun tt asks)).answer
 
 pub returns-clause-explain : goal.returns-clause-explain
 returns-clause-explain g c = λ asks. form_written c.args.words.now Explain asks _ _ _ _ (c.view_asked.ensures.streams (log_apart c.args.words.now Explain tt asks)).answer
