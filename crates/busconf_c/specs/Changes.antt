@@ -10,7 +10,7 @@ use Rattle.bus_diff.specs.declared.change.Quality.{Quality}
 use Rattle.bus_diff.specs.declared.change.Quality.TheVariants.{Link, Gap, Speed, Contender, Power}
 use Rattle.bus_diff.specs.Matching.{IsMatching}
 use Rattle.bus_diff.specs.Change.{AreChanges}
-use Rattle.c_border.specs.Places.{IsTold}
+use Rattle.c_border.specs.Places.{IsCopied}
 use Rattle.c_records.specs.declared.records.FaultRecord.{FaultRecord}
 use Rattle.c_records.specs.Shown.{id_or_none}
 use Rattle.busconf_c.specs.declared.records.CableRecord.{CableRecord}
@@ -76,7 +76,7 @@ pub data TellsChanges (old new : Tree) (before after : List ChangeRecord) (neede
     : Type 0 where
   told : (pairs : List Pair) (changes : List Change) → IsMatching old new pairs →
       AreChanges old new pairs changes →
-      IsTold (map change_record changes) before after needed status →
+      IsCopied (map change_record changes) before after needed status →
       TellsChanges old new before after needed_before needed status
   no_memory : after ≡ before → needed ≡ needed_before → status ≡ 2 →
       TellsChanges old new before after needed_before needed status

@@ -13,7 +13,7 @@ use Rattle.config_rom.specs.Block.{AreBlocks, BlocksRefused}
 use Rattle.config_rom.specs.Fault.{rom_fault}
 use Rattle.busconf_c.specs.declared.records.BlockRecord.{BlockRecord}
 use Rattle.busconf_c.specs.declared.records.RomFaultRecord.{RomFaultRecord}
-use Rattle.c_border.specs.Places.{IsTold}
+use Rattle.c_border.specs.Places.{IsCopied}
 
 abbrev pub rom_fault_with : ℕ → ℕ → ℕ → RomFaultRecord
 rom_fault_with kind at found = record { at = at; found = found; kind = kind }
@@ -55,7 +55,7 @@ block_record b = block_of b b.crc
 pub data TellsBlocks (rom : Parts) (before after : List BlockRecord) (needed_before needed : ℕ)
     (fault_before fault : RomFaultRecord) (status : ℕ) : Type 0 where
   told : (blocks : List Block) → AreBlocks rom blocks →
-      IsTold (map block_record blocks) before after needed status → fault ≡ fault_before →
+      IsCopied (map block_record blocks) before after needed status → fault ≡ fault_before →
       TellsBlocks rom before after needed_before needed fault_before fault status
   no_blocks : (f : RomFault) → BlocksRefused rom f → fault ≡ rom_record f → after ≡ before →
       needed ≡ needed_before → status ≡ 1 →

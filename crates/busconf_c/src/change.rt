@@ -1,6 +1,6 @@
 //! What differs between two buses, as records.
 ghost use Rattle.std.specs.Prelude.{◌≡◌, map};
-ghost use Rattle.c_border.specs.Places.{IsTold};
+ghost use Rattle.c_border.specs.Places.{IsCopied};
 ghost use Rattle.busconf_c.specs.Changes.{cable_record, hanging, saying, quality_number, change_record};
 
 use crate::records::{CableRecord, ChangeRecord};
@@ -104,7 +104,7 @@ fn change_record(change: Change) -> ChangeRecord
 
 /// Writes the records of changes to the front of a place, where it has room, and tells how many they are.
 pub(crate) fn tell_changes(list: &[Change], place: &mut [ChangeRecord], needed: &mut usize) -> u32
-    ensures { IsTold (map change_record list.now) place.old place.new needed.new result }
+    ensures { IsCopied (map change_record list.now) place.old place.new needed.new result }
 {
     *needed = list.len();
     if place.len() < list.len() {

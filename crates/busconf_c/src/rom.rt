@@ -1,6 +1,6 @@
 //! Configuration ROMs.
 ghost use Rattle.std.specs.Prelude.{◌≡◌, map};
-ghost use Rattle.c_border.specs.Places.{IsTold};
+ghost use Rattle.c_border.specs.Places.{IsCopied};
 ghost use Rattle.busconf_c.specs.Roms.{rom_fault_with, rom_record, block_with, block_record, TellsBlocks, TellsRom};
 
 use crate::records::{BlockRecord, RomFaultRecord};
@@ -64,7 +64,7 @@ fn block_record(block: Block) -> BlockRecord
 /// Writes the records of blocks to the front of a place, where it has room, and tells how many they
 /// are.
 fn tell_blocks(list: &[Block], place: &mut [BlockRecord], needed: &mut usize) -> u32
-    ensures { IsTold (map block_record list.now) place.old place.new needed.new result }
+    ensures { IsCopied (map block_record list.now) place.old place.new needed.new result }
 {
     *needed = list.len();
     if place.len() < list.len() {

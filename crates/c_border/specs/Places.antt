@@ -4,7 +4,7 @@ use Rattle.std.specs.Prelude.{◌≡◌, ℕ, ◌<◌, ◌≤◌, Result, Ok, Er
 
 -- a list stands at the front of a place, and what is behind it stays; where the place is too short
 -- for the list, it stays whole
-pub record IsTold {A : Type 0} (list before after : List A) (needed status : ℕ) : Type 0 where
+pub record IsCopied {A : Type 0} (list before after : List A) (needed status : ℕ) : Type 0 where
   pub needed_is : needed ≡ length list
   pub whole : length list ≤ length before →
       (after ≡ list ++ drop (length list) before) × (status ≡ 0)
@@ -13,7 +13,7 @@ pub record IsTold {A : Type 0} (list before after : List A) (needed status : ℕ
 -- a list of which this holds is told, unless memory ran out
 pub data Tells (Holds : List ℕ → Type 0) (before after : List ℕ) (needed_before needed status : ℕ)
     : Type 0 where
-  some : (list : List ℕ) → Holds list → IsTold list before after needed status →
+  some : (list : List ℕ) → Holds list → IsCopied list before after needed status →
       Tells Holds before after needed_before needed status
   no_memory : after ≡ before → needed ≡ needed_before → status ≡ 2 →
       Tells Holds before after needed_before needed status

@@ -1,11 +1,11 @@
 //! Lists at places of the caller's.
-ghost use Rattle.c_border.specs.Places.{IsTold};
+ghost use Rattle.c_border.specs.Places.{IsCopied};
 
 use crate::status::{OK, TOO_SHORT};
 
 /// Writes bytes to the front of a place, where it has room, and tells how many they are.
 pub fn tell_bytes(bytes: &[u8], place: &mut [u8], needed: &mut usize) -> u32
-    ensures { IsTold bytes.now place.old place.new needed.new result }
+    ensures { IsCopied bytes.now place.old place.new needed.new result }
 {
     let count = bytes.len();
     *needed = count;
@@ -18,7 +18,7 @@ pub fn tell_bytes(bytes: &[u8], place: &mut [u8], needed: &mut usize) -> u32
 
 /// Writes quadlets to the front of a place, where it has room, and tells how many they are.
 pub fn tell_quads(quads: &[u32], place: &mut [u32], needed: &mut usize) -> u32
-    ensures { IsTold quads.now place.old place.new needed.new result }
+    ensures { IsCopied quads.now place.old place.new needed.new result }
 {
     let length = quads.len();
     *needed = length;

@@ -15,7 +15,7 @@ use Rattle.config_rom.specs.declared.block.BlockKind.TheVariants.{Directory, Lea
 use Rattle.config_rom.specs.declared.marks.Marks.{Marks}
 use Rattle.config_rom.specs.Layout.{length_at, crc_at, end_of}
 use Rattle.config_rom.specs.Crc.{IsCrcState}
-use Rattle.config_rom.specs.Block.{Blocks, IsReached, IsSelfTarget, HasFault, IsFirstFault, place_of, if_in, in_order, IsTold, AreBlocksOf}
+use Rattle.config_rom.specs.Block.{Blocks, IsReachable, IsSelfTarget, HasFault, IsFirstFault, place_of, if_in, in_order, IsBlockOf, AreBlocksOf}
 use Rattle.config_rom.specs.codings.Marks.{has_mark}
 
 -- ---- lists of sets that agree
@@ -103,8 +103,8 @@ one_state quads kept (Bad x computed) (Bad y other) h k =
 one_state quads kept Past b h k = absurd h
 one_state quads kept a Past h k = absurd k
 
-same_block : (quads : List ℕ) (a b : Block) → place_of a ≡ place_of b → IsTold quads a →
-    IsTold quads b → a ≡ b
+same_block : (quads : List ℕ) (a b : Block) → place_of a ≡ place_of b → IsBlockOf quads a →
+    IsBlockOf quads b → a ≡ b
 same_block quads a b e h k =
     let kinds : a.kind ≡ b.kind = ap (λ (p : BlockKind × ℕ). p.0) e in
     let places : a.at ≡ b.at = ap (λ (p : BlockKind × ℕ). p.1) e in
@@ -120,7 +120,7 @@ heads : {X : Type 0} (x y : X) (xs ys : List X) → x ∷ xs ≡ y ∷ ys → (x
 heads x y xs ys e = (cc, cc)
 
 same_blocks : (quads : List ℕ) (xs ys : List Block) → map place_of xs ≡ map place_of ys →
-    AllByRecursion (IsTold quads) xs → AllByRecursion (IsTold quads) ys → xs ≡ ys
+    AllByRecursion (IsBlockOf quads) xs → AllByRecursion (IsBlockOf quads) ys → xs ≡ ys
 same_blocks quads [] [] e h k = refl
 same_blocks quads [] (y ∷ ys) e h k = absurd (omega (arith, ap length e))
 same_blocks quads (x ∷ xs) [] e h k = absurd (omega (arith, ap length e))
@@ -144,10 +144,10 @@ one_list quads root xs ys a b =
 
 -- the listed marks are the blocks
 pub are_blocks : (quads : List ℕ) (root : ℕ) (m : Marks) (list : List Block) → length quads ≤ 256 →
-    ((k : BlockKind) (p : ℕ) → IsReached quads root k p → (p < 256) × (has_mark m k p ≡ true)) →
-    ((k : BlockKind) (p : ℕ) → p < 256 → has_mark m k p ≡ true → IsReached quads root k p) →
-    ((k : BlockKind) (p : ℕ) → IsReached quads root k p → (f : RomFault) → HasFault quads k p f → ⊥) →
-    map place_of list ≡ in_order (has_mark m) (length quads) → All (IsTold quads) list → AreBlocksOf quads root list
+    ((k : BlockKind) (p : ℕ) → IsReachable quads root k p → (p < 256) × (has_mark m k p ≡ true)) →
+    ((k : BlockKind) (p : ℕ) → p < 256 → has_mark m k p ≡ true → IsReachable quads root k p) →
+    ((k : BlockKind) (p : ℕ) → IsReachable quads root k p → (f : RomFault) → HasFault quads k p f → ⊥) →
+    map place_of list ≡ in_order (has_mark m) (length quads) → All (IsBlockOf quads) list → AreBlocksOf quads root list
 are_blocks quads root m list few reached only faultless places told = record {
   set = marked m;
   set_is = λ k p. (
@@ -164,7 +164,7 @@ are_blocks quads root m list few reached only faultless places told = record {
 
 -- blocks and a fault are not both
 pub no_first : (quads : List ℕ) (root : ℕ) (f : RomFault) →
-    ((k : BlockKind) (p : ℕ) → IsReached quads root k p → (g : RomFault) → HasFault quads k p g → ⊥) →
+    ((k : BlockKind) (p : ℕ) → IsReachable quads root k p → (g : RomFault) → HasFault quads k p g → ⊥) →
     IsFirstFault quads root f → ⊥
 no_first quads root f faultless h = faultless h.kind h.at h.reached f h.has
 

@@ -9,7 +9,7 @@ use Rattle.config_rom.specs.declared.block.BlockKind.{BlockKind}
 use Rattle.config_rom.specs.declared.block.BlockKind.TheVariants.{Directory, Leaf}
 use Rattle.config_rom.specs.declared.marks.Marks.{Marks}
 use Rattle.config_rom.specs.Layout.{end_of}
-use Rattle.config_rom.specs.Block.{kind_of, value_of, IsEntryOf, LeadsTo, Blocks, IsClosed, IsReached, IsSelfTarget, HasFault, IsFirstFault}
+use Rattle.config_rom.specs.Block.{kind_of, value_of, IsEntryOf, LeadsTo, Blocks, IsClosed, IsReachable, IsSelfTarget, HasFault, IsFirstFault}
 use Rattle.config_rom.specs.codings.Marks.{has_mark, is_past, covers, Adds, AddsTargets, TakesPlace, Taken}
 
 -- ---- one directory
@@ -199,7 +199,7 @@ below_closed quads root at m small few h = record {
 }
 
 below_marked : (quads : List ℕ) (root at : ℕ) (m : Marks) (k : BlockKind) (p : ℕ) → root < 256 →
-    at ≤ 256 → Taken quads root at m → IsReached quads root k p → p < at → has_mark m k p ≡ true
+    at ≤ 256 → Taken quads root at m → IsReachable quads root k p → p < at → has_mark m k p ≡ true
 below_marked quads root at m k p small few h r lt = sym (low m at p k lt) ∙ r (marked_below m at) (below_closed quads root at m small few h)
 
 -- a marked block with a fault has the first one
@@ -253,7 +253,7 @@ past_end quads root b m few h e =
 
 -- without places past the end the marks are the reached blocks
 pub reached_marked : (quads : List ℕ) (root : ℕ) (m : Marks) (k : BlockKind) (p : ℕ) →
-    Taken quads root 256 m → m.beyond ≡ None → IsReached quads root k p →
+    Taken quads root 256 m → m.beyond ≡ None → IsReachable quads root k p →
     (p < 256) × (has_mark m k p ≡ true)
 reached_marked quads root m k p h none r =
     let c : covers m k p ≡ true = r (covers m) (all_closed quads root m h) in

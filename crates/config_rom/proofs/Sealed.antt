@@ -11,7 +11,7 @@ use Rattle.config_rom.specs.declared.block.BlockKind.TheVariants.{Directory}
 use Rattle.config_rom.specs.declared.marks.Marks.{Marks}
 use Rattle.config_rom.specs.Layout.{length_at, crc_at, end_of}
 use Rattle.config_rom.specs.Rom.{Parts, root_header, rom_quads, IsRom, with_crc}
-use Rattle.config_rom.specs.Block.{Blocks, kind_of, value_of, IsEntryOf, LeadsTo, IsClosed, IsReached}
+use Rattle.config_rom.specs.Block.{Blocks, kind_of, value_of, IsEntryOf, LeadsTo, IsClosed, IsReachable}
 use Rattle.config_rom.specs.Seal.{IsGood, HasBlock, SealsBlocks, SealedBlocksAreGood}
 use Rattle.config_rom.specs.codings.Marks.{has_mark}
 use Rattle.config_rom.specs.codings.Sealing.{SealsAt, IsBare, SealedFrom}
@@ -92,7 +92,7 @@ whole_still old cur m at p h whole = omega (arith, h.high p, h.size, whole)
 
 -- blocks stand at the root directory or behind it
 pub reached_behind : (quads : List ℕ) (root : ℕ) (k : BlockKind) (p : ℕ) →
-    IsReached quads root k p → root ≤ p
+    IsReachable quads root k p → root ≤ p
 reached_behind quads root k p r =
     let set : Blocks = λ j q. nat_le root q in
     let closed : IsClosed quads root set = record {
@@ -187,7 +187,7 @@ sealed_are_good old new list are s apart kind at reached = s.blocks kind at (λ 
       root_in = subst (λ (n : ℕ). both Directory n ≡ true) root_is root_there;
       targets_in = λ directory entry target k has leads.
           let in_set = first_true (set Directory directory) (are.set Directory directory) has in
-          let is_reached : IsReached olds root Directory directory = (are.set_is Directory directory).0 (second_true (set Directory directory) (are.set Directory directory) has) in
+          let is_reached : IsReachable olds root Directory directory = (are.set_is Directory directory).0 (second_true (set Directory directory) (are.set Directory directory) has) in
           let is_entry : IsEntryOf olds directory entry = record {
             behind = leads.is_entry.behind;
             inside = omega (arith, leads.is_entry.inside, s.high directory);

@@ -8,7 +8,7 @@ use Rattle.config_rom.specs.declared.fault.RomFault.TheVariants.{Outside, SelfTa
 use Rattle.config_rom.specs.declared.block.BlockKind.{BlockKind}
 use Rattle.config_rom.specs.declared.block.BlockKind.TheVariants.{Directory, Leaf}
 use Rattle.config_rom.specs.Layout.{length_at, end_of}
-use Rattle.config_rom.specs.Block.{kind_of, value_of, LeadsTo, Blocks, IsClosed, IsReached, IsSelfTarget, HasFault, IsFirstFault}
+use Rattle.config_rom.specs.Block.{kind_of, value_of, LeadsTo, Blocks, IsClosed, IsReachable, IsSelfTarget, HasFault, IsFirstFault}
 use Rattle.config_rom.proofs.Reached.{no_fault_at}
 
 abbrev Decided : Type 0 → Type 0
@@ -194,7 +194,7 @@ same_kind : (a b : BlockKind) → Some a ≡ Some b → a ≡ b
 same_kind a b e = cc
 
 upto_reached : (quads : List ℕ) (root n : ℕ) (k : BlockKind) (p : ℕ) →
-    upto quads root n k p ≡ true → IsReached quads root k p
+    upto quads root n k p ≡ true → IsReachable quads root k p
 unfolding upto is_root
 upto_reached quads root zero k p h set c =
     let t = both-true _ _ h in
@@ -212,7 +212,7 @@ upto_reached quads root (suc n) k p h set c = elim (either-true _ _ h) [
 -- the set of the reached blocks
 pub record ReachedSet (quads : List ℕ) (root : ℕ) : Type 0 where
   pub set : Blocks
-  pub set_is : (k : BlockKind) (p : ℕ) → (set k p ≡ true) ↔ IsReached quads root k p
+  pub set_is : (k : BlockKind) (p : ℕ) → (set k p ≡ true) ↔ IsReachable quads root k p
 
 pub reached_set : (quads : List ℕ) (root : ℕ) → ReachedSet quads root
 unfolding reached
@@ -222,14 +222,14 @@ reached_set quads root = record {
 }
 
 pub is_reached : (quads : List ℕ) (root : ℕ) (k : BlockKind) (p : ℕ) →
-    Decided (IsReached quads root k p)
+    Decided (IsReachable quads root k p)
 unfolding reached
 is_reached quads root k p = go (reached quads root k p) refl
   where
     false_true : (b : Bool) → b ≡ false → b ≡ true → ⊥
     false_true b f t = cc
 
-    go : (b : Bool) → reached quads root k p ≡ b → Decided (IsReached quads root k p)
+    go : (b : Bool) → reached quads root k p ≡ b → Decided (IsReachable quads root k p)
     go true e = inl (upto_reached quads root (length quads) k p e)
     go false e = inr (λ r. false_true (reached quads root k p) e (r (reached quads root) (reached_closed quads root)))
 
@@ -275,7 +275,7 @@ fault_at quads k p = elim (cases_lt (length quads) (end_of quads p)) [
     ]
 
 FaultyAt : List ℕ → ℕ → ℕ → Type 0
-FaultyAt quads root p = (k : BlockKind) × (IsReached quads root k p × SomeFaultAt quads k p)
+FaultyAt quads root p = (k : BlockKind) × (IsReachable quads root k p × SomeFaultAt quads k p)
 
 kinds : (P : BlockKind → Type 0) → Decided (P Directory) → Decided (P Leaf) →
     Decided ((k : BlockKind) × P k)
@@ -295,9 +295,9 @@ together A B (inr a) d = inr (λ x. a x.0)
 faulty_at : (quads : List ℕ) (root p : ℕ) → Decided (FaultyAt quads root p)
 unfolding FaultyAt
 faulty_at quads root p =
-    kinds (λ k. IsReached quads root k p × SomeFaultAt quads k p)
-    (together (IsReached quads root Directory p) (SomeFaultAt quads Directory p) (is_reached quads root Directory p) (fault_at quads Directory p))
-    (together (IsReached quads root Leaf p) (SomeFaultAt quads Leaf p) (is_reached quads root Leaf p) (fault_at quads Leaf p))
+    kinds (λ k. IsReachable quads root k p × SomeFaultAt quads k p)
+    (together (IsReachable quads root Directory p) (SomeFaultAt quads Directory p) (is_reached quads root Directory p) (fault_at quads Directory p))
+    (together (IsReachable quads root Leaf p) (SomeFaultAt quads Leaf p) (is_reached quads root Leaf p) (fault_at quads Leaf p))
 
 -- no place from a bound on is reached
 bounded : (quads : List ℕ) (root n : ℕ) (k : BlockKind) (p : ℕ) → upto quads root n k p ≡ true →
@@ -311,14 +311,14 @@ bounded quads root (suc n) k p h = elim (either-true _ _ h) [
       omega (arith, l.1.target_is, some_kind quads l.0 k l.1.kind_is)
 ]
 
-reached_bounded : (quads : List ℕ) (root : ℕ) (k : BlockKind) (p : ℕ) → IsReached quads root k p →
+reached_bounded : (quads : List ℕ) (root : ℕ) (k : BlockKind) (p : ℕ) → IsReachable quads root k p →
     p < root + 1 + length quads + 2 ^ 24
 unfolding reached
 reached_bounded quads root k p r = bounded quads root (length quads) k p (r (reached quads root) (reached_closed quads root))
 
 pub first_or_none : (quads : List ℕ) (root : ℕ) →
     ((f : RomFault) × IsFirstFault quads root f)
-    ⊎ ((k : BlockKind) (p : ℕ) → IsReached quads root k p → (f : RomFault) → HasFault quads k p f → ⊥)
+    ⊎ ((k : BlockKind) (p : ℕ) → IsReachable quads root k p → (f : RomFault) → HasFault quads k p f → ⊥)
 unfolding FaultyAt SomeFaultAt
 first_or_none quads root = elim (least (FaultyAt quads root) (faulty_at quads root) (root + 1 + length quads + 2 ^ 24)) [
   | inl found ↦ inl (

@@ -12,7 +12,7 @@ use Rattle.config_rom.specs.declared.block.BlockKind.{BlockKind}
 use Rattle.config_rom.specs.Layout.{length_at, crc_at}
 use Rattle.config_rom.specs.Rom.{Parts, rom_quads}
 use Rattle.config_rom.specs.Crc.{IsCrcState, IsInfoCrc}
-use Rattle.config_rom.specs.Block.{place_of, in_order, IsTold}
+use Rattle.config_rom.specs.Block.{place_of, in_order, IsBlockOf}
 use Rattle.config_rom.specs.Text.{text_of}
 use Rattle.config_rom.specs.SomeText.{RomsHaveTexts}
 use Rattle.config_rom.proofs.SomeFault.{reached_set}
@@ -51,7 +51,7 @@ some_info v =
 record HasBlocks (quads : List ℕ) (places : List (BlockKind × ℕ)) : Type 0 where
   list : List Block
   listed : map place_of list ≡ places
-  told : AllByRecursion (IsTold quads) list
+  told : AllByRecursion (IsBlockOf quads) list
 
 some_blocks : (quads : List ℕ) (places : List (BlockKind × ℕ)) → HasBlocks quads places
 some_blocks quads [] = record { list = []; listed = refl; told = tt }

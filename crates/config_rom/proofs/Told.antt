@@ -6,7 +6,7 @@ use Rattle.config_rom.specs.declared.block.Block.{Block}
 use Rattle.config_rom.specs.declared.block.BlockKind.{BlockKind}
 use Rattle.config_rom.specs.declared.block.BlockKind.TheVariants.{Directory, Leaf}
 use Rattle.config_rom.specs.Layout.{end_of}
-use Rattle.config_rom.specs.Block.{Blocks, place_of, if_in, in_order, IsTold, AreBlocksOf}
+use Rattle.config_rom.specs.Block.{Blocks, place_of, if_in, in_order, IsBlockOf, AreBlocksOf}
 use Rattle.config_rom.proofs.Listed.{whole_of}
 
 all_append : {X : Type 0} (P : X → Type 0) (xs ys : List X) → AllByRecursion P xs →
@@ -35,7 +35,7 @@ IsInside quads b = b.at + 1 + b.len ≤ length quads
 
 all_inside : (quads : List ℕ) (s : Blocks) (bs : List Block) →
     ((k : BlockKind) (p : ℕ) → s k p ≡ true → end_of quads p ≤ length quads) →
-    AllByRecursion (IsIn s) (map place_of bs) → AllByRecursion (IsTold quads) bs →
+    AllByRecursion (IsIn s) (map place_of bs) → AllByRecursion (IsBlockOf quads) bs →
     AllByRecursion (IsInside quads) bs
 all_inside quads s [] whole h told = tt
 all_inside quads s (b ∷ bs) whole h told = (omega (arith, whole b.kind b.at h.0, told.0.len_is), all_inside quads s bs whole h.1 told.1)

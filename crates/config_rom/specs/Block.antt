@@ -54,8 +54,8 @@ pub record IsClosed (quads : List ℕ) (root : ℕ) (set : Blocks) : Type 0 wher
       set Directory directory ≡ true → LeadsTo quads directory entry kind target →
       set kind target ≡ true
 
-abbrev pub IsReached : List ℕ → ℕ → BlockKind → ℕ → Type 0
-IsReached quads root kind at =
+abbrev pub IsReachable : List ℕ → ℕ → BlockKind → ℕ → Type 0
+IsReachable quads root kind at =
     (set : Blocks) → IsClosed quads root set →
     set kind at ≡ true
 
@@ -78,10 +78,10 @@ HasFault quads kind at fault = ⊥
 pub record IsFirstFault (quads : List ℕ) (root : ℕ) (fault : RomFault) : Type 0 where
   pub kind : BlockKind
   pub at : ℕ
-  pub reached : IsReached quads root kind at
+  pub reached : IsReachable quads root kind at
   pub has : HasFault quads kind at fault
   pub earlier :
-      (other : BlockKind) (p : ℕ) → IsReached quads root other p → p < at →
+      (other : BlockKind) (p : ℕ) → IsReachable quads root other p → p < at →
       (f : RomFault) → HasFault quads other p f → ⊥
 
 -- ---- the list of the blocks
@@ -99,7 +99,7 @@ abbrev pub place_of : Block → BlockKind × ℕ
 place_of block = (block.kind, block.at)
 
 -- a block of the list tells the length in its header, and what is known of the CRC there
-pub record IsTold (quads : List ℕ) (block : Block) : Type 0 where
+pub record IsBlockOf (quads : List ℕ) (block : Block) : Type 0 where
   pub len_is : block.len ≡ length_at quads block.at
   pub crc_is :
       IsCrcState (take block.len (drop (block.at + 1) quads)) (crc_at quads block.at) block.crc
@@ -108,11 +108,11 @@ pub record IsTold (quads : List ℕ) (block : Block) : Type 0 where
 pub record AreBlocksOf (quads : List ℕ) (root : ℕ) (blocks : List Block) : Type 0 where
   pub set : Blocks
   pub set_is :
-      (kind : BlockKind) (at : ℕ) → (set kind at ≡ true) ↔ IsReached quads root kind at
+      (kind : BlockKind) (at : ℕ) → (set kind at ≡ true) ↔ IsReachable quads root kind at
   pub listed : map place_of blocks ≡ in_order set (length quads)
-  pub told : All (IsTold quads) blocks
+  pub told : All (IsBlockOf quads) blocks
   pub faultless :
-      (kind : BlockKind) (at : ℕ) → IsReached quads root kind at →
+      (kind : BlockKind) (at : ℕ) → IsReachable quads root kind at →
       (f : RomFault) → HasFault quads kind at f → ⊥
 
 -- ---- of a ROM

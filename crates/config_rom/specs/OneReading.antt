@@ -7,7 +7,7 @@ use Rattle.config_rom.specs.declared.block.BlockKind.{BlockKind}
 use Rattle.config_rom.specs.Rom.{Parts, IsRom, rom_quads, rom_bytes}
 use Rattle.config_rom.specs.Fault.{rom_fault}
 use Rattle.config_rom.specs.Text.{IsRomText}
-use Rattle.config_rom.specs.Block.{IsReached, HasFault, AreBlocks, BlocksRefused}
+use Rattle.config_rom.specs.Block.{IsReachable, HasFault, AreBlocks, BlocksRefused}
 
 -- the bytes are those of this ROM
 pub record IsRomOf (bytes : List ℕ) (v : Parts) : Type 0 where
@@ -17,7 +17,7 @@ pub record IsRomOf (bytes : List ℕ) (v : Parts) : Type 0 where
 -- no block of the ROM has a fault
 abbrev pub HasGoodBlocks : Parts → Type 0
 HasGoodBlocks v =
-    (kind : BlockKind) (at : ℕ) → IsReached (rom_quads v) (1 + v.info_len) kind at →
+    (kind : BlockKind) (at : ℕ) → IsReachable (rom_quads v) (1 + v.info_len) kind at →
     (f : RomFault) → HasFault (rom_quads v) kind at f → ⊥
 
 abbrev pub EachInputIsARomOrRefused : Type 0

@@ -6,7 +6,7 @@ use Rattle.config_rom.specs.declared.block.BlockKind.{BlockKind}
 use Rattle.config_rom.specs.declared.block.BlockKind.TheVariants.{Directory}
 use Rattle.config_rom.specs.Layout.{length_at, crc_at}
 use Rattle.config_rom.specs.Rom.{Parts, rom_quads}
-use Rattle.config_rom.specs.Block.{IsEntryOf, IsReached, AreBlocks}
+use Rattle.config_rom.specs.Block.{IsEntryOf, IsReachable, AreBlocks}
 
 pub record Seals (old new : Parts) : Type 0 where
   -- the root directory keeps the CRC over its entries
@@ -24,7 +24,7 @@ IsGood quads at = IsCrc (take (length_at quads at) (drop (at + 1) quads)) (crc_a
 
 -- the root directory leads to this block
 abbrev pub HasBlock : Parts → BlockKind → ℕ → Type 0
-HasBlock v kind at = IsReached (rom_quads v) (1 + v.info_len) kind at
+HasBlock v kind at = IsReachable (rom_quads v) (1 + v.info_len) kind at
 
 pub record SealsBlocks (old new : Parts) : Type 0 where
   -- each block's header keeps the CRC over the quadlets of the block

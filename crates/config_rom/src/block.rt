@@ -5,7 +5,7 @@ ghost use Rattle.config_rom.specs.declared.fault.RomStop.TheVariants.{Fault};
 ghost use Rattle.config_rom.specs.declared.block.BlockKind.{BlockKind};
 ghost use Rattle.config_rom.specs.declared.block.Block.{Block};
 ghost use Rattle.config_rom.specs.Layout.{end_of};
-ghost use Rattle.config_rom.specs.Block.{IsTold, AreBlocks, BlocksRefused, place_of, if_in, in_order};
+ghost use Rattle.config_rom.specs.Block.{IsBlockOf, AreBlocks, BlocksRefused, place_of, if_in, in_order};
 ghost use Rattle.config_rom.specs.Answer.{IfFault, UnlessMemory};
 ghost use Rattle.config_rom.specs.codings.Marks.{has_mark};
 
@@ -88,7 +88,7 @@ fn block_at(quads: &[u32], kind: BlockKind, at: usize) -> Block
     requires whole { end_of quads.now at ≤ length quads.now }
     ensures kind { result.kind ≡ kind }
     ensures place { result.at ≡ at }
-    ensures told { IsTold quads.now result }
+    ensures told { IsBlockOf quads.now result }
 {
     let end = end_of(quads, at);
     Block {
@@ -112,7 +112,7 @@ fn push_marked(
     requires whole { has_mark marks.now kind at ≡ true → end_of quads.now at ≤ length quads.now }
     ensures places { OnOk result (map place_of list.new
         ≡ map place_of list.old ++ if_in (has_mark marks.now) kind at) }
-    ensures told { All (IsTold quads.now) list.old → OnOk result (All (IsTold quads.now) list.new) }
+    ensures told { All (IsBlockOf quads.now) list.old → OnOk result (All (IsBlockOf quads.now) list.new) }
 {
     if marks.has(kind, at) {
         list.push(block_at(quads, kind, at))?;
@@ -127,7 +127,7 @@ fn list_of(alloc: Global, quads: &[u32], marks: &Marks) -> Result<BlockList, Out
         end_of quads.now p ≤ length quads.now }
     ensures places { IfOk result (λ list.
         map place_of list ≡ in_order (has_mark marks.now) (length quads.now)) }
-    ensures told { IfOk result (All (IsTold quads.now)) }
+    ensures told { IfOk result (All (IsBlockOf quads.now)) }
 {
     let mut list = BlockList::new(alloc);
     for at in 0..quads.len() {

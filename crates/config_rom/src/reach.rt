@@ -5,7 +5,7 @@ ghost use Rattle.config_rom.specs.declared.fault.RomFault.TheVariants.{Outside};
 ghost use Rattle.config_rom.specs.declared.block.BlockKind.{BlockKind};
 ghost use Rattle.config_rom.specs.declared.block.BlockKind.TheVariants.{Directory};
 ghost use Rattle.config_rom.specs.Layout.{end_of};
-ghost use Rattle.config_rom.specs.Block.{kind_of, value_of, IsReached, HasFault, IsFirstFault};
+ghost use Rattle.config_rom.specs.Block.{kind_of, value_of, IsReachable, HasFault, IsFirstFault};
 ghost use Rattle.config_rom.specs.codings.Marks.{has_mark, AddsTargets, TakesPlace};
 
 use crate::block::BlockKind;
@@ -92,11 +92,11 @@ fn take_place(quads: &[u32], at: usize, marks: &mut Marks) -> Result<(), RomFaul
 pub(crate) fn reach(quads: &[u32], root: usize) -> Result<Marks, RomFault>
     requires few { length quads.now ≤ 256 }
     requires place { root < 256 }
-    ensures reached { IfOk result (λ m. (k : BlockKind) (p : ℕ) → IsReached quads.now root k p →
+    ensures reached { IfOk result (λ m. (k : BlockKind) (p : ℕ) → IsReachable quads.now root k p →
         (p < 256) × (has_mark m k p ≡ true)) }
     ensures only { IfOk result (λ m. (k : BlockKind) (p : ℕ) → p < 256 →
-        has_mark m k p ≡ true → IsReached quads.now root k p) }
-    ensures faultless { IfOk result (λ m. (k : BlockKind) (p : ℕ) → IsReached quads.now root k p →
+        has_mark m k p ≡ true → IsReachable quads.now root k p) }
+    ensures faultless { IfOk result (λ m. (k : BlockKind) (p : ℕ) → IsReachable quads.now root k p →
         (f : RomFault) → HasFault quads.now k p f → ⊥) }
     ensures err { IfErr result (IsFirstFault quads.now root) }
 {

@@ -1,7 +1,7 @@
 //! The line of a fault, and the sentence of a list's fault.
 ghost use Rattle.std.specs.Prelude.{◌≡◌, ◌<◌, ◌≤◌, ◌++◌, ◌+◌, length, slice_index_or};
 ghost use Rattle.c_records.specs.Faults.{kind_word, counts, line_of};
-ghost use Rattle.c_border.specs.Places.{IsTold, IsUntold};
+ghost use Rattle.c_border.specs.Places.{IsCopied, IsUntold};
 ghost use Rattle.heapless_c.specs.Sentences.{quad_before, IsListSentence, WritesSentence};
 
 use c_border::{NO_STANDARD, REFUSED, tell_bytes};
@@ -68,7 +68,7 @@ pub extern "C" fn busconf_fault_text(
     needed: &mut usize,
 ) -> u32
     ensures line { 0 < fault.now.kind → fault.now.kind ≤ 13 →
-        IsTold (line_of fault.now (kind_word fault.now.kind)) place.old place.new needed.new result }
+        IsCopied (line_of fault.now (kind_word fault.now.kind)) place.old place.new needed.new result }
     ensures zero { fault.now.kind ≡ 0 →
         IsUntold place.old place.new needed.old needed.new result }
     ensures past { 13 < fault.now.kind →

@@ -5,7 +5,7 @@ use Rattle.quad_lanes.specs.Capture.{capture}
 use Rattle.script_run.specs.Listed.{IsListed}
 use Rattle.script_lines.specs.declared.kind.ScriptFault.{ScriptFault}
 use Rattle.script_told.specs.Script.{Told}
-use Rattle.c_border.specs.Places.{IsTold}
+use Rattle.c_border.specs.Places.{IsCopied}
 use Rattle.script_c.specs.declared.record.ScriptFaultRecord.{ScriptFaultRecord}
 use Rattle.script_c.specs.Faults.{fault_record}
 
@@ -14,7 +14,7 @@ use Rattle.script_c.specs.Faults.{fault_record}
 pub data TellsScript (HasText : List ℕ → Type 0) (HasFault : ScriptFault → Type 0)
     (before after : List ℕ) (needed_before needed : ℕ) (fault_before fault : ScriptFaultRecord)
     (status : ℕ) : Type 0 where
-  told : (text : List ℕ) → HasText text → IsTold text before after needed status →
+  told : (text : List ℕ) → HasText text → IsCopied text before after needed status →
       fault ≡ fault_before →
       TellsScript HasText HasFault before after needed_before needed fault_before fault status
   refused : (f : ScriptFault) → HasFault f → fault ≡ fault_record f → after ≡ before →

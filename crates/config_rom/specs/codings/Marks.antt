@@ -7,7 +7,7 @@ use Rattle.config_rom.specs.declared.block.BlockKind.TheVariants.{Directory, Lea
 use Rattle.config_rom.specs.declared.marks.PlaceSet.{PlaceSet}
 use Rattle.config_rom.specs.declared.marks.Marks.{Marks}
 use Rattle.config_rom.specs.Layout.{end_of}
-use Rattle.config_rom.specs.Block.{LeadsTo, IsReached, IsSelfTarget, HasFault}
+use Rattle.config_rom.specs.Block.{LeadsTo, IsReachable, IsSelfTarget, HasFault}
 
 abbrev pub has_place : PlaceSet → ℕ → Bool
 has_place places at = slice_index_or places.marked at false
@@ -63,8 +63,8 @@ pub record Taken (quads : List ℕ) (root at : ℕ) (m : Marks) : Type 0 where
       (directory entry target : ℕ) (k : BlockKind) → directory < at →
       has_mark m Directory directory ≡ true → LeadsTo quads directory entry k target →
       covers m k target ≡ true
-  pub reached : (k : BlockKind) (p : ℕ) → p < 256 → has_mark m k p ≡ true → IsReached quads root k p
-  pub beyond : (b : ℕ) → m.beyond ≡ Some b → (k : BlockKind) × IsReached quads root k b × (256 ≤ b)
+  pub reached : (k : BlockKind) (p : ℕ) → p < 256 → has_mark m k p ≡ true → IsReachable quads root k p
+  pub beyond : (b : ℕ) → m.beyond ≡ Some b → (k : BlockKind) × IsReachable quads root k b × (256 ≤ b)
   pub faultless :
       (k : BlockKind) (p : ℕ) → p < at → has_mark m k p ≡ true →
       (f : RomFault) → HasFault quads k p f → ⊥

@@ -3,7 +3,7 @@ use Rattle.config_rom.specs.declared.fault.RomFault.{RomFault}
 use Rattle.config_rom.specs.declared.block.BlockKind.{BlockKind}
 use Rattle.config_rom.specs.Layout.{end_of}
 use Rattle.config_rom.specs.Rom.{rom_quads}
-use Rattle.config_rom.specs.Block.{IsReached, HasFault, IsFirstFault, BlocksRefused}
+use Rattle.config_rom.specs.Block.{IsReachable, HasFault, IsFirstFault, BlocksRefused}
 use Rattle.config_rom.specs.codings.Marks.{has_mark}
 use Rattle.config_rom.proofs.Listed.{one_first, whole_of, no_first, of_rom}
 use Rattle.config_rom.proofs.Sealed.{seals_blocks, same_refusal, no_refusal, root_inside}
@@ -36,7 +36,7 @@ returns-clause-sealed c =
     let rom = c.args.rom.now in
     let m = c.in-Ok.marks in
     let root : 1 + c.from-root.result ≡ 1 + rom.info_len = omega (arith, c.from-root.ensures, c.info_len.ensures) in
-    let said = of_rom (λ qs r. ((k : BlockKind) (p : ℕ) → IsReached qs r k p → (p < 256) × (has_mark m k p ≡ true)) × ((k : BlockKind) (p : ℕ) → p < 256 → has_mark m k p ≡ true → IsReached qs r k p) × ((k : BlockKind) (p : ℕ) → IsReached qs r k p → (f : RomFault) → HasFault qs k p f → ⊥))
+    let said = of_rom (λ qs r. ((k : BlockKind) (p : ℕ) → IsReachable qs r k p → (p < 256) × (has_mark m k p ≡ true)) × ((k : BlockKind) (p : ℕ) → p < 256 → has_mark m k p ≡ true → IsReachable qs r k p) × ((k : BlockKind) (p : ℕ) → IsReachable qs r k p → (f : RomFault) → HasFault qs k p f → ⊥))
     c.quads-quads.result.now (rom_quads rom) (1 + c.from-root.result) (1 + rom.info_len) c.quads-quads.ensures.value root
     (c.in-Ok.ensures.reached, c.in-Ok.ensures.only, c.in-Ok.ensures.faultless) in
     seals_blocks rom c.seal_marked.new.rom c.seal_first.new.rom m (1 + c.from-root.result) c.quads-quads.ensures.valid c.seal_first.ensures.valid root said.0 said.1
@@ -47,5 +47,5 @@ pub returns-clause-refused : goal.returns-clause-refused
 returns-clause-refused c = λ fault.
     let rom = c.args.rom.now in
     let root : 1 + c.from-root.result ≡ 1 + rom.info_len = omega (arith, c.from-root.ensures, c.info_len.ensures) in
-    let faultless = of_rom (λ qs r. (k : BlockKind) (p : ℕ) → IsReached qs r k p → (f : RomFault) → HasFault qs k p f → ⊥) c.quads-quads.result.now (rom_quads rom) (1 + c.from-root.result) (1 + rom.info_len) c.quads-quads.ensures.value root c.in-Ok.ensures.faultless in
+    let faultless = of_rom (λ qs r. (k : BlockKind) (p : ℕ) → IsReachable qs r k p → (f : RomFault) → HasFault qs k p f → ⊥) c.quads-quads.result.now (rom_quads rom) (1 + c.from-root.result) (1 + rom.info_len) c.quads-quads.ensures.value root c.in-Ok.ensures.faultless in
     (λ e. absurd (no_refusal fault e), λ refused. absurd (no_first (rom_quads rom) (1 + rom.info_len) fault faultless refused))
