@@ -16,7 +16,6 @@ mod rows;
 mod run;
 mod start;
 mod steps;
-mod still;
 mod time_laws;
 mod wire;
 mod world;

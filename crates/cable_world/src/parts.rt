@@ -7,4 +7,3 @@ pub use crate::nodes::turn_node;
 pub use crate::rows::{ArrivalRow, WireRow};
 pub use crate::start::{arrival_rows, no_changes, port_counts, wire_rows};
 pub use crate::steps::{NodeAct, step_both, step_node};
-pub use crate::still::{all_silent, pass_wires};

@@ -1,20 +1,17 @@
 -- Turns in which nothing happens: nothing arrives, every node ticks idly, and nothing is sent.
 use Rattle.std.proofs.Common.{◌≡◌, ℕ, zero, suc, ◌+◌, ◌-◌, ◌≤◌, Bool, true, false, List, [], ◌∷◌, ◌++◌, All, map, length, Option, Some, None, slice_index_or, take, refl, sym, ◌∙◌, ap, arith, add-one, if◌then◌else◌}
-use Rattle.std.specs.Prelude.{nat_eq, Vec}
-use Rattle.std.specs.Vec.{with_items}
+use Rattle.std.specs.Prelude.{nat_eq}
 use Rattle.std.specs.Cmp.Lexicographic.{pointwise}
-use Rattle.std.proofs.lemmas.List.{length-map, with_items_is}
+use Rattle.std.proofs.lemmas.List.{length-map}
 use Rattle.std.proofs.lemmas.List.Elements.{All-head, All-tail, All-cons, All-map, All-weaker}
 use Rattle.cabling.specs.declared.cable.End.{End}
 use Rattle.cabling.specs.Wiring.{Wiring}
-use Rattle.port_state.specs.declared.timing.Timing.{Timing}
 use Rattle.port_state.specs.Machine.{PortNode, NodeStep, node_tick}
 use Rattle.port_state.specs.Idle.{IsIdleTick, IsIdleFor, after_ticks}
 use Rattle.cable_world.specs.Wire.{Travelling, Wire, empty_wire, age_signal, age_wire, gives, arrives, stays}
 use Rattle.cable_world.specs.World.{CableWorld, wire_of}
 use Rattle.cable_world.specs.Turn.{signals_from, inbox, node_turn, node_turns, wires_after_sends, all_wires_after_sends, same_list, last_changes, turn, turns_after}
 use Rattle.cable_world.specs.Still.{IsSilent, AreSilent, IsStillFor, hold_less, after_still, StillTurnsPass}
-use Rattle.cable_world.specs.Parts.{world_record}
 use Rattle.cable_world.proofs.turns.ByNumber.{no-turns, one-more}
 use Rattle.cable_world.proofs.running.Sending.{no-sends}
 use Rattle.cable_world.proofs.running.Acting.{same-itself}
@@ -224,23 +221,3 @@ all-taken P (suc k) [] few h = h
 all-taken P zero (x ∷ xs) few h = absurd (omega arith)
 all-taken P (suc k) (x ∷ xs) few h =
     All-cons P x xs (All-head P x (take k xs) h) (all-taken P k xs (omega arith) (All-tail P x (take k xs) h))
-
--- ---- the world that stays in the vectors, where their slices passed over still turns
-
-pub vectors-still :
-    {M Z : Type 0} → (f : M → PortNode) (d : ℕ) (most : Timing) (c : Wiring) (t k : ℕ) (machines : Vec M Z) (wires : Vec (List Wire) Z) (changed : List ℕ)
-    (ms nms : List M) (ws nws : List (List Wire)) →
-    (ms ≡ machines.items) × (length ms ≡ machines.len) × (length nms ≡ length ms) →
-    (ws ≡ wires.items) × (length ws ≡ wires.len) × (length nws ≡ length ws) →
-    map f nms ≡ map (after_ticks k) (map f ms) → nws ≡ map (map (hold_less k)) ws →
-    length (map f machines.items) ≡ length c → IsStillFor k (world_record d most c (map f machines.items) wires.items changed t) →
-    world_record d most c (map f (with_items machines nms).items) (with_items wires nws).items changed (t + k)
-    ≡ turns_after k (world_record d most c (map f machines.items) wires.items changed t)
-vectors-still f d most c t k machines wires changed ms nms ws nws m w passed less e h =
-    let nodes : map f (with_items machines nms).items ≡ map (after_ticks k) (map f machines.items) =
-    ap (map f) (with_items_is machines nms (m.2 ∙ m.1)) ∙ passed ∙ ap (λ xs. map (after_ticks k) (map f xs)) m.0 in
-    let rows : (with_items wires nws).items ≡ map (map (hold_less k)) wires.items =
-    with_items_is wires nws (w.2 ∙ w.1) ∙ less ∙ ap (map (map (hold_less k))) w.0 in
-    ap (λ xs. world_record d most c xs (with_items wires nws).items changed (t + k)) nodes
-    ∙ ap (λ r. world_record d most c (map (after_ticks k) (map f machines.items)) r changed (t + k)) rows
-    ∙ sym (still-turns k (world_record d most c (map f machines.items) wires.items changed t) e h)
