@@ -12,7 +12,9 @@ use Rattle.script_lines.specs.declared.kind.Kind as faults
 use Rattle.script_lines.specs.declared.kind.Kind.TheVariants.{Number, Twice, Range}
 use Rattle.script_lines.specs.declared.key.Key.{Key}
 use Rattle.script_lines.specs.declared.key.Key.TheVariants.{Speed, Link, Contender, Force, Power, Gap, Hold, Short, Long, Coins, Seed, Kind}
-use Rattle.script_lines.specs.Number.{of_digits, number_of}
+use Rattle.digits.specs.Digits.{of_digits}
+use Rattle.digits.proofs.Lemmas.{small_digits}
+use Rattle.script_lines.specs.Number.{number_of}
 use Rattle.std.specs.List.{list_all}
 use Rattle.script_lines.specs.Coins.{is_coin, are_coins}
 use Rattle.script_lines.specs.Shape.{out_of}
@@ -83,11 +85,6 @@ within least most n h = go (nat_le least n) (nat_le n most) refl refl h
     go true true f e h = (grind (arith, nat_tests), grind (arith, nat_tests))
     go true false f e h = absurd (cc)
     go false below f e h = absurd (cc)
-
-small_digits : (base most n : ℕ) (digits : List ℕ) → of_digits base most digits ≡ Some n →
-    n < 2 ^ 32
-unfolding of_digits
-small_digits base most n digits h = grind (arith, nat_tests)
 
 small_number : (word : List ℕ) (n : ℕ) → number_of word ≡ Some n → n < 2 ^ 32
 unfolding number_of

@@ -1,5 +1,4 @@
 pub mod Names
-pub mod Digits
 pub mod Parts
 pub mod GivenValues
 pub mod CoinBits

@@ -13,7 +13,8 @@ use Rattle.script_lines.specs.declared.command.Command.{Command}
 use Rattle.script_lines.specs.declared.command.Command.TheVariants.{Settle}
 use Rattle.script_text.specs.ReportText.{numbered}
 use Rattle.script_lines.specs.Words.{is_permitted, is_some_text}
-use Rattle.script_lines.specs.Number.{of_digits, number_of}
+use Rattle.digits.specs.Digits.{of_digits}
+use Rattle.script_lines.specs.Number.{number_of}
 use Rattle.script_lines.specs.Name.{is_name_char, is_name}
 use Rattle.script_lines.specs.Shape.{out_of}
 use Rattle.script_lines.specs.Form.{plug, pull, turn, settle}

@@ -13,7 +13,8 @@ use Rattle.std.specs.Str.Parse.{AllDigits, digits_value_after}
 use Rattle.port_state.specs.declared.ranges.TimeRanges.{TimeRanges}
 use Rattle.script_lines.specs.declared.command.Command.{Command}
 use Rattle.script_lines.specs.Words.{is_blank, is_permitted, is_some_text, words_of}
-use Rattle.script_lines.specs.Number.{of_digits, number_of}
+use Rattle.digits.specs.Digits.{of_digits}
+use Rattle.script_lines.specs.Number.{number_of}
 use Rattle.script_lines.proofs.Lemmas.{and_parts}
 use Rattle.script_lines.specs.Line.{IsCommand, is_skipped, IsRead, Reads}
 

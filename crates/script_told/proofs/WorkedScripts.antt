@@ -22,7 +22,8 @@ use Rattle.script_lines.specs.declared.command.Command.{Command}
 use Rattle.script_lines.specs.declared.command.Command.TheVariants.{Node, Plug, Pull, Turn, CsrRead, Delay, Times}
 use Rattle.script_lines.specs.Times.{profile_times}
 use Rattle.script_lines.specs.Words.{words_of}
-use Rattle.script_lines.specs.Number.{number_of, of_digits}
+use Rattle.digits.specs.Digits.{of_digits}
+use Rattle.script_lines.specs.Number.{number_of}
 use Rattle.script_lines.specs.Name.{is_name}
 use Rattle.script_lines.specs.Line.{IsRead, Reads}
 use Rattle.script_text.specs.ReportText.{report_line, numbered, none}

@@ -4,8 +4,8 @@ use Rattle.std.specs.Prelude.{fold, nat_lt, nat_le, if◌then◌else◌}
 use Rattle.std.specs.Char.{digit_value}
 use Rattle.std.proofs.lemmas.Bool.Decides.{nat_tests}
 use Rattle.std.proofs.Math.Nat.{mul-le-mul_left}
-use Rattle.script_lines.specs.Number.{are_digits, value, of_digits}
-use Rattle.script_lines.specs.codings.Digits.{digits_from}
+use Rattle.digits.specs.Digits.{are_digits, value, of_digits}
+use Rattle.digits.specs.codings.Going.{digits_from}
 
 -- what further digits make of a number
 abbrev go_on : ℕ → ℕ → List ℕ → ℕ
@@ -72,3 +72,8 @@ pub no_digits : (base most : ℕ) (digits : List ℕ) → length digits ≡ 0
     → None ≡ of_digits base most digits
 unfolding of_digits
 no_digits base most digits h = grind (arith, nat_tests)
+
+pub small_digits : (base most n : ℕ) (digits : List ℕ) → of_digits base most digits ≡ Some n →
+    n < 2 ^ 32
+unfolding of_digits
+small_digits base most n digits h = grind (arith, nat_tests)

@@ -1,6 +1,6 @@
 use Rattle.std.proofs.Common.{◌≡◌, drop}
-use Rattle.script_lines.specs.codings.Digits.{digits_from}
-use Rattle.script_lines.proofs.number.value.Given as goal
+use Rattle.digits.specs.codings.Going.{digits_from}
+use Rattle.digits.proofs.number.value.Given as goal
 
 abbrev pub invariant-loop-c : goal.invariant-loop-c
 invariant-loop-c l =
