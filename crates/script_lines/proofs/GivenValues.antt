@@ -12,8 +12,8 @@ use Rattle.script_lines.specs.declared.kind.Kind as faults
 use Rattle.script_lines.specs.declared.kind.Kind.TheVariants.{Number, Twice, Range}
 use Rattle.script_lines.specs.declared.key.Key.{Key}
 use Rattle.script_lines.specs.declared.key.Key.TheVariants.{Speed, Link, Contender, Force, Power, Gap, Hold, Short, Long, Coins, Seed, Kind}
-use Rattle.digits.specs.Digits.{of_digits}
-use Rattle.digits.proofs.Lemmas.{small_digits}
+use Rattle.line_words.specs.Digits.{of_digits}
+use Rattle.line_words.proofs.Lemmas.{small_digits}
 use Rattle.script_lines.specs.Number.{number_of}
 use Rattle.std.specs.List.{list_all}
 use Rattle.script_lines.specs.Coins.{is_coin, are_coins}

@@ -2,8 +2,6 @@
 
 -- What a line is: what its reader says, and nothing else.
 pub use Rattle.script_lines.proofs.LineRead.{one_reading, reads, some_reading}
--- Cutting a line at its first blank, and a text at its first line feed.
-pub use Rattle.script_lines.proofs.Parts.{cut, uncut}
 -- The numbers of each command that a line says are in their ranges.
 pub use Rattle.script_lines.proofs.Ranged.{in-range}
 -- A line of words has one form at most.

@@ -5,13 +5,14 @@ use Rattle.std.specs.Option.{option_or}
 use Rattle.std.proofs.lemmas.Bool.Decides.{nat_tests}
 use Rattle.port_state.specs.declared.ranges.TimeRanges.{TimeRanges}
 use Rattle.script_lines.specs.declared.command.Command.TheVariants.{Turn}
-use Rattle.script_lines.specs.Words.{is_blank, is_some_text, words_of}
+use Rattle.line_words.specs.Words.{is_some_text}
+use Rattle.script_lines.specs.Words.{is_blank, words_of}
 use Rattle.script_lines.specs.Number.{number_of}
 use Rattle.script_lines.specs.Shape.{wrong_number}
 use Rattle.script_lines.specs.Form.{turn}
 use Rattle.script_lines.specs.Line.{IsCommand, IsRead, other}
 use Rattle.script_lines.specs.codings.Reading.{IsWord}
-use Rattle.script_lines.proofs.Parts.{words_of_cut, words_of_whole}
+use Rattle.script_lines.proofs.Parts.{words_cut, words_whole}
 
 one-text : (text : List ℕ) → 0 < length text → filter is_some_text (text ∷ []) ≡ text ∷ []
 one-text [] some = absurd (omega (arith, some))
@@ -20,8 +21,8 @@ one-text (c ∷ cs) some = grind (arith, nat_tests)
 two-words : (word : List ℕ) → IsWord word → words_of (codes "turn " ++ word) ≡ codes "turn" ∷ word ∷ []
 two-words word w =
     let blank : position is_blank (codes "turn " ++ word) ≡ Some 4 = grind (arith, nat_tests) in
-    words_of_cut (codes "turn " ++ word) 4 blank
-    ∙ ap (λ (words : List (List ℕ)). codes "turn" ∷ words) (words_of_whole word w.whole ∙ one-text word w.some)
+    words_cut is_blank (codes "turn " ++ word) 4 blank
+    ∙ ap (λ (words : List (List ℕ)). codes "turn" ∷ words) (words_whole is_blank word w.whole ∙ one-text word w.some)
 
 is-turn : (times : TimeRanges) (word : List ℕ) (count : ℕ) → wrong_number 1 2000000 word ≡ None →
     number_of word ≡ Some count → IsCommand times (codes "turn" ∷ word ∷ []) (Turn count)

@@ -1,7 +1,7 @@
 -- The numbers of a script.
 use Rattle.std.specs.Prelude.{ℕ, List, take, drop, codes, Option, if◌then◌else◌}
 use Rattle.std.specs.Str.{bytes_eq}
-use Rattle.digits.specs.Digits.{of_digits}
+use Rattle.line_words.specs.Digits.{of_digits}
 
 -- the number of a word: 1 to 10 decimal digits, or `0x` and 1 to 8 hexadecimal digits
 unfoldable pub number_of : List ℕ → Option ℕ

@@ -1,17 +1,14 @@
 -- The words of a line.
-use Rattle.std.specs.Prelude.{ℕ, ◌==◌, ◌||◌, ◌&&◌, not, nat_le, Bool, List, length, filter}
-use Rattle.std.specs.List.{slice_split}
+use Rattle.std.specs.Prelude.{ℕ, ◌==◌, ◌||◌, ◌&&◌, nat_le, Bool, List}
+use Rattle.line_words.specs.Words.{words_by}
 
 -- a space or a tab
 abbrev pub is_blank : ℕ → Bool
 is_blank c = (c == 32) || (c == 9)
 
-abbrev pub is_some_text : List ℕ → Bool
-is_some_text text = not (length text == 0)
-
 -- the words of a line are what stands between blanks
-unfoldable pub words_of : List ℕ → List (List ℕ)
-words_of line = filter is_some_text (slice_split is_blank line)
+abbrev pub words_of : List ℕ → List (List ℕ)
+words_of line = words_by is_blank line
 
 -- the tab, and the characters from the space to the tilde
 abbrev pub is_permitted : ℕ → Bool

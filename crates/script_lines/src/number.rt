@@ -2,7 +2,7 @@
 ghost use Rattle.std.specs.Prelude.{◌≡◌};
 ghost use Rattle.script_lines.specs.Number.{number_of};
 
-use digits::of_digits;
+use line_words::of_digits;
 
 #[tactic(auto, unfolding(crate::specs::Number::number_of))]
 /// The number that a word spells: 1 to 10 decimal digits, or `0x` and 1 to 8 hexadecimal digits of

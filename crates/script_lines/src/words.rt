@@ -1,6 +1,7 @@
 //! The words of a line.
 ghost use Rattle.std.specs.Prelude.{◌≡◌, ◌++◌, ◌∷◌, [], ◌<◌, length, IfOk, IfSome, IfNone, OnOk, filter, position};
-ghost use Rattle.script_lines.specs.Words.{is_blank, is_permitted, is_some_text, words_of};
+ghost use Rattle.line_words.specs.Words.{is_some_text};
+ghost use Rattle.script_lines.specs.Words.{is_blank, is_permitted, words_of};
 ghost use Rattle.std.specs.List.{list_all};
 
 use crate::word::Word;
@@ -24,7 +25,7 @@ pub(crate) fn first_blank(line: &[u8]) -> Option<usize>
 }
 
 /// What stands before the first blank of a line, and what stands behind it.
-#[tactic(auto, using(crate::proofs::Parts::words_of_cut, crate::proofs::Parts::words_of_whole))]
+#[tactic(auto, using(crate::proofs::Parts::words_cut, crate::proofs::Parts::words_whole))]
 fn cut(line: &[u8]) -> Option<(&[u8], &[u8])>
     ensures cut { IfSome result (λ parts. words_of line.now
         ≡ filter is_some_text (parts.0.now ∷ []) ++ words_of parts.1.now) }

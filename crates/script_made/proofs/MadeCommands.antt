@@ -12,8 +12,9 @@ use Rattle.script_made.specs.declared.made.End.{End}
 use Rattle.script_lines.specs.declared.command.Command.{Command}
 use Rattle.script_lines.specs.declared.command.Command.TheVariants.{Settle}
 use Rattle.script_text.specs.ReportText.{numbered}
-use Rattle.script_lines.specs.Words.{is_permitted, is_some_text}
-use Rattle.digits.specs.Digits.{of_digits}
+use Rattle.line_words.specs.Words.{is_some_text}
+use Rattle.script_lines.specs.Words.{is_permitted}
+use Rattle.line_words.specs.Digits.{of_digits}
 use Rattle.script_lines.specs.Number.{number_of}
 use Rattle.script_lines.specs.Name.{is_name_char, is_name}
 use Rattle.script_lines.specs.Shape.{out_of}

@@ -12,8 +12,9 @@ use Rattle.std.specs.Str.Lines.{strip_carriage_return}
 use Rattle.std.specs.Str.Parse.{AllDigits, digits_value_after}
 use Rattle.port_state.specs.declared.ranges.TimeRanges.{TimeRanges}
 use Rattle.script_lines.specs.declared.command.Command.{Command}
-use Rattle.script_lines.specs.Words.{is_blank, is_permitted, is_some_text, words_of}
-use Rattle.digits.specs.Digits.{of_digits}
+use Rattle.line_words.specs.Words.{is_some_text, words_by}
+use Rattle.script_lines.specs.Words.{is_blank, is_permitted, words_of}
+use Rattle.line_words.specs.Digits.{of_digits}
 use Rattle.script_lines.specs.Number.{number_of}
 use Rattle.script_lines.proofs.Lemmas.{and_parts}
 use Rattle.script_lines.specs.Line.{IsCommand, is_skipped, IsRead, Reads}
@@ -99,7 +100,7 @@ kept (w ∷ ws) h = go (is_some_text w) h.0.some (kept ws h.1)
 
 words_are : (w : List ℕ) (ws : List (List ℕ)) → IsWord w → AreWords ws →
     words_of (w ++ spaced ws) ≡ w ∷ ws
-unfolding words_of
+unfolding words_by
 words_are w ws h hs = ap (filter is_some_text) (split_words w ws h hs) ∙ kept (w ∷ ws) (h, hs)
 
 all_permitted : (w : List ℕ) (ws : List (List ℕ)) → IsWord w → AreWords ws

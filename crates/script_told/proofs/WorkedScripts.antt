@@ -21,8 +21,9 @@ use Rattle.script_lines.specs.declared.kind.Kind.TheVariants.{Word, Late, InUse,
 use Rattle.script_lines.specs.declared.command.Command.{Command}
 use Rattle.script_lines.specs.declared.command.Command.TheVariants.{Node, Plug, Pull, Turn, CsrRead, Delay, Times}
 use Rattle.script_lines.specs.Times.{profile_times}
+use Rattle.line_words.specs.Words.{words_by}
 use Rattle.script_lines.specs.Words.{words_of}
-use Rattle.digits.specs.Digits.{of_digits}
+use Rattle.line_words.specs.Digits.{of_digits}
 use Rattle.script_lines.specs.Number.{number_of}
 use Rattle.script_lines.specs.Name.{is_name}
 use Rattle.script_lines.specs.Line.{IsRead, Reads}
@@ -150,7 +151,7 @@ past w h =
     lt-ltb 2000000 (w.turns + quiet_turns_of w) (omega (arith, h.turns, quiet, more))
 
 too-many-turns : IsTold (codes "turn 2000000") (Err (fault_at 2 TooManyTurns))
-unfolding words_of number_of of_digits is_name
+unfolding words_by number_of of_digits is_name
 too-many-turns =
     let bus : Bus = bus_of_nodes 4 (profile_times 4) [] [] in
     let after : Bus = record bus { world = turns_after 2000000 nothing } in
@@ -220,7 +221,7 @@ fifth :
     script_lines (desk ++ line) ≡ codes "node a 3" ∷ from-second line →
     RunsFrom 5 (line ∷ []) (running joined) (stopped 5 kind) →
     IsTold (desk ++ line) (Err (fault_at 5 kind))
-unfolding words_of number_of of_digits is_name
+unfolding words_by number_of of_digits is_name
 fifth line kind split rest =
     let end : ScriptRun = stopped 5 kind in
     let plugged : ScriptRun =
@@ -246,41 +247,41 @@ fifth line kind split rest =
     )
 
 in-use : IsTold (desk ++ codes "plug a 0 c 0") (Err (fault_at 5 InUse))
-unfolding words_of number_of of_digits is_name
+unfolding words_by number_of of_digits is_name
 in-use =
     fifth (codes "plug a 0 c 0") InUse refl
     (refused 5 (codes "plug a 0 c 0") [] (running joined) (Plug (codes "a") 0 (codes "c") 0) InUse
     refl (Err InUse, refl, refl))
 
 same-node : IsTold (desk ++ codes "plug c 0 c 1") (Err (fault_at 5 SameNode))
-unfolding words_of number_of of_digits is_name
+unfolding words_by number_of of_digits is_name
 same-node =
     fifth (codes "plug c 0 c 1") SameNode refl
     (refused 5 (codes "plug c 0 c 1") [] (running joined) (Plug (codes "c") 0 (codes "c") 1)
     SameNode refl (Err SameNode, refl, refl))
 
 not-plugged : IsTold (desk ++ codes "pull c 0") (Err (fault_at 5 NotPlugged))
-unfolding words_of number_of of_digits is_name
+unfolding words_by number_of of_digits is_name
 not-plugged =
     fifth (codes "pull c 0") NotPlugged refl
     (refused 5 (codes "pull c 0") [] (running joined) (Pull (codes "c") 0) NotPlugged
     refl (Err NotPlugged, refl, refl))
 
 late : IsTold (desk ++ codes "node e 3") (Err (fault_at 5 Late))
-unfolding words_of number_of of_digits is_name
+unfolding words_by number_of of_digits is_name
 late =
     fifth (codes "node e 3") Late refl
     (refused 5 (codes "node e 3") [] (running joined) (plain (codes "e")) Late refl refl)
 
 not-settled : IsTold (desk ++ codes "csr a read 0x220") (Err (fault_at 5 NotSettled))
-unfolding words_of number_of of_digits is_name
+unfolding words_by number_of of_digits is_name
 not-settled =
     fifth (codes "csr a read 0x220") NotSettled refl
     (refused 5 (codes "csr a read 0x220") [] (running joined) (CsrRead (codes "a") 0x220) NotSettled
     refl (Err NotSettled, refl, refl))
 
 no-command : IsTold (desk ++ codes "plug a 0 b") (Err (fault_at 5 Word))
-unfolding words_of number_of of_digits is_name
+unfolding words_by number_of of_digits is_name
 no-command =
     fifth (codes "plug a 0 b") Word refl
     (bad 5 (codes "plug a 0 b") [] (running joined) Word refl)
@@ -288,7 +289,7 @@ no-command =
 -- ---- lines that are skipped
 
 skipped-lines : IsTold (codes "# none\n\n  \r\nplug a 0 b") (Err (fault_at 4 Word))
-unfolding words_of number_of of_digits is_name
+unfolding words_by number_of of_digits is_name
 skipped-lines =
     let run : ScriptRun = stopped 4 Word in (
       run,
@@ -315,7 +316,7 @@ second-line :
     (line : List ℕ) (kind : Kind) → script_lines (codes "times 1394a 170\n" ++ line) ≡ said-times ∷ line ∷ [] →
     RunsFrom 2 (line ∷ []) timed (stopped 2 kind) →
     IsTold (codes "times 1394a 170\n" ++ line) (Err (fault_at 2 kind))
-unfolding words_of number_of of_digits is_name
+unfolding words_by number_of of_digits is_name
 second-line line kind split rest =
     let end : ScriptRun = stopped 2 kind in
     let whole : ScriptRun = behind (done 1 fresh (Times Ieee2000 170) timed [] ∷ []) end in (
@@ -326,27 +327,27 @@ second-line line kind split rest =
     )
 
 times-twice : IsTold (codes "times 1394a 170\n" ++ said-times) (Err (fault_at 2 Late))
-unfolding words_of number_of of_digits is_name
+unfolding words_by number_of of_digits is_name
 times-twice =
     second-line said-times Late refl
     (refused 2 said-times [] timed (Times Ieee2000 170) Late refl refl)
 
 delay-behind-times : IsTold (codes "times 1394a 170\n" ++ codes "delay 4") (Err (fault_at 2 Late))
-unfolding words_of number_of of_digits is_name
+unfolding words_by number_of of_digits is_name
 delay-behind-times =
     second-line (codes "delay 4") Late refl
     (refused 2 (codes "delay 4") [] timed (Delay 4) Late refl refl)
 
 -- a hold may be 3920 to 3923 ticks
 hold-of-the-profile : IsTold (codes "times 1394a 170\n" ++ codes "node a 3 hold 3924") (Err (fault_at 2 Range))
-unfolding words_of number_of of_digits is_name
+unfolding words_by number_of of_digits is_name
 hold-of-the-profile =
     second-line (codes "node a 3 hold 3924") Range refl
     (bad 2 (codes "node a 3 hold 3924") [] timed Range refl)
 
 -- by 1394-1995 a short wait may be 5 ticks, which a signal takes over the cable and back
 too-slow : IsTold (codes "times 1394-1995 170") (Err (fault_at 1 Range))
-unfolding words_of number_of of_digits is_name
+unfolding words_by number_of of_digits is_name
 too-slow =
     let run : ScriptRun = stopped 1 Range in (
       run,

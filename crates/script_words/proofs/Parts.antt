@@ -3,7 +3,7 @@ use Rattle.std.proofs.Common.{◌≡◌, ℕ, ◌≤◌, Bool, List, [], ◌∷�
 use Rattle.std.specs.Prelude.{position}
 use Rattle.std.specs.List.{slice_split, position_or_len}
 use Rattle.std.proofs.lemmas.Bool.Decides.{nat_tests}
-use Rattle.script_lines.proofs.Lemmas.{uncut}
+use Rattle.line_words.proofs.Lemmas.{uncut}
 
 pub whole : (p : ℕ → Bool) (text : List ℕ) → position p text ≡ None →
     slice_split p text ≡ text ∷ []

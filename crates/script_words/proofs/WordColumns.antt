@@ -5,7 +5,9 @@ use Rattle.std.proofs.lemmas.Bool.{eqb-true}
 use Rattle.std.specs.List.{slice_split, onto_first}
 use Rattle.std.proofs.lemmas.List.Splits.{slice_split-cons_yes, slice_split-cons_no}
 use Rattle.std.proofs.lemmas.Option.{get_or_from_slice_get}
-use Rattle.script_lines.specs.Words.{is_blank, is_some_text, words_of}
+use Rattle.line_words.specs.Words.{is_some_text, words_by}
+use Rattle.line_words.proofs.Lemmas.{some_text}
+use Rattle.script_lines.specs.Words.{is_blank, words_of}
 use Rattle.script_words.specs.Column.{begins, columns, ends_blank, ColumnsAreOfWords}
 
 -- ---- the parts of a line, of which the first may go on a word before
@@ -20,13 +22,6 @@ record IsCut (xs : List ℕ) : Type 0 where
   behind : List ℕ
   is : slice_split is_blank xs ≡ head ∷ others
   front : xs ≡ head ++ behind
-
-not-zero : (n : ℕ) → (suc n == 0) ≡ false
-not-zero n = go (suc n == 0) refl
-  where
-    go : (b : Bool) → (suc n == 0) ≡ b → b ≡ false
-    go true e = let z : suc n ≡ 0 = eqb-true (suc n) 0 e in absurd (omega (arith, z))
-    go false e = refl
 
 cut-blank : (x : ℕ) (xs : List ℕ) → is_blank x ≡ true → IsCut (x ∷ xs)
 cut-blank x xs e = record {
@@ -76,18 +71,13 @@ words-inside x xs e =
     ap (λ (ps : List (List ℕ)). filter is_some_text (others-of ps)) (slice_split-cons_no is_blank x xs e ∙ ap (λ (ps : List (List ℕ)). onto_first x ps) c.is)
     ∙ ap (λ (ps : List (List ℕ)). filter is_some_text (others-of ps)) (sym c.is)
 
-some-text : (x : ℕ) (f : List ℕ) (os : List (List ℕ)) →
-    filter is_some_text ((x ∷ f) ∷ os) ≡ (x ∷ f) ∷ filter is_some_text os
-some-text x f os =
-    ap (λ (b : Bool). cond (not b) ((x ∷ f) ∷ filter is_some_text os) (filter is_some_text os)) (not-zero (length f))
-
 words-begin : (x : ℕ) (xs : List ℕ) → is_blank x ≡ false →
     (c : IsCut xs) × (words_from true (x ∷ xs) ≡ (x ∷ c.head) ∷ words_from false xs)
 words-begin x xs e =
     let c : IsCut xs = cut-line xs in (
       c,
       ap (λ (ps : List (List ℕ)). filter is_some_text ps) (slice_split-cons_no is_blank x xs e ∙ ap (λ (ps : List (List ℕ)). onto_first x ps) c.is)
-          ∙ some-text x c.head c.others
+          ∙ some_text x c.head c.others
           ∙ ap (λ (ps : List (List ℕ)). (x ∷ c.head) ∷ filter is_some_text (others-of ps)) (sym c.is),
     )
 
@@ -183,7 +173,7 @@ placed (x ∷ xs) b n k word e = go (λ c j h. placed xs c (n + 1) j word h) (is
     go next false o c k e = word-at next c o k e
 
 pub columns_of_words : ColumnsAreOfWords
-unfolding words_of
+unfolding words_by
 columns_of_words line number word e =
     let p : Placed true 1 line number word = placed line true 1 number word e in
     let z : 1 + length p.before ≡ length p.before + 1 = omega arith in

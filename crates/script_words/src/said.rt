@@ -42,7 +42,7 @@ fn behind_first<'p, 'a>(lines: &'p [Text<'a>]) -> &'p [Text<'a>]
 }
 
 /// The words of the first of these lines.
-#[tactic(auto, unfolding(script_lines::specs::Words::words_of))]
+#[tactic(auto, unfolding(line_words::specs::Words::words_by))]
 fn words_of_first<'a>(alloc: Global, lines: &[Text<'a>]) -> Result<Vec<Text<'a>>, OutOfMemory>
     ensures { IfOk result (λ words. words.items ≡ words_in (slice_index_or lines.now 0 [])) }
 {

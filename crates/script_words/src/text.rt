@@ -2,7 +2,8 @@
 ghost use Rattle.std.specs.Prelude.{◌≡◌, ◌<◌, ◌∷◌, [], length, position, slice_index_or, filter, IfOk, IfSome, IfNone, IsTrue, ◌↔◌};
 ghost use Rattle.std.specs.List.{slice_split};
 ghost use Rattle.std.specs.Str.{bytes_eq};
-ghost use Rattle.script_lines.specs.Words.{is_some_text, words_of};
+ghost use Rattle.line_words.specs.Words.{is_some_text};
+ghost use Rattle.script_lines.specs.Words.{words_of};
 ghost use Rattle.script_lines.specs.Form.{word_at};
 ghost use Rattle.script_words.specs.Before.{feed_lines};
 ghost use Rattle.script_words.specs.codings.Marks.{is_mark};
@@ -127,7 +128,7 @@ fn some_of<'a>(alloc: Global, parts: &[Text<'a>]) -> Result<Vec<Text<'a>>, OutOf
 }
 
 /// The words of a line.
-#[tactic(auto, unfolding(script_lines::specs::Words::words_of))]
+#[tactic(auto, unfolding(line_words::specs::Words::words_by))]
 pub(crate) fn words_of(alloc: Global, line: &[u8]) -> Result<Vec<Text<'_>>, OutOfMemory>
     ensures { IfOk result (λ words. words.items ≡ words_of line.now) }
 {

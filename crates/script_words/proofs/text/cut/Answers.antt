@@ -1,6 +1,6 @@
 use Rattle.std.proofs.Common.{arith, sym}
 use Rattle.std.proofs.lemmas.Grind.{common_steps}
-use Rattle.script_lines.proofs.Lemmas.{cut}
+use Rattle.line_words.proofs.Lemmas.{cut}
 use Rattle.script_words.proofs.Parts.{whole}
 use Rattle.script_words.specs.codings.Marks.{is_mark}
 use Rattle.script_words.proofs.text.cut.Goals as goal

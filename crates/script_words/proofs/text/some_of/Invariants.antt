@@ -1,6 +1,6 @@
 use Rattle.std.proofs.Common.{◌≡◌, ◌++◌, drop}
 use Rattle.std.specs.Prelude.{filter}
-use Rattle.script_lines.specs.Words.{is_some_text}
+use Rattle.line_words.specs.Words.{is_some_text}
 use Rattle.script_words.proofs.text.some_of.Given as goal
 
 abbrev pub invariant-loop-part : goal.invariant-loop-part

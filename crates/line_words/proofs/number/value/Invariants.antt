@@ -1,6 +1,6 @@
 use Rattle.std.proofs.Common.{◌≡◌, drop}
-use Rattle.digits.specs.codings.Going.{digits_from}
-use Rattle.digits.proofs.number.value.Given as goal
+use Rattle.line_words.specs.codings.Going.{digits_from}
+use Rattle.line_words.proofs.number.value.Given as goal
 
 abbrev pub invariant-loop-c : goal.invariant-loop-c
 invariant-loop-c l =

@@ -4,8 +4,8 @@ use Rattle.std.specs.Prelude.{fold, nat_lt, nat_le, if◌then◌else◌}
 use Rattle.std.specs.Char.{digit_value}
 use Rattle.std.proofs.lemmas.Bool.Decides.{nat_tests}
 use Rattle.std.proofs.Math.Nat.{mul-le-mul_left}
-use Rattle.digits.specs.Digits.{are_digits, value, of_digits}
-use Rattle.digits.specs.codings.Going.{digits_from}
+use Rattle.line_words.specs.Digits.{are_digits, value, of_digits}
+use Rattle.line_words.specs.codings.Going.{digits_from}
 
 -- what further digits make of a number
 abbrev go_on : ℕ → ℕ → List ℕ → ℕ

@@ -1,7 +1,7 @@
 //! The number that digits spell.
 ghost use Rattle.std.specs.Prelude.{◌≡◌, ◌≤◌, ◌^◌, ◌<◌};
-ghost use Rattle.digits.specs.Digits.{of_digits};
-ghost use Rattle.digits.specs.codings.Going.{digits_from};
+ghost use Rattle.line_words.specs.Digits.{of_digits};
+ghost use Rattle.line_words.specs.codings.Going.{digits_from};
 
 /// The number that these digits of the base spell. `None` where one of them is no digit of the
 /// base, or where the number doesn't fit.
