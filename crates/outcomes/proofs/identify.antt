@@ -1,11 +1,12 @@
 -- What two ends of a cable know of grants, packets and Done (IsIdentifying).
 --
--- `Messages`, `OneMessage`: lists of signals alone. `LateRows`: the cases of a tick. `Ports`,
--- `MarksKept`: a node's record (IsMarked). `Hearing`, `HearAll`, `GreetTicks`: a node hears and
--- ticks. `Lines`, `LinedHears`, `LinedTicks`, `LinedTurn`: a child cable, at either end (Line).
--- `GreetsTurn`, `IdentifiesTurn`: how the ends come to self identify, and what they tell each
--- other, is kept by a turn. `IdentifyingTurn` says it of worlds, `IdentifyingActs` of acts and
--- holds, `StaysIdentifying` of runs. `ListsFollow` and `Holders` have the laws that follow from it.
+-- `Messages`, `OneMessage`: lists of signals, and what Grant and Done have in common (IsKind).
+-- `LateRows`: the cases of a tick. `Ports`, `MarksKept`: a node's record (IsMarked). `Hearing`,
+-- `HearAll`, `GreetTicks`: a node hears and ticks. `Lines`, `LinedHears`, `LinedTicks`,
+-- `LinedTurn`: a child cable, at either end (Line). `GreetsTurn`, `IdentifiesTurn`: how the ends
+-- come to self identify, and what they tell each other, is kept by a turn. `IdentifyingTurn`
+-- says it of worlds, `IdentifyingActs` of acts and holds, `StaysIdentifying` of runs.
+-- `ListsFollow` and `Holders` have the laws that follow from it.
 pub mod Messages
 pub mod OneMessage
 pub mod Ports

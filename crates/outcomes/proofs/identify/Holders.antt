@@ -3,10 +3,10 @@
 -- or one Done, or one granted node waits for no child. The granted nodes that aren't in A0 form a
 -- way down from
 -- the root; at its lower end it is.
-use Rattle.std.proofs.Common.{◌≡◌, ◌≢◌, ◌⊎◌, inl, inr, ℕ, zero, suc, ◌-◌, ◌<◌, ◌≤◌, Bool, true, false, not, ◌&&◌, List, [], Option, Some, None, slice_get, length, refl, sym, ◌∙◌, ap, subst, arith, true≢false}
+use Rattle.std.proofs.Common.{◌≡◌, ◌≢◌, ◌⊎◌, inl, inr, ℕ, zero, suc, ◌-◌, ◌<◌, ◌≤◌, Bool, true, false, not, ◌&&◌, List, Option, Some, None, slice_get, length, refl, sym, ◌∙◌, ap, subst, arith, true≢false}
 use Rattle.std.proofs.lemmas.Bool.{eq-eqb, cases_eq, cases_lt, false_from_ne_true}
 use Rattle.std.proofs.lemmas.Option.{slice_get_within}
-use Rattle.outcomes.proofs.Common.{contrary, End, far, Holds, IsClosed, IsComponent, shared, Phase, SelfIdent, Signal, PortView, passes, is_connected, is_port, hears_packets, PortNode, CableWorld, wire_of, signals_of, leads_down, IsLawful, joined-of, in-component, same-port, some-same, IsAcyclic, is_ready, is_asked, is_named, IsMarked, is_grant, is_done, has_grant, has_done, parent_mode, child_mode, mode, IsIdentifying, end_at}
+use Rattle.outcomes.proofs.Common.{contrary, End, far, Holds, IsClosed, IsComponent, shared, Phase, SelfIdent, Signal, PortView, passes, is_connected, is_port, hears_packets, PortNode, CableWorld, wire_of, signals_of, leads_down, IsLawful, joined-of, in-component, same-port, some-same, IsAcyclic, is_ready, is_asked, is_named, IsMarked, mode, IsIdentifying, end_at}
 use Rattle.cabling.proofs.Lemmas.{same_end, one_other}
 use Rattle.cable_world.specs.Wire.{Wire}
 use Rattle.outcomes.specs.Holders.{Holder, grant, done, node, IsHolder, place, how_many, HasOneHolder}
@@ -15,7 +15,9 @@ use Rattle.outcomes.proofs.identify.MarksKept.{hears-late, one-awaited, waits-no
 use Rattle.outcomes.proofs.identify.Hearing.{parent-connected}
 use Rattle.outcomes.proofs.identify.ListsFollow as lists
 use Rattle.outcomes.proofs.identify.ListsFollow.{IsAbove}
-use Rattle.outcomes.proofs.identify.OneMessage.{IsKind, grants, dones, few-of, no-grant, no-done, child-grants-none, parent-says-none, found, end-of, both-false, two-parts}
+use Rattle.outcomes.proofs.identify.Messages.{IsKind, grants, dones}
+use Rattle.outcomes.proofs.identify.Lines.{no-grant-up, no-done-down}
+use Rattle.outcomes.proofs.identify.OneMessage.{few-of, wired, found, end-of, both-false, two-parts}
 
 -- ---- a set of nodes that no cable leaves, all in self identify or A0
 
@@ -396,21 +398,6 @@ module _
 
     -- ---- whose it is
 
-    -- a Grant is under way down to a child that isn't granted
-    wire-cable :
-        (a : End) → (P : List Signal → Bool) → P [] ≡ false → P (signals_of (wire_of w a).signals)
-        ≡ true → (b : End) × (far w.cabling a ≡ Some b)
-    wire-cable a P none h = go (far w.cabling a) refl
-      where
-        go : (o : Option End) → far w.cabling a ≡ o → (b : End) × (far w.cabling a ≡ Some b)
-        go None e = contrary h (ap (λ (u : Wire). P (signals_of u.signals)) (l.well_formed.unplugged a e) ∙ none)
-        go (Some b) e = (b, e)
-
-    and-true : (a g : Bool) → (a && not g) ≡ true → (a ≡ true) × (g ≡ false)
-    and-true true false h = (refl, refl)
-    and-true true true h = absurd (true≢false (sym h))
-    and-true false g h = absurd (true≢false (sym h))
-
     -- a node that awaits a child is active
     abbrev awaits-active :
         (k p : ℕ) (x : PortNode) → Holds set k → slice_get w.nodes k ≡ Some x →
@@ -421,28 +408,28 @@ module _
     unfolding Owned
     owner-of (node k) inside is = record { owner = k; active = record { is = is.is; at = is.at; inside = inside; granted = is.granted; unready = ap is_ready is.identifies }; owned = (refl, is.awaits_none) }
     owner-of (grant a) inside is =
-        let b = wire-cable a has_grant refl is in
+        let b = wired grants w l a is in
         let o = other-of a b.0 inside b.1 in
         let n = joined-of w a b.0 l.well_formed b.1 in
         elim (lists.one-above w l i a b.0 n.near o.is b.1 n.near_at o.at (all a.node n.near inside n.near_at) o.hears) [
           | inl s ↦
-              let both = and-true (is_asked n.near.state a.port) o.is.state.view.granted (sym s.line.granting ∙ is) in
+              let both = two-parts (is_asked n.near.state a.port) o.is.state.view.granted (sym s.line.granting ∙ is) in
               let unnamed = false_from_ne_true _ (λ e. contrary (s.line.readies (s.line.names e)) both.1) in
               record {
                 owner = a.node;
                 active = awaits-active a.node a.port n.near inside n.near_at both.0 unnamed;
                 owned = (a.port, refl, both.0, unnamed, record { other = o; above = s }, both.1);
               }
-          | inr s ↦ contrary is (no-grant (child_mode (is_asked o.is.state b.0.port) (is_named o.is.state b.0.port)) (signals_of (wire_of w a).signals) (child-grants-none (is_asked o.is.state b.0.port) (is_named o.is.state b.0.port)) s.line.fits_up)
+          | inr s ↦ contrary is (no-grant-up s.line)
         ]
     owner-of (done a) inside is =
-        let b = wire-cable a has_done refl is in
+        let b = wired dones w l a is in
         let o = other-of a b.0 inside b.1 in
         let n = joined-of w a b.0 l.well_formed b.1 in
         elim (lists.one-above w l i a b.0 n.near o.is b.1 n.near_at o.at (all a.node n.near inside n.near_at) o.hears) [
-          | inl s ↦ contrary is (no-done (parent_mode (is_ready o.is.state.view.phase) o.is.state.view.granted) (signals_of (wire_of w a).signals) (parent-says-none (is_ready o.is.state.view.phase) o.is.state.view.granted) s.line.fits_down)
+          | inl s ↦ contrary is (no-done-down s.line)
           | inr s ↦
-              let both = and-true (is_ready n.near.state.view.phase) (is_named o.is.state b.0.port) (sym s.line.naming ∙ is) in
+              let both = two-parts (is_ready n.near.state.view.phase) (is_named o.is.state b.0.port) (sym s.line.naming ∙ is) in
               let asked = s.line.grants (s.line.readies both.0) in
               record {
                 owner = b.0.node;
@@ -532,14 +519,15 @@ module _
           inside = f.inside;
           is = f.is;
           only = λ h there here. one-owner c member is h f.holder (owner-of h there here) (owner-of f.holder f.inside f.is);
-          one_grant = λ a there. few a there is_grant grants;
-          one_done = λ a there. few a there is_done dones;
+          one_grant = λ a there. few grants a there;
+          one_done = λ a there. few dones a there;
         }
       where
         few :
-            (a : End) → Holds set a.node → (test : Signal → Bool) → IsKind test →
+            {one : Signal} {test : Signal → Bool} {has : List Signal → Bool} →
+            IsKind one test has → (a : End) → Holds set a.node →
             how_many test (signals_of (wire_of w a).signals) ≤ 1
-        few a there test kind = go (far w.cabling a) refl
+        few {one} {test} {has} kind a there = go (far w.cabling a) refl
           where
             go :
                 (o : Option End) → far w.cabling a ≡ o →
@@ -548,4 +536,4 @@ module _
             go (Some b) e =
                 let o = other-of a b there e in
                 let n = joined-of w a b l.well_formed e in
-                few-of test kind (mode o.is.state b.port) (signals_of (wire_of w a).signals) ((i.cables b a o.is n.near (l.well_formed.cabling.both_ways a b e) o.at n.near_at).front o.hears)
+                few-of kind (mode o.is.state b.port) (signals_of (wire_of w a).signals) ((i.cables b a o.is n.near (l.well_formed.cabling.both_ways a b e) o.at n.near_at).front o.hears)

@@ -38,15 +38,18 @@ room :
     ≡ x.list.items ++ own_group x (node_count x.list.items)
 room x h =
     let id = node_count x.list.items in
-    let b = and_parts (nat_le id 62) (nat_le (length x.list.items + length (own_group x id)) 252) h in
-    kept-room x.list.items (own_group x id) (leb-true (length x.list.items + length (own_group x id)) 252 b.1)
+    let b =
+    and_parts (nat_le id 62) (nat_le (length x.list.items + length (own_group x id)) 252) h in
+    kept-room x.list.items (own_group x id)
+    (leb-true (length x.list.items + length (own_group x id)) 252 b.1)
 
 fits-in :
     (x : NodeState) → may_name x ≡ true →
     length x.list.items + length (own_group x (node_count x.list.items)) ≤ 252
 fits-in x h =
     let id = node_count x.list.items in
-    let b = and_parts (nat_le id 62) (nat_le (length x.list.items + length (own_group x id)) 252) h in
+    let b =
+    and_parts (nat_le id 62) (nat_le (length x.list.items + length (own_group x id)) 252) h in
     leb-true (length x.list.items + length (own_group x id)) 252 b.1
 
 -- ---- above
@@ -65,7 +68,9 @@ module _
   above-asks port none = rw named (go (port == p) refl)
     where
       named : is_named (with_port port (λ q. record q { asked = true }) x) p ≡ is_named x p
-      named = port_is-changed (λ q. q.named) port (λ q. record q { asked = true }) (λ q. refl) x.view.ports p
+      named =
+          port_is-changed (λ q. q.named) port (λ q. record q { asked = true }) (λ q. refl)
+          x.view.ports p
 
       go :
           (b : Bool) → (port == p) ≡ b →
@@ -73,23 +78,31 @@ module _
           y.view.granted (is_ready y.view.phase)
           x.list.items y.list.items (there ++ only b signal.Grant) back
       go true e =
-          let now : is_asked (with_port port (λ q. record q { asked = true }) x) p ≡ true = changed-here (λ q. q.asked) (λ q. q.child) port p (λ q. record q { asked = true }) x.view.ports (λ q. refl) (turned port p ∙ e) d in
+          let now : is_asked (with_port port (λ q. record q { asked = true }) x) p ≡ true =
+          changed-here (λ q. q.asked) (λ q. q.child) port p (λ q. record q { asked = true })
+          x.view.ports (λ q. refl) (turned port p ∙ e) d in
           rw now (asks-down (subst (λ i. is_asked x i ≡ false) (eqb-true port p e) none) l)
       go false e =
-          let now : is_asked (with_port port (λ q. record q { asked = true }) x) p ≡ is_asked x p = changed-other (λ q. q.asked) port p (λ q. record q { asked = true }) x.view.ports (turned port p ∙ e) in
+          let now : is_asked (with_port port (λ q. record q { asked = true }) x) p ≡ is_asked x p =
+          changed-other (λ q. q.asked) port p (λ q. record q { asked = true }) x.view.ports
+          (turned port p ∙ e) in
           rw now above-same
 
   above-names :
       lowest is_unnamed x.view.ports ≡ None → may_name x ≡ true → Line (is_asked x p) (is_named x p)
       y.view.granted (is_ready y.view.phase) (x.list.items ++ own_group x (node_count x.list.items))
       y.list.items
-      (there ++ sent_on p (packets_on_every (own_group x (node_count x.list.items)) x.view.ports ++ on_port x.view.parent signal.Done)) back
+      (there ++ sent_on p (packets_on_every (own_group x (node_count x.list.items)) x.view.ports
+      ++ on_port x.view.parent signal.Done)) back
   above-names low may =
       let quads = own_group x (node_count x.list.items) in
       let role = child-role x p v (hears-late x.view.phase h) d in
-      let sends : sent_on p (packets_on_every quads x.view.ports ++ on_port x.view.parent signal.Done) ≡ map packet quads =
-      names-sent x p quads role.1 ∙ ap (λ b. map packet quads ++ only b signal.Done) role.0 ∙ append-nil (map packet quads) in
-      let done : (is_asked x p && not (is_named x p)) ≡ false = none (is_asked x p) (is_named x p) (all-named x v (hears-late x.view.phase h) low p d) in
+      let sends : sent_on p (packets_on_every quads x.view.ports ++ on_port x.view.parent
+      signal.Done) ≡ map packet quads =
+      names-sent x p quads role.1 ∙ ap (λ b. map packet quads ++ only b signal.Done) role.0
+      ∙ append-nil (map packet quads) in
+      let done : (is_asked x p && not (is_named x p)) ≡ false =
+      none (is_asked x p) (is_named x p) (all-named x v (hears-late x.view.phase h) low p d) in
       rw (sends, ← room x may) (sends-all-down quads done (fits-in x may) l)
     where
       none : (a n : Bool) → n ≡ true → (a && not n) ≡ false
@@ -109,7 +122,8 @@ pub above-ticks :
     Lined (tick coin x).state p (there ++ sent_on p (tick coin x).sends) y back
 unfolding tick
 above-ticks coin x p there y back v h d l =
-    above-does (raise_timer x) p there y back (valid-raise_timer x v) h d l coin (next_row x) (late-row x h)
+    above-does (raise_timer x) p there y back (valid-raise_timer x v) h d l coin (next_row x)
+    (late-row x h)
 
 -- ---- below
 
@@ -126,27 +140,36 @@ module _
   below-asks port d = go (port == q) refl
     where
       go : (b : Bool) → (port == q) ≡ b → Lined x p there y (back ++ only b signal.Grant)
-      go true e = contrary i (ap (is_port y.view.parent) (sym (eqb-true port q e)) ∙ (child-role y port v (hears-late y.view.phase h) d).0)
+      go true e =
+          contrary i (ap (is_port y.view.parent) (sym (eqb-true port q e))
+          ∙ (child-role y port v (hears-late y.view.phase h) d).0)
       go false e = below-same
 
   below-names :
       y.view.phase ≡ SelfIdent → y.view.granted ≡ true → may_name y ≡ true → Line (is_asked x p)
       (is_named x p)
       y.view.granted true x.list.items (y.list.items ++ own_group y (node_count y.list.items)) there
-      (back ++ sent_on q (packets_on_every (own_group y (node_count y.list.items)) y.view.ports ++ on_port y.view.parent signal.Done))
+      (back ++ sent_on q (packets_on_every (own_group y (node_count y.list.items)) y.view.ports
+      ++ on_port y.view.parent signal.Done))
   below-names e g may =
       let quads = own_group y (node_count y.list.items) in
-      let sends : sent_on q (packets_on_every quads y.view.ports ++ on_port y.view.parent signal.Done) ≡ map packet quads ++ signal.Done ∷ [] =
-      names-sent y q quads (parent-connected y q v h i) ∙ ap (λ b. map packet quads ++ only b signal.Done) i in
+      let sends : sent_on q (packets_on_every quads y.view.ports ++ on_port y.view.parent
+      signal.Done) ≡ map packet quads ++ signal.Done ∷ [] =
+      names-sent y q quads (parent-connected y q v h i)
+      ∙ ap (λ b. map packet quads ++ only b signal.Done) i in
       let r : is_ready y.view.phase ≡ false = ap is_ready e in
       rw (sends, g, ← room y may, ← append_assoc back (map packet quads) (signal.Done ∷ []))
-      (done-up (sends-all-up quads (fits-in y may) (subst (λ b. Line (is_asked x p) (is_named x p) b false x.list.items y.list.items there back) g (subst (λ b. Line (is_asked x p) (is_named x p) y.view.granted b x.list.items y.list.items there back) r l))))
+      (done-up (sends-all-up quads (fits-in y may)
+      (subst (λ b. Line (is_asked x p) (is_named x p) b false x.list.items y.list.items there back)
+      g (subst (λ b. Line (is_asked x p) (is_named x p) y.view.granted b x.list.items y.list.items
+      there back) r l))))
 
   below-does :
       (coin : Bool) (r : Row) → LateRow y r →
       Lined x p there (does coin r y).state (back ++ sent_on q (does coin r y).sends)
   below-does coin r rests = below-same
-  below-does coin r (asks_next k a) = below-asks k (is-unnamed y.view.ports k (lowest-is is_unnamed y.view.ports k a.next))
+  below-does coin r (asks_next k a) =
+      below-asks k (is-unnamed y.view.ports k (lowest-is is_unnamed y.view.ports k a.next))
   below-does coin r (names_now n) = below-names n.phase n.granted n.room
 
 pub below-ticks :
@@ -157,7 +180,8 @@ pub below-ticks :
     Lined x p there (tick coin y).state (back ++ sent_on q (tick coin y).sends)
 unfolding tick
 below-ticks coin y q back x p there v h i l =
-    below-does (raise_timer y) q back x p there (valid-raise_timer y v) h i l coin (next_row y) (late-row y h)
+    below-does (raise_timer y) q back x p there (valid-raise_timer y v) h i l coin (next_row y)
+    (late-row y h)
 
 -- ---- a child that waits for its grant
 
@@ -165,7 +189,13 @@ waits-does :
     (coin : Bool) (r : Row) (y : NodeState) (q : ℕ) (back there : List Signal) →
     LateRow y r → Waiting y q back there →
     Waiting (does coin r y).state q (back ++ sent_on q (does coin r y).sends) there
-waits-does coin r y q back there rests w = record { parent = w.parent; ungranted = w.ungranted; nothing = w.nothing; said = silent-append back [] w.said refl; comes = w.comes }
+waits-does coin r y q back there rests w = record {
+  parent = w.parent;
+  ungranted = w.ungranted;
+  nothing = w.nothing;
+  said = silent-append back [] w.said refl;
+  comes = w.comes;
+}
 waits-does coin r y q back there (asks_next k a) w = contrary a.granted w.ungranted
 waits-does coin r y q back there (names_now n) w = contrary n.granted w.ungranted
 
@@ -176,7 +206,13 @@ pub waits-ticks :
 unfolding tick
 waits-ticks coin y q back there h w =
     waits-does coin (next_row y) (raise_timer y) q back there (late-row y h)
-    (record { parent = w.parent; ungranted = w.ungranted; nothing = w.nothing; said = w.said; comes = w.comes })
+    (record {
+      parent = w.parent;
+      ungranted = w.ungranted;
+      nothing = w.nothing;
+      said = w.said;
+      comes = w.comes;
+    })
 
 -- ---- what may come to each port
 
@@ -190,7 +226,9 @@ module _
   front-asks port d none = rw named (go (port == j) refl)
     where
       named : is_named (with_port port (λ q. record q { asked = true }) x) j ≡ is_named x j
-      named = port_is-changed (λ q. q.named) port (λ q. record q { asked = true }) (λ q. refl) x.view.ports j
+      named =
+          port_is-changed (λ q. q.named) port (λ q. record q { asked = true }) (λ q. refl)
+          x.view.ports j
 
       opens :
           (i : Bool) (n k : Mode) (a c : Bool) → i ≡ false → a ≡ false →
@@ -201,21 +239,32 @@ module _
 
       go :
           (b : Bool) → (port == j) ≡ b →
-          fits (mode_of (is_port x.view.parent j) (parent_mode (is_ready x.view.phase) x.view.granted) (child_mode (is_asked (with_port port (λ q. record q { asked = true }) x) j) (is_named x j)))
+          fits (mode_of (is_port x.view.parent j)
+          (parent_mode (is_ready x.view.phase) x.view.granted)
+          (child_mode (is_asked (with_port port (λ q. record q { asked = true }) x) j)
+          (is_named x j)))
           ss ≡ true
       go true e =
-          let here : leads_down x.view.ports j ≡ true = ap (leads_down x.view.ports) (sym (eqb-true port j e)) ∙ d in
-          opens (is_port x.view.parent j) (parent_mode (is_ready x.view.phase) x.view.granted) (child_mode (is_asked (with_port port (λ q. record q { asked = true }) x) j) (is_named x j)) (is_asked x j) (is_named x j)
-          (child-role x j v (hears-late x.view.phase h) here).0 (subst (λ i. is_asked x i ≡ false) (eqb-true port j e) none) f
+          let here : leads_down x.view.ports j ≡ true =
+          ap (leads_down x.view.ports) (sym (eqb-true port j e)) ∙ d in
+          opens (is_port x.view.parent j) (parent_mode (is_ready x.view.phase) x.view.granted)
+          (child_mode (is_asked (with_port port (λ q. record q { asked = true }) x) j)
+          (is_named x j)) (is_asked x j) (is_named x j)
+          (child-role x j v (hears-late x.view.phase h) here).0
+          (subst (λ i. is_asked x i ≡ false) (eqb-true port j e) none) f
       go false e =
-          let now : is_asked (with_port port (λ q. record q { asked = true }) x) j ≡ is_asked x j = changed-other (λ q. q.asked) port j (λ q. record q { asked = true }) x.view.ports (turned port j ∙ e) in
+          let now : is_asked (with_port port (λ q. record q { asked = true }) x) j ≡ is_asked x j =
+          changed-other (λ q. q.asked) port j (λ q. record q { asked = true }) x.view.ports
+          (turned port j ∙ e) in
           rw now f
 
   front-names :
       x.view.phase ≡ SelfIdent → x.view.granted ≡ true →
-      fits (mode_of (is_port x.view.parent j) mode.packets (child_mode (is_asked x j) (is_named x j)))
+      fits (mode_of (is_port x.view.parent j) mode.packets
+      (child_mode (is_asked x j) (is_named x j)))
       ss ≡ true
-  front-names e g = go (is_port x.view.parent j) (is_ready x.view.phase) x.view.granted (ap is_ready e) g f
+  front-names e g =
+      go (is_port x.view.parent j) (is_ready x.view.phase) x.view.granted (ap is_ready e) g f
     where
       go :
           (i r b : Bool) → r ≡ false → b ≡ true →
@@ -230,7 +279,9 @@ module _
       (coin : Bool) (r : Row) → LateRow x r → fits (mode (does coin r x).state j)
       ss ≡ true
   front-does coin r rests = f
-  front-does coin r (asks_next k a) = front-asks k (is-unnamed x.view.ports k (lowest-is is_unnamed x.view.ports k a.next)) a.unasked
+  front-does coin r (asks_next k a) =
+      front-asks k (is-unnamed x.view.ports k (lowest-is is_unnamed x.view.ports k a.next))
+      a.unasked
   front-does coin r (names_now n) = front-names n.phase n.granted
 
 pub front-ticks :
@@ -239,7 +290,29 @@ pub front-ticks :
     fits (mode (tick coin x).state j) ss ≡ true
 unfolding tick
 front-ticks coin x j ss v m h f =
-    front-does (raise_timer x) j ss (valid-raise_timer x v) (raised-marked x m) h f coin (next_row x) (late-row x h)
+    front-does (raise_timer x) j ss (valid-raise_timer x v) (raised-marked x m) h f coin
+    (next_row x) (late-row x h)
+
+-- a node that names itself awaits nothing
+pub names-silent :
+    (x : NodeState) (j : ℕ) (ss : List Signal) → IsValid x → IsMarked x →
+    hears_packets x.view.phase ≡ true → fits (mode x j) ss ≡ true → x.view.phase ≡ SelfIdent →
+    x.view.granted ≡ true → lowest is_unnamed x.view.ports ≡ None → silent ss ≡ true
+names-silent x j ss v m h f e g low =
+    go (is_port x.view.parent j) (is_ready x.view.phase) x.view.granted (is_asked x j)
+    (is_named x j)
+    (ap is_ready e) g refl refl f
+  where
+    go :
+        (i r b a n : Bool) → r ≡ false → b ≡ true → is_asked x j ≡ a → is_named x j ≡ n →
+        fits (mode_of i (parent_mode r b) (child_mode a n)) ss ≡ true → silent ss ≡ true
+    go true true b a n er eb ea en f = absurd (true≢false er)
+    go true false false a n er eb ea en f = absurd (true≢false (sym eb))
+    go true false true a n er eb ea en f = shut-silent ss f
+    go false r b true true er eb ea en f = shut-silent ss f
+    go false r b false n er eb ea en f = shut-silent ss f
+    go false r b true false er eb ea en f =
+        contrary (all-named x v (hears-late x.view.phase h) low j (m.asked j ea)) en
 
 -- ---- the room in the list
 
@@ -247,29 +320,19 @@ module _
     (x : NodeState) (j : ℕ) (ss : List Signal) (v : IsValid x) (m : IsMarked x)
     (h : hears_packets x.view.phase ≡ true) (f : fits (mode x j) ss ≡ true)
     (free : length x.list.items + length (quads_in ss) ≤ 252) where
-  -- a node that names itself awaits nothing
-  names-silent :
-      x.view.phase ≡ SelfIdent → x.view.granted ≡ true → lowest is_unnamed x.view.ports ≡ None →
-      silent ss ≡ true
-  names-silent e g low = go (is_port x.view.parent j) (is_ready x.view.phase) x.view.granted (is_asked x j) (is_named x j) (ap is_ready e) g refl refl f
-    where
-      go :
-          (i r b a n : Bool) → r ≡ false → b ≡ true → is_asked x j ≡ a → is_named x j ≡ n →
-          fits (mode_of i (parent_mode r b) (child_mode a n)) ss ≡ true → silent ss ≡ true
-      go true true b a n er eb ea en f = absurd (true≢false er)
-      go true false false a n er eb ea en f = absurd (true≢false (sym eb))
-      go true false true a n er eb ea en f = shut-silent ss f
-      go false r b true true er eb ea en f = shut-silent ss f
-      go false r b false n er eb ea en f = shut-silent ss f
-      go false r b true false er eb ea en f = contrary (all-named x v (hears-late x.view.phase h) low j (m.asked j ea)) en
-
   room-does :
       (coin : Bool) (r : Row) → LateRow x r →
       length (does coin r x).state.list.items ≤ 252 →
       length (does coin r x).state.list.items + length (quads_in ss) ≤ 252
   room-does coin r rests l = free
   room-does coin r (asks_next k a) l = free
-  room-does coin r (names_now n) l = omega (arith, l, ap length (silent-quads ss (names-silent n.phase n.granted n.last)))
+  room-does coin r (names_now n) l =
+      omega (
+        arith,
+        l,
+        ap length
+            (silent-quads ss (names-silent x j ss v m h f n.phase n.granted n.last)),
+      )
 
 pub room-ticks :
     (coin : Bool) (x : NodeState) (j : ℕ) (ss : List Signal) → IsValid x → IsMarked x →
@@ -278,7 +341,8 @@ pub room-ticks :
     length (tick coin x).state.list.items + length (quads_in ss) ≤ 252
 unfolding tick
 room-ticks coin x j ss v m h f free =
-    room-does (raise_timer x) j ss (valid-raise_timer x v) (raised-marked x m) h f free coin (next_row x) (late-row x h) (sound-tick coin x v).valid.bounded.list
+    room-does (raise_timer x) j ss (valid-raise_timer x v) (raised-marked x m) h f free coin
+    (next_row x) (late-row x h) (sound-tick coin x v).valid.bounded.list
 
 -- ---- phases
 
@@ -319,7 +383,9 @@ pub record Arrives (x y : NodeState) : Type 0 where
   pub list : y.list.items ≡ x.list.items
   pub how :
       (x.view.parent ≡ None)
-      ⊎ ((y.view.granted ≡ x.view.granted) × ((k : ℕ) → is_port x.view.parent k ≡ true → port_is (λ q. is_child q.shown) x.view.ports k ≡ true))
+      ⊎ ((y.view.granted ≡ x.view.granted)
+      × ((k : ℕ) → is_port x.view.parent k ≡ true → port_is (λ q. is_child q.shown) x.view.ports k
+      ≡ true))
 
 pub arrives :
     (coin : Bool) (x : NodeState) → hears_packets x.view.phase ≡ false →
@@ -340,14 +406,26 @@ arrives coin x h n = go (next_row x) (chosen x.view.phase (raise_timer x) refl) 
     go row.begins_tree c n = absurd (true≢false (sym n))
     go row.takes_roles c n = absurd (true≢false (sym n))
     go row.awaits_parent c n = absurd (true≢false (sym n))
-    go row.becomes_root c n = record { shakes = c.0; identifies = refl; parent = refl; ports = refl; list = refl; how = inl c.1 }
+    go row.becomes_root c n = record {
+      shakes = c.0;
+      identifies = refl;
+      parent = refl;
+      ports = refl;
+      list = refl;
+      how = inl c.1;
+    }
     go (row.finds_parent k) c n = record {
       shakes = c.0;
       identifies = refl;
       parent = refl;
       ports = refl;
       list = refl;
-      how = inr (refl, λ j e. subst (λ i. port_is (λ q. is_child q.shown) x.view.ports i ≡ true) (eqb-true k j (sym (ap (λ o. is_port o j) c.1) ∙ e)) c.2);
+      how =
+          inr (
+            refl,
+            λ j e. subst (λ i. port_is (λ q. is_child q.shown) x.view.ports i ≡ true)
+                (eqb-true k j (sym (ap (λ o. is_port o j) c.1) ∙ e)) c.2,
+          );
     }
     go (row.begins_contention k) c n = absurd (true≢false (sym n))
     go (row.takes_rival k) c n = absurd (true≢false (sym n))
@@ -376,8 +454,12 @@ tick-silent coin x k h = go (next_row x) (chosen x.view.phase (raise_timer x) re
     go :
         (r : Row) → Chosen r (raise_timer x) →
         silent (sent_on k (does coin r (raise_timer x)).sends) ≡ true
-    go row.ends_reset c = ap silent (on_every-port k signal.Idle x.view.ports) ∙ only-silent (is_connected x.view.ports k) signal.Idle refl
-    go row.takes_roles c = ap silent (notices-port k x.view.ports) ∙ notice (port_is asks x.view.ports k) (port_is is_remaining x.view.ports k)
+    go row.ends_reset c =
+        ap silent (on_every-port k signal.Idle x.view.ports)
+        ∙ only-silent (is_connected x.view.ports k) signal.Idle refl
+    go row.takes_roles c =
+        ap silent (notices-port k x.view.ports) ∙ notice (port_is asks x.view.ports k)
+        (port_is is_remaining x.view.ports k)
     go (row.finds_parent p) c = only-silent (p == k) signal.Idle refl
     go (row.begins_contention p) c = only-silent (p == k) signal.Idle refl
     go (row.takes_rival p) c = only-silent (p == k) signal.Child refl

@@ -1,13 +1,14 @@
 -- What becomes of a child cable as its ends hear and send.
-use Rattle.std.proofs.Common.{◌≡◌, ℕ, ◌+◌, ◌≤◌, Bool, true, false, not, ◌&&◌, ◌||◌, List, [], ◌∷◌, ◌++◌, map, length, length-append, if◌then◌else◌, refl, sym, ◌∙◌, ap, subst, append-nil, true≢false, arith}
+use Rattle.std.proofs.Common.{◌≡◌, ℕ, ◌+◌, ◌≤◌, Bool, true, false, not, ◌&&◌, List, [], ◌∷◌, ◌++◌, map, length, length-append, if◌then◌else◌, refl, sym, ◌∙◌, ap, subst, append-nil, true≢false, arith}
 use Rattle.std.specs.Prelude.{nat_lt}
+use Rattle.std.proofs.Math.Bool.{or-false, or-true}
 use Rattle.std.proofs.lemmas.Bool.{and_parts}
 use Rattle.std.proofs.lemmas.List.{append_assoc}
 use Rattle.outcomes.proofs.Common.{contrary, Signal, packet, with_packet, is_message, silent, quads_in, has_grant, has_done, kept, Mode, parent_mode, child_mode, allows, next, fits, Line}
 use Rattle.port_state.specs.declared.signal.Signal.TheVariants as signal
 use Rattle.outcomes.specs.Messages as mode
 use Rattle.outcomes.specs.Identify.{speaks}
-use Rattle.outcomes.proofs.identify.Messages.{quads-append, has_grant-append, has_done-append, kept-append, kept-room, silent-quads, silent-grant, silent-done, silent-fits, shut-silent, nexts, fits-add, nexts-packets, nexts-grant, nexts-done}
+use Rattle.outcomes.proofs.identify.Messages.{grants, dones, level-has, has-append, silent-has, none-comes, level-quads, quads-append, kept-append, kept-room, silent-quads, silent-fits, shut-silent, nexts, fits-add, nexts-packets, nexts-grant, nexts-done}
 
 -- ---- signals that change nothing
 
@@ -55,42 +56,39 @@ down-same {a} {n} {g} {r} {above} {below} {down} {now} {up} q e f l = record {
 pub level-fits :
     (m : Mode) (s : Signal) (ss : List Signal) → is_message s ≡ false → fits m (s ∷ ss) ≡ true →
     fits m ss ≡ true
-level-fits m s ss h f = let b = and_parts (allows m s) (fits (next m s) ss) f in subst (λ k. fits k ss ≡ true) (same m s h) b.1
+level-fits m s ss h f =
+    let b = and_parts (allows m s) (fits (next m s) ss) f in
+    subst (λ k. fits k ss ≡ true) (same m s h) b.1
   where
     same : (m : Mode) (s : Signal) → is_message s ≡ false → next m s ≡ m
     same m s h = grind arith
 
-level-quads :
-    (s : Signal) (ss : List Signal) → is_message s ≡ false → quads_in (s ∷ ss) ≡ quads_in ss
-level-quads signal.Reset ss h = refl
-level-quads signal.Idle ss h = refl
-level-quads signal.Parent ss h = refl
-level-quads signal.Child ss h = refl
-level-quads s ss h = absurd (true≢false h)
-
-level-grant :
-    (s : Signal) (ss : List Signal) → is_message s ≡ false → has_grant (s ∷ ss) ≡ has_grant ss
-level-grant signal.Grant ss h = absurd (true≢false h)
-level-grant s ss h = refl
-
-level-done :
-    (s : Signal) (ss : List Signal) → is_message s ≡ false → has_done (s ∷ ss) ≡ has_done ss
-level-done signal.Done ss h = absurd (true≢false h)
-level-done s ss h = refl
-
 pub up-level :
     {a n g r : Bool} {above below : List ℕ} {down up : List Signal} (s : Signal) →
     is_message s ≡ false → Line a n g r above below down (s ∷ up) → Line a n g r above below down up
-up-level {a} {n} {g} {r} {above} {below} {down} {up} s h l = up-same (sym (level-quads s up h)) (sym (level-done s up h)) (level-fits (child_mode a n) s up h) l
+up-level {a} {n} {g} {r} {above} {below} {down} {up} s h l =
+    up-same (sym (level-quads s up h)) (sym (level-has dones s up h))
+    (level-fits (child_mode a n) s up h) l
 
 pub down-level :
     {a n g r : Bool} {above below : List ℕ} {down up : List Signal} (s : Signal) →
     is_message s ≡ false → Line a n g r above below (s ∷ down) up → Line a n g r above below down up
-down-level {a} {n} {g} {r} {above} {below} {down} {up} s h l = down-same (sym (level-quads s down h)) (sym (level-grant s down h)) (level-fits (parent_mode r g) s down h) l
+down-level {a} {n} {g} {r} {above} {below} {down} {up} s h l =
+    down-same (sym (level-quads s down h)) (sym (level-has grants s down h))
+    (level-fits (parent_mode r g) s down h) l
 
--- levels are sent
-or-false : (b : Bool) → (b || false) ≡ b
-or-false b = grind arith
+-- no Grant goes up, and no Done down
+pub no-grant-up :
+    {a n g r : Bool} {above below : List ℕ} {down up : List Signal} →
+    Line a n g r above below down up → has_grant up ≡ false
+no-grant-up {a} {n} {g} {r} {above} {below} {down} {up} l =
+    none-comes grants (child_mode a n) up (grind arith) l.fits_up
+
+pub no-done-down :
+    {a n g r : Bool} {above below : List ℕ} {down up : List Signal} →
+    Line a n g r above below down up → has_done down ≡ false
+no-done-down {a} {n} {g} {r} {above} {below} {down} {up} l =
+    none-comes dones (parent_mode r g) down (grind arith) l.fits_down
 
 -- ---- hearing
 
@@ -169,7 +167,7 @@ up-done {a} {n} {g} {r} {above} {below} {down} {up} l = go a n g r l
           readies = l.readies;
           names = λ h. refl;
           granting = l.granting;
-          naming = silent-done up s;
+          naming = silent-has dones up s;
           agree = l.agree;
           no_down = λ h. absurd (true≢false (sym h));
           no_up = λ h. silent-quads up s;
@@ -198,7 +196,7 @@ down-grant {a} {n} {g} {r} {above} {below} {down} {up} l = go a n g r l
           grants = λ h. refl;
           readies = λ h. refl;
           names = l.names;
-          granting = silent-grant down s;
+          granting = silent-has grants down s;
           naming = l.naming;
           agree = l.agree;
           no_down = λ h. silent-quads down s;
@@ -221,7 +219,8 @@ one-more :
     kept above others ≡ kept below quads → kept (with_packet quad above)
     others ≡ kept below (quads ++ quad ∷ [])
 one-more above below quads quad others none e =
-    ap (kept (with_packet quad above)) none ∙ ap (with_packet quad) (ap (kept above) (sym none) ∙ e) ∙ sym (kept-append below quads (quad ∷ []))
+    ap (kept (with_packet quad above)) none ∙ ap (with_packet quad) (ap (kept above) (sym none) ∙ e)
+    ∙ sym (kept-append below quads (quad ∷ []))
 
 -- and there is room for it
 one-sent :
@@ -230,8 +229,17 @@ one-sent :
     quads_in way ≡ quads → length above + 1 ≤ 252 →
     length below + length (quads_in (way ++ signal.Packet quad ∷ [])) ≤ 252
 one-sent above below quads others quad way none e room is free =
-    let same : above ≡ below ++ quads = ap (kept above) (sym none) ∙ e ∙ kept-room below quads room in
-    omega (arith, ap length same, length-append below quads, ap length (quads-append way (signal.Packet quad ∷ [])), length-append (quads_in way) (quad ∷ []), ap length is, free)
+    let same : above ≡ below ++ quads =
+    ap (kept above) (sym none) ∙ e ∙ kept-room below quads room in
+    omega (
+      arith,
+      ap length same,
+      length-append below quads,
+      ap length (quads-append way (signal.Packet quad ∷ [])),
+      length-append (quads_in way) (quad ∷ []),
+      ap length is,
+      free,
+    )
 
 -- the parent sends a packet, where it awaits nothing from the child
 pub sends-down :
@@ -242,17 +250,23 @@ sends-down {a} {n} {g} {r} {above} {below} {down} {up} quad h free l = record {
   grants = l.grants;
   readies = l.readies;
   names = l.names;
-  granting = has_grant-append down (signal.Packet quad ∷ []) ∙ or-false (has_grant down) ∙ l.granting;
+  granting =
+      has-append grants down (signal.Packet quad ∷ []) ∙ or-false (has_grant down) ∙ l.granting;
   naming = l.naming;
   agree =
-      one-more above below (quads_in down) quad (quads_in up) (l.no_up (quiet a n g h l.grants)) l.agree
+      one-more above below (quads_in down) quad (quads_in up) (l.no_up (quiet a n g h l.grants))
+      l.agree
       ∙ ap (kept below) (sym (quads-append down (signal.Packet quad ∷ [])));
   no_down = λ s. contrary s (quiet a n g h l.grants);
   no_up = l.no_up;
-  fits_down = fits-add (parent_mode r g) down (signal.Packet quad ∷ []) l.fits_down (allowed a n g r h l);
+  fits_down =
+      fits-add (parent_mode r g) down (signal.Packet quad ∷ []) l.fits_down (allowed a n g r h l);
   fits_up = l.fits_up;
-  room_down = one-sent above below (quads_in down) (quads_in up) quad down (l.no_up (quiet a n g h l.grants)) l.agree l.room_down refl free;
-  room_up = omega (arith, packet-length quad above, free, ap length (l.no_up (quiet a n g h l.grants)));
+  room_down =
+      one-sent above below (quads_in down) (quads_in up) quad down
+      (l.no_up (quiet a n g h l.grants)) l.agree l.room_down refl free;
+  room_up =
+      omega (arith, packet-length quad above, free, ap length (l.no_up (quiet a n g h l.grants)));
 }
   where
     quiet : (a n g : Bool) → (a && not n) ≡ false → (g ≡ true → a ≡ true) → speaks g n ≡ false
@@ -274,9 +288,12 @@ pub sends-all-down :
     (quads : List ℕ) {a n g r : Bool} {above below : List ℕ} {down up : List Signal} → (a && not n)
     ≡ false → length above + length quads ≤ 252 → Line a n g r above below down up →
     Line a n g r (kept above quads) below (down ++ map packet quads) up
-sends-all-down [] {a} {n} {g} {r} {above} {below} {down} {up} h free l = subst (λ ss. Line a n g r above below ss up) (sym (append-nil down)) l
+sends-all-down [] {a} {n} {g} {r} {above} {below} {down} {up} h free l =
+    subst (λ ss. Line a n g r above below ss up) (sym (append-nil down)) l
 sends-all-down (q ∷ qs) {a} {n} {g} {r} {above} {below} {down} {up} h free l =
-    subst (λ ss. Line a n g r (kept (with_packet q above) qs) below ss up) (append_assoc down (packet q ∷ []) (map packet qs)) (sends-all-down qs h (one-heard above q qs free) (sends-down q h (omega (arith, free)) l))
+    subst (λ ss. Line a n g r (kept (with_packet q above) qs) below ss up)
+    (append_assoc down (packet q ∷ []) (map packet qs))
+    (sends-all-down qs h (one-heard above q qs free) (sends-down q h (omega (arith, free)) l))
 
 -- it asks the child
 pub asks-down :
@@ -284,9 +301,6 @@ pub asks-down :
     Line a n g r above below down up → Line true n g r above below (down ++ signal.Grant ∷ []) up
 asks-down {a} {n} {g} {r} {above} {below} {down} {up} h l = go a n g r h l
   where
-    or-true : (b : Bool) → (b || true) ≡ true
-    or-true b = grind arith
-
     go :
         (a n g r : Bool) → a ≡ false → Line a n g r above below down up →
         Line true n g r above below (down ++ signal.Grant ∷ []) up
@@ -298,14 +312,23 @@ asks-down {a} {n} {g} {r} {above} {below} {down} {up} h l = go a n g r h l
       grants = λ e. refl;
       readies = l.readies;
       names = l.names;
-      granting = has_grant-append down (signal.Grant ∷ []) ∙ or-true (has_grant down);
+      granting = has-append grants down (signal.Grant ∷ []) ∙ or-true (has_grant down);
       naming = l.naming;
-      agree = l.agree ∙ ap (kept below) (sym (append-nil (quads_in down)) ∙ sym (quads-append down (signal.Grant ∷ [])));
+      agree =
+          l.agree ∙ ap (kept below)
+          (sym (append-nil (quads_in down)) ∙ sym (quads-append down (signal.Grant ∷ [])));
       no_down = λ e. absurd (true≢false (sym e));
       no_up = l.no_up;
-      fits_down = fits-add mode.grant down (signal.Grant ∷ []) l.fits_down (rw (nexts-grant down l.granting) refl);
+      fits_down =
+          fits-add mode.grant down (signal.Grant ∷ []) l.fits_down
+          (rw (nexts-grant down l.granting) refl);
       fits_up = silent-fits mode.done up (shut-silent up l.fits_up);
-      room_down = omega (arith, l.room_down, ap length (quads-append down (signal.Grant ∷ []) ∙ append-nil (quads_in down)));
+      room_down =
+          omega (
+            arith,
+            l.room_down,
+            ap length (quads-append down (signal.Grant ∷ []) ∙ append-nil (quads_in down)),
+          );
       room_up = l.room_up;
     }
 
@@ -326,23 +349,33 @@ sends-up {a} {n} {above} {below} {down} {up} quad free l = go a n l
       readies = l.readies;
       names = l.names;
       granting = l.granting;
-      naming = has_done-append up (signal.Packet quad ∷ []) ∙ or-false (has_done up) ∙ l.naming;
-      agree = ap (kept above) (quads-append up (signal.Packet quad ∷ [])) ∙ sym (one-more below above (quads_in up) quad (quads_in down) (l.no_down refl) (sym l.agree));
+      naming = has-append dones up (signal.Packet quad ∷ []) ∙ or-false (has_done up) ∙ l.naming;
+      agree =
+          ap (kept above) (quads-append up (signal.Packet quad ∷ []))
+          ∙ sym (one-more below above (quads_in up) quad (quads_in down) (l.no_down refl)
+          (sym l.agree));
       no_down = l.no_down;
       no_up = λ e. absurd (true≢false e);
       fits_down = l.fits_down;
-      fits_up = fits-add mode.done up (signal.Packet quad ∷ []) l.fits_up (rw (nexts-done up l.naming) refl);
+      fits_up =
+          fits-add mode.done up (signal.Packet quad ∷ []) l.fits_up
+          (rw (nexts-done up l.naming) refl);
       room_down = omega (arith, packet-length quad below, free, ap length (l.no_down refl));
-      room_up = one-sent below above (quads_in up) (quads_in down) quad up (l.no_down refl) (sym l.agree) l.room_up refl free;
+      room_up =
+          one-sent below above (quads_in up) (quads_in down) quad up (l.no_down refl) (sym l.agree)
+          l.room_up refl free;
     }
 
 pub sends-all-up :
     (quads : List ℕ) {a n : Bool} {above below : List ℕ} {down up : List Signal} →
     length below + length quads ≤ 252 → Line a n true false above below down up →
     Line a n true false above (kept below quads) down (up ++ map packet quads)
-sends-all-up [] {a} {n} {above} {below} {down} {up} free l = subst (λ ss. Line a n true false above below down ss) (sym (append-nil up)) l
+sends-all-up [] {a} {n} {above} {below} {down} {up} free l =
+    subst (λ ss. Line a n true false above below down ss) (sym (append-nil up)) l
 sends-all-up (q ∷ qs) {a} {n} {above} {below} {down} {up} free l =
-    subst (λ ss. Line a n true false above (kept (with_packet q below) qs) down ss) (append_assoc up (packet q ∷ []) (map packet qs)) (sends-all-up qs (one-heard below q qs free) (sends-up q (omega (arith, free)) l))
+    subst (λ ss. Line a n true false above (kept (with_packet q below) qs) down ss)
+    (append_assoc up (packet q ∷ []) (map packet qs))
+    (sends-all-up qs (one-heard below q qs free) (sends-up q (omega (arith, free)) l))
 
 -- and Done
 pub done-up :
@@ -351,9 +384,6 @@ pub done-up :
     Line a n true true above below down (up ++ signal.Done ∷ [])
 done-up {a} {n} {above} {below} {down} {up} l = go a n l
   where
-    or-true : (b : Bool) → (b || true) ≡ true
-    or-true b = grind arith
-
     go :
         (a n : Bool) → Line a n true false above below down up →
         Line a n true true above below down (up ++ signal.Done ∷ [])
@@ -364,14 +394,21 @@ done-up {a} {n} {above} {below} {down} {up} l = go a n l
       readies = λ e. refl;
       names = λ e. refl;
       granting = l.granting;
-      naming = has_done-append up (signal.Done ∷ []) ∙ or-true (has_done up);
-      agree = ap (kept above) (quads-append up (signal.Done ∷ []) ∙ append-nil (quads_in up)) ∙ l.agree;
+      naming = has-append dones up (signal.Done ∷ []) ∙ or-true (has_done up);
+      agree =
+          ap (kept above) (quads-append up (signal.Done ∷ []) ∙ append-nil (quads_in up)) ∙ l.agree;
       no_down = l.no_down;
       no_up = λ e. absurd (true≢false e);
       fits_down = silent-fits mode.packets down (shut-silent down l.fits_down);
-      fits_up = fits-add mode.done up (signal.Done ∷ []) l.fits_up (rw (nexts-done up l.naming) refl);
+      fits_up =
+          fits-add mode.done up (signal.Done ∷ []) l.fits_up (rw (nexts-done up l.naming) refl);
       room_down = l.room_down;
-      room_up = omega (arith, l.room_up, ap length (quads-append up (signal.Done ∷ []) ∙ append-nil (quads_in up)));
+      room_up =
+          omega (
+            arith,
+            l.room_up,
+            ap length (quads-append up (signal.Done ∷ []) ∙ append-nil (quads_in up)),
+          );
     }
 
 -- ---- the beginning
@@ -383,8 +420,8 @@ begins down up h g = record {
   grants = λ e. absurd (true≢false (sym e));
   readies = λ e. absurd (true≢false (sym e));
   names = λ e. absurd (true≢false (sym e));
-  granting = silent-grant down h;
-  naming = silent-done up g;
+  granting = silent-has grants down h;
+  naming = silent-has dones up g;
   agree = ap (kept []) (silent-quads up g) ∙ ap (kept []) (sym (silent-quads down h));
   no_down = λ e. absurd (true≢false (sym e));
   no_up = λ e. silent-quads up g;

@@ -1,9 +1,9 @@
 -- A component that identifies itself goes on: a Grant or Done arrives within d turns, and whoever
 -- has the turn
 -- asks a child or identifies itself in the next.
-use Rattle.std.proofs.Common.{◌≡◌, ◌⊎◌, inl, inr, ℕ, ◌+◌, ◌<◌, ◌≤◌, Bool, true, false, not, ◌&&◌, ◌||◌, ◌==◌, List, [], ◌∷◌, ◌++◌, map, Option, Some, None, slice_get, refl, sym, ◌∙◌, ap, subst, arith, true≢false, if◌then◌else◌}
+use Rattle.std.proofs.Common.{◌≡◌, ◌⊎◌, inl, inr, ℕ, ◌+◌, ◌<◌, ◌≤◌, Bool, true, false, not, ◌&&◌, ◌==◌, List, [], ◌∷◌, ◌++◌, map, Option, Some, None, slice_get, refl, sym, ◌∙◌, ap, subst, arith, true≢false, if◌then◌else◌}
 use Rattle.std.proofs.lemmas.Bool.{or_cases, eq-eqb, false_from_ne_true}
-use Rattle.outcomes.proofs.Common.{Tree, End, far, ports_of, Holds, Phase, Signal, PortView, NodeState, coin, is_unnamed, lowest, port_is, passes, change_port, may_name, granted_row, shown_node, mark, emit, with_port, silent_step, hears_packets, hears, is_heard, on_signal, PortNode, Row, raise_timer, row_of, does, next_row, tick, port_is-changed, Travelling, new_signal, age_signal, age_wire, gives, CableWorld, wire_of, inbox, turn_at, turn, hear_all, signals_of, IsLawful, node-after, side, side-wire, hear-stays, some-same, departures, turn-state, no-packets, joined-of, is_ready, is_asked, is_named, silent, is_grant, is_done, has_grant, has_done, IsIdentifying, IsSettling, IsAcyclic}
+use Rattle.outcomes.proofs.Common.{contrary, Tree, End, far, ports_of, Holds, Phase, Signal, PortView, NodeState, coin, is_unnamed, lowest, port_is, passes, change_port, may_name, granted_row, shown_node, mark, emit, with_port, silent_step, hears_packets, hears, is_heard, on_signal, PortNode, Row, raise_timer, row_of, does, next_row, tick, port_is-changed, Travelling, new_signal, age_signal, age_wire, gives, CableWorld, wire_of, inbox, turn_at, turn, hear_all, signals_of, IsLawful, node-after, side, side-wire, hear-stays, some-same, departures, turn-state, no-packets, joined-of, is_ready, is_asked, is_named, silent, IsIdentifying, IsSettling, IsAcyclic}
 use Rattle.port_state.specs.declared.signal.Level.TheVariants as level
 use Rattle.port_state.specs.declared.signal.Phase.TheVariants as phase
 use Rattle.port_state.specs.declared.signal.Signal.TheVariants as signal
@@ -11,6 +11,7 @@ use Rattle.port_state.specs.Row as row
 use Rattle.cable_world.specs.Lawful.{AgesFall}
 use Rattle.cable_world.proofs.Lemmas.{signals-sent}
 use Rattle.outcomes.proofs.identify.Hearing.{signal-stays, reset-heard}
+use Rattle.outcomes.proofs.identify.Messages.{IsKind, has-first, has-rest}
 use Rattle.outcomes.proofs.identify.LateRows.{LateRow, rests, asks_next, names_now, late-row}
 use Rattle.outcomes.proofs.numbers.NumberedTurn.{still-there, now-silent, heard-so, heard-goes}
 use Rattle.outcomes.proofs.identify.Ports.{changed-here, changed-other, lowest-is, is-unnamed}
@@ -26,7 +27,11 @@ pub record Rises (x y : NodeState) : Type 0 where
   pub granted : x.view.granted ≡ true → y.view.granted ≡ true
 
 rises-more : (x y z : NodeState) → Rises x y → Rises y z → Rises x z
-rises-more x y z r s = record { asked = λ q e. s.asked q (r.asked q e); named = λ q e. s.named q (r.named q e); granted = λ e. s.granted (r.granted e) }
+rises-more x y z r s = record {
+  asked = λ q e. s.asked q (r.asked q e);
+  named = λ q e. s.named q (r.named q e);
+  granted = λ e. s.granted (r.granted e);
+}
 
 same-rises : (x : NodeState) → Rises x x
 same-rises x = record { asked = λ q e. e; named = λ q e. e; granted = λ e. e }
@@ -59,14 +64,29 @@ signal-rises k s x h on = go (is_heard k s x) on
         (s : Signal) → hears_packets (hears k s x).state.view.phase ≡ true →
         Rises x (hears k s x).state
     heard-so-far signal.Reset on = absurd (reset-heard k x h on)
-    heard-so-far signal.Idle on = port-rises k (λ q. record q { shown = level.Idle }) x (λ p. refl) (λ p. refl)
-    heard-so-far signal.Parent on = port-rises k (λ q. record q { shown = level.Parent }) x (λ p. refl) (λ p. refl)
-    heard-so-far signal.Child on = port-rises k (λ q. record q { shown = level.Child }) x (λ p. refl) (λ p. refl)
-    heard-so-far signal.Grant on = record { asked = λ q e. e; named = λ q e. e; granted = λ e. refl }
-    heard-so-far (signal.Packet quad) on = record { asked = λ q e. e; named = λ q e. e; granted = λ e. e }
+    heard-so-far signal.Idle on =
+        port-rises k (λ q. record q { shown = level.Idle }) x (λ p. refl) (λ p. refl)
+    heard-so-far signal.Parent on =
+        port-rises k (λ q. record q { shown = level.Parent }) x (λ p. refl) (λ p. refl)
+    heard-so-far signal.Child on =
+        port-rises k (λ q. record q { shown = level.Child }) x (λ p. refl) (λ p. refl)
+    heard-so-far signal.Grant on = record {
+      asked = λ q e. e;
+      named = λ q e. e;
+      granted = λ e. refl;
+    }
+    heard-so-far (signal.Packet quad) on = record {
+      asked = λ q e. e;
+      named = λ q e. e;
+      granted = λ e. e;
+    }
     heard-so-far signal.Done on = record {
-      asked = λ q e. port_is-changed (λ p. p.asked) k (λ q. record q { named = true }) (λ p. refl) x.view.ports q ∙ e;
-      named = λ q e. stays-marked (λ p. p.named) (λ q. record q { named = true }) (λ p. refl) k q x.view.ports e;
+      asked = λ q e.
+          port_is-changed (λ p. p.asked) k (λ q. record q { named = true }) (λ p. refl) x.view.ports
+          q ∙ e;
+      named = λ q e.
+          stays-marked (λ p. p.named) (λ q. record q { named = true }) (λ p. refl) k q x.view.ports
+          e;
       granted = λ e. e;
     }
 
@@ -83,9 +103,13 @@ hears-rises :
 hears-rises [] x h on = same-rises x
 hears-rises (s ∷ rest) x h on = elim (signal-stays s.0 s.1 x) [
   | inl t ↦
-      let n1 : hears_packets (on_signal s.0 s.1 x).state.view.phase ≡ true = ap hears_packets t.phase ∙ h in
-      rises-more x (on_signal s.0 s.1 x).state (hear_all rest (on_signal s.0 s.1 x).state).state (signal-rises s.0 s.1 x h n1) (hears-rises rest (on_signal s.0 s.1 x).state n1 on)
-  | inr t ↦ absurd (no-packets (hear_all rest (on_signal s.0 s.1 x).state).state.view.phase (hear-stays rest (on_signal s.0 s.1 x).state t) on)
+      let n1 : hears_packets (on_signal s.0 s.1 x).state.view.phase ≡ true =
+      ap hears_packets t.phase ∙ h in
+      rises-more x (on_signal s.0 s.1 x).state (hear_all rest (on_signal s.0 s.1 x).state).state
+      (signal-rises s.0 s.1 x h n1) (hears-rises rest (on_signal s.0 s.1 x).state n1 on)
+  | inr t ↦
+      absurd (no-packets (hear_all rest (on_signal s.0 s.1 x).state).state.view.phase
+      (hear-stays rest (on_signal s.0 s.1 x).state t) on)
 ]
 
 ticks-rise :
@@ -96,8 +120,12 @@ ticks-rise coin x h = go (next_row x) (late-row x h)
     go : (r : Row) → LateRow (raise_timer x) r → Rises x (does coin r (raise_timer x)).state
     go r rests = record { asked = λ q e. e; named = λ q e. e; granted = λ e. e }
     go r (asks_next k a) = record {
-      asked = λ q e. stays-marked (λ p. p.asked) (λ q. record q { asked = true }) (λ p. refl) k q x.view.ports e;
-      named = λ q e. port_is-changed (λ p. p.named) k (λ q. record q { asked = true }) (λ p. refl) x.view.ports q ∙ e;
+      asked = λ q e.
+          stays-marked (λ p. p.asked) (λ q. record q { asked = true }) (λ p. refl) k q x.view.ports
+          e;
+      named = λ q e.
+          port_is-changed (λ p. p.named) k (λ q. record q { asked = true }) (λ p. refl) x.view.ports
+          q ∙ e;
       granted = λ e. e;
     }
     go r (names_now n) = record { asked = λ q e. e; named = λ q e. e; granted = λ e. e }
@@ -127,30 +155,25 @@ pub none-older :
     Old test n ts → ⊥
 none-older test most n [] less f h = h
 none-older test most n (t ∷ ts) less f (inl h) = omega (arith, less, f.0, h.1)
-none-older test most n (t ∷ ts) less f (inr h) = none-older test t.age n ts (omega (arith, less, f.0)) f.1 h
+none-older test most n (t ∷ ts) less f (inr h) =
+    none-older test t.age n ts (omega (arith, less, f.0)) f.1 h
 
-pub old-grant : (ts : List Travelling) → has_grant (signals_of ts) ≡ true → Old is_grant 0 ts
-old-grant [] h = absurd (true≢false (sym h))
-old-grant (t ∷ ts) h = elim (or_cases (is_grant t.signal) (has_grant (signals_of ts)) h) [ inl e ↦ inl (e, omega arith) | inr e ↦ inr (old-grant ts e) ]
+module _
+    {one : Signal} {test : Signal → Bool} {has : List Signal → Bool}
+    (kind : IsKind one test has) where
+  pub old-of : (ts : List Travelling) → has (signals_of ts) ≡ true → Old test 0 ts
+  old-of [] h = contrary h kind.empty
+  old-of (t ∷ ts) h =
+      let either = sym (kind.more t.signal (signals_of ts)) ∙ h in
+      elim (or_cases (test t.signal) (has (signals_of ts)) either) [
+        | inl e ↦ inl (e, omega arith)
+        | inr e ↦ inr (old-of ts e)
+      ]
 
-pub old-done : (ts : List Travelling) → has_done (signals_of ts) ≡ true → Old is_done 0 ts
-old-done [] h = absurd (true≢false (sym h))
-old-done (t ∷ ts) h = elim (or_cases (is_done t.signal) (has_done (signals_of ts)) h) [ inl e ↦ inl (e, omega arith) | inr e ↦ inr (old-done ts e) ]
-
-or-more : (b c : Bool) → c ≡ true → (b || c) ≡ true
-or-more true c h = refl
-or-more false c h = h
-
-pub grant-old :
-    (n : ℕ) (ts : List Travelling) → Old is_grant n ts → has_grant (signals_of ts) ≡ true
-grant-old n [] h = absurd h
-grant-old n (t ∷ ts) (inl h) = ap (λ b. b || has_grant (signals_of ts)) h.0
-grant-old n (t ∷ ts) (inr h) = or-more (is_grant t.signal) (has_grant (signals_of ts)) (grant-old n ts h)
-
-pub done-old : (n : ℕ) (ts : List Travelling) → Old is_done n ts → has_done (signals_of ts) ≡ true
-done-old n [] h = absurd h
-done-old n (t ∷ ts) (inl h) = ap (λ b. b || has_done (signals_of ts)) h.0
-done-old n (t ∷ ts) (inr h) = or-more (is_done t.signal) (has_done (signals_of ts)) (done-old n ts h)
+  pub of-old : (n : ℕ) (ts : List Travelling) → Old test n ts → has (signals_of ts) ≡ true
+  of-old n [] h = absurd h
+  of-old n (t ∷ ts) (inl h) = has-first kind t.signal (signals_of ts) h.0
+  of-old n (t ∷ ts) (inr h) = has-rest kind t.signal (signals_of ts) (of-old n ts h)
 
 -- ---- who has the turn
 
@@ -169,7 +192,9 @@ unnamed-not ports k e n = go (slice_get ports k) e n
         off-by a b c e n = grind arith
 
 abbrev Used : Bool → NodeState → Row → Type 0
-Used coin y r = (is_ready (does coin r (raise_timer y)).state.view.phase ≡ true) ⊎ ((q : ℕ) × (is_asked y q ≡ false) × (is_asked (does coin r (raise_timer y)).state q ≡ true))
+Used coin y r =
+    (is_ready (does coin r (raise_timer y)).state.view.phase ≡ true)
+    ⊎ ((q : ℕ) × (is_asked y q ≡ false) × (is_asked (does coin r (raise_timer y)).state q ≡ true))
 
 ticks-on-turn :
     (coin : Bool) (y : NodeState) → y.view.phase ≡ phase.SelfIdent → y.view.granted ≡ true →
@@ -184,7 +209,14 @@ ticks-on-turn coin y e g free may = go y.view.phase e
         (p : ℕ) → lowest is_unnamed y.view.ports ≡ Some p → (b : Bool) → is_asked y p ≡ b →
         b ≡ false → Used coin y (if b then row.none else row.asks_child p)
     by-asked p low true e f = absurd (true≢false f)
-    by-asked p low false e f = inr (p, e, changed-here (λ q. q.asked) (λ q. q.child) p p (λ q. record q { asked = true }) y.view.ports (λ q. refl) (eq-eqb p p refl) (is-unnamed y.view.ports p (lowest-is is_unnamed y.view.ports p low)))
+    by-asked p low false e f =
+        inr (
+          p,
+          e,
+          changed-here (λ q. q.asked) (λ q. q.child) p p (λ q. record q { asked = true })
+              y.view.ports (λ q. refl) (eq-eqb p p refl)
+              (is-unnamed y.view.ports p (lowest-is is_unnamed y.view.ports p low)),
+        )
 
     by-name : (b : Bool) → b ≡ true → Used coin y (if b then row.names_itself else row.none)
     by-name true e = inl refl
@@ -198,7 +230,8 @@ ticks-on-turn coin y e g free may = go y.view.phase e
 
     by-grant :
         (b : Bool) → b ≡ true →
-        Used coin y (if b then granted_row (lowest is_unnamed y.view.ports) (raise_timer y) else row.none)
+        Used coin y (if b then granted_row (lowest is_unnamed y.view.ports)
+        (raise_timer y) else row.none)
     by-grant true e = by-port (lowest is_unnamed y.view.ports) refl
     by-grant false e = absurd (true≢false (sym e))
 
@@ -222,29 +255,41 @@ module _
   node-rises k x z h at at_z =
       let y = (hear_all (inbox w 0 (ports_of w.cabling k)) x.state).state in
       let here = still-there w l i set root t s.component.closed s.walk s.all k x h at in
-      let same : z.state ≡ (tick (coin x.coins) y).state = ap (λ (u : PortNode). u.state) (some-same z (turn_at w k x).node (sym at_z ∙ node-after w k x l.well_formed.count at)) ∙ turn-state (inbox w 0 (ports_of w.cabling k)) x in
-      subst (Rises x.state) (sym same) (rises-more x.state y (tick (coin x.coins) y).state (hears-rises (inbox w 0 (ports_of w.cabling k)) x.state (s.all k x h at) here) (ticks-rise (coin x.coins) y here))
+      let same : z.state ≡ (tick (coin x.coins) y).state =
+      ap (λ (u : PortNode). u.state)
+      (some-same z (turn_at w k x).node (sym at_z ∙ node-after w k x l.well_formed.count at))
+      ∙ turn-state (inbox w 0 (ports_of w.cabling k)) x in
+      subst (Rises x.state) (sym same)
+      (rises-more x.state y (tick (coin x.coins) y).state
+      (hears-rises (inbox w 0 (ports_of w.cabling k)) x.state (s.all k x h at) here)
+      (ticks-rise (coin x.coins) y here))
 
   -- it comes, and nothing is under way behind it, or it is a turn older
   pub moves :
-      (test : Signal → Bool) →
-      ((n : ℕ) (ts : List Travelling) → Old test n ts →
-      (has_grant (signals_of ts) ≡ true) ⊎ (has_done (signals_of ts) ≡ true))
-      → (a b : End) (n : ℕ) → Holds set b.node → far w.cabling a ≡ Some b →
+      {one : Signal} {test : Signal → Bool} {has : List Signal → Bool} → IsKind one test has →
+      (a b : End) (n : ℕ) → Holds set b.node → far w.cabling a ≡ Some b →
       Old test n (wire_of w a).signals → Old test (n + 1)
       (wire_of (turn w) a).signals ⊎ (silent (signals_of (wire_of (turn w) a).signals) ≡ true)
-  moves test is a b n h e old =
+  moves {one} {test} {has} kind a b n h e old =
       let back : far w.cabling b ≡ Some a = l.well_formed.cabling.both_ways a b e in
       let j = joined-of w a b l.well_formed e in
-      let none : silent (departures (side w a j.near)) ≡ true = now-silent w l i set root t s.component.closed s.walk s.all s.numbered b a j.other j.near h back j.other_at j.near_at (is n (wire_of w a).signals old) in
-      subst (λ (ts : List Travelling). Old test (n + 1) ts ⊎ (silent (signals_of ts) ≡ true)) (sym (side-wire w a b j.near l.well_formed e j.near_at)) (go j.near (gives w.delay (age_wire (wire_of w a))) none)
+      let none : silent (departures (side w a j.near)) ≡ true =
+      now-silent w l i set root t s.component.closed s.walk s.all s.numbered b a j.other j.near h
+      back j.other_at j.near_at kind (of-old kind n (wire_of w a).signals old) in
+      subst (λ (ts : List Travelling). Old test (n + 1) ts ⊎ (silent (signals_of ts) ≡ true))
+      (sym (side-wire w a b j.near l.well_formed e j.near_at))
+      (go j.near (gives w.delay (age_wire (wire_of w a))) none)
     where
       go :
           (x : PortNode) (g : Bool) → silent (departures (side w a x)) ≡ true → Old test (n + 1)
-          ((if g then [] else map age_signal (wire_of w a).signals) ++ map new_signal (departures (side w a x)))
-          ⊎ (silent (signals_of ((if g then [] else map age_signal (wire_of w a).signals) ++ map new_signal (departures (side w a x)))) ≡ true)
+          ((if g then [] else map age_signal (wire_of w a).signals) ++ map new_signal
+          (departures (side w a x)))
+          ⊎ (silent (signals_of ((if g then [] else map age_signal (wire_of w a).signals) ++ map
+          new_signal (departures (side w a x)))) ≡ true)
       go x true none = inr (ap silent (signals-sent (departures (side w a x))) ∙ none)
-      go x false none = inl (old-first test (n + 1) (map age_signal (wire_of w a).signals) (map new_signal (departures (side w a x))) (old-older test n (wire_of w a).signals old))
+      go x false none =
+          inl (old-first test (n + 1) (map age_signal (wire_of w a).signals)
+          (map new_signal (departures (side w a x))) (old-older test n (wire_of w a).signals old))
 
   -- whoever has the turn asks a child or comes to A0
   pub turn-used :
@@ -255,10 +300,15 @@ module _
       (is_ready z.state.view.phase ≡ true)
       ⊎ ((q : ℕ) × (is_asked x.state q ≡ false) × (is_asked z.state q ≡ true))
   turn-used acyclic k x z h at at_z g u waits =
-      let same : z.state ≡ (tick (coin x.coins) y).state = ap (λ (v : PortNode). v.state) (some-same z (turn_at w k x).node (sym at_z ∙ node-after w k x l.well_formed.count at)) ∙ turn-state (inbox w 0 (ports_of w.cabling k)) x in
-      elim (ticks-on-turn (coin x.coins) y (self-ident y.view.phase here (ap is_ready o.stays.phase ∙ u)) granted free may) [
+      let same : z.state ≡ (tick (coin x.coins) y).state =
+      ap (λ (v : PortNode). v.state)
+      (some-same z (turn_at w k x).node (sym at_z ∙ node-after w k x l.well_formed.count at))
+      ∙ turn-state (inbox w 0 (ports_of w.cabling k)) x in
+      elim (ticks-on-turn (coin x.coins) y
+      (self-ident y.view.phase here (ap is_ready o.stays.phase ∙ u)) granted free may) [
         | inl r ↦ inl (ap (λ (v : NodeState). is_ready v.view.phase) same ∙ r)
-        | inr a ↦ inr (a.0, sym (o.asked a.0) ∙ a.1, ap (λ (v : NodeState). is_asked v a.0) same ∙ a.2)
+        | inr a ↦
+            inr (a.0, sym (o.asked a.0) ∙ a.1, ap (λ (v : NodeState). is_asked v a.0) same ∙ a.2)
       ]
     where
       y : NodeState
@@ -277,14 +327,19 @@ module _
       granted = r.granted g
 
       free : (p : ℕ) → lowest is_unnamed y.view.ports ≡ Some p → is_asked y p ≡ false
-      free p low = false_from_ne_true _ (λ e. unnamed-not y.view.ports p (lowest-is is_unnamed y.view.ports p low) (r.named p (named-so (is_asked x.state p) (is_named x.state p) (sym (o.asked p) ∙ e) (waits p))))
+      free p low =
+          false_from_ne_true _ (λ e. unnamed-not y.view.ports p
+          (lowest-is is_unnamed y.view.ports p low)
+          (r.named p (named-so (is_asked x.state p) (is_named x.state p) (sym (o.asked p) ∙ e)
+          (waits p))))
         where
           named-so : (a n : Bool) → a ≡ true → (a && not n) ≡ false → n ≡ true
           named-so a n e f = grind arith
 
       may : lowest is_unnamed y.view.ports ≡ None → may_name y ≡ true
       may low = room-for w l acyclic i set core root t s k x h at y o.marks.shown
-          ((heard-goes w l i set root t s.component.closed s.walk s.all s.numbered k x h at).turn granted (ap is_ready o.stays.phase ∙ u) x.state.ports (omega arith) (record {
+          ((heard-goes w l i set root t s.component.closed s.walk s.all s.numbered k x h at).turn
+          granted (ap is_ready o.stays.phase ∙ u) x.state.ports (omega arith) (record {
             named = λ j less d. all-named y o.valid (hears-late y.view.phase here) low j d;
             unasked = λ j more. beyond j more (is_asked y j) refl;
           }) ∙ ap (emit t) (s.walk.last k x at))

@@ -1,129 +1,25 @@
 -- A component that identifies itself comes to A0: of each node it is counted whether it was asked,
 -- granted, is in A0
 -- and was named, and the count rises within each d turns.
-use Rattle.std.proofs.Common.{◌≡◌, ◌⊎◌, inl, inr, ℕ, zero, suc, ◌+◌, ◌-◌, ◌*◌, ◌<◌, ◌≤◌, Bool, true, false, not, ◌&&◌, List, [], ◌∷◌, length, Option, Some, None, slice_get, refl, sym, ◌∙◌, ap, subst, arith}
+use Rattle.std.proofs.Common.{◌≡◌, ◌⊎◌, inl, inr, ℕ, zero, suc, ◌+◌, ◌-◌, ◌*◌, ◌<◌, ◌≤◌, Bool, true, false, not, ◌&&◌, List, length, Option, Some, None, slice_get, refl, sym, ◌∙◌, ap, subst, arith}
 use Rattle.std.proofs.lemmas.Option.{slice_get_within}
-use Rattle.phy_packet.specs.Layout.{bit}
-use Rattle.outcomes.proofs.Common.{Tree, End, Wiring, far, Holds, numbers, Signal, NodeState, PortNode, Travelling, CableWorld, wire_of, ComesOfPowerOn, turn_at, turn, signals_of, IsLawful, cabling-after, node-after, some-same, after-delay, comes-lawful, turn-lawful, port-is, joined-of, IsAcyclic, is_ready, is_asked, is_named, silent, is_grant, is_done, has_grant, has_done, parent_mode, child_mode, IsIdentifying, parent_of, parent_now, place_now, IsSettling, is_port, contrary, PlacedHold, HoldSchedule, with_holds, quiet_after, end_at}
-use Rattle.cable_world.specs.Wire.{Wire}
+use Rattle.outcomes.proofs.Common.{Tree, End, Wiring, far, Holds, numbers, Signal, NodeState, PortNode, Travelling, CableWorld, wire_of, ComesOfPowerOn, turn_at, turn, signals_of, IsLawful, cabling-after, node-after, some-same, after-delay, comes-lawful, turn-lawful, port-is, joined-of, IsAcyclic, is_ready, is_asked, is_named, silent, has_grant, has_done, IsIdentifying, parent_of, parent_now, place_now, IsSettling, is_port, contrary, PlacedHold, HoldSchedule, with_holds, quiet_after, end_at}
 use Rattle.cable_world.proofs.Lemmas.{holds-signals}
 use Rattle.outcomes.specs.Holders.{Holder, grant, done, node, IsHolder, HasTurn, HasOneHolder}
 use Rattle.outcomes.specs.Holders as holder
 use Rattle.outcomes.proofs.numbers.AtRest.{there, lawful-then, acyclic-then, identifying-then, next-turn, settles-always}
 use Rattle.outcomes.proofs.identify.Holders.{one-holder}
-use Rattle.outcomes.proofs.identify.OneMessage.{no-grant, no-done, child-grants-none, parent-says-none, end-of, two-parts}
+use Rattle.outcomes.proofs.identify.Lines.{no-grant-up, no-done-down}
+use Rattle.outcomes.proofs.identify.OneMessage.{wired, end-of, two-parts}
 use Rattle.outcomes.proofs.identify.ListsFollow.{IsAbove, one-above, parent-below, child-above}
 use Rattle.outcomes.proofs.identify.MarksKept.{hears-late}
-use Rattle.outcomes.proofs.identify.Messages.{silent-grant, silent-done}
+use Rattle.outcomes.proofs.identify.Messages.{IsKind, grants, dones, silent-has}
 use Rattle.outcomes.proofs.identify.Ports.{child-role}
 use Rattle.std.proofs.lemmas.Bool.{eq-eqb, true_from_ne_false, false_from_ne_true}
 use Rattle.outcomes.proofs.numbers.NumberedTurn.{stayed}
-use Rattle.outcomes.proofs.numbers.Progress.{node-rises, Old, old-grant, old-done, grant-old, done-old, none-older, moves, turn-used}
+use Rattle.outcomes.proofs.numbers.Progress.{node-rises, Old, old-of, none-older, moves, turn-used}
 use Rattle.outcomes.proofs.numbers.Settling.{Up, up-or-root, climbs}
-
--- ---- counts
-
-bit-le : (a b : Bool) → (a ≡ true → b ≡ true) → bit a ≤ bit b
-bit-le false b h = omega arith
-bit-le true b h = omega (arith, ap bit (h refl))
-
-bit-less : (a b : Bool) → a ≡ false → b ≡ true → bit a + 1 ≤ bit b
-bit-less a b e f = omega (arith, ap bit e, ap bit f)
-
-bit-most : (a : Bool) → bit a ≤ 1
-bit-most true = omega arith
-bit-most false = omega arith
-
-abbrev pub sum-over : (ℕ → ℕ) → List ℕ → ℕ
-sum-over f [] = 0
-sum-over f (k ∷ ks) = f k + sum-over f ks
-
-pub sum-more :
-    (f g : ℕ → ℕ) (ks : List ℕ) → ((i k : ℕ) → slice_get ks i ≡ Some k → f k ≤ g k) →
-    sum-over f ks ≤ sum-over g ks
-sum-more f g [] h = omega arith
-sum-more f g (k ∷ ks) h = omega (arith, h zero k refl, sum-more f g ks (λ i j e. h (suc i) j e))
-
-pub sum-strict :
-    (f g : ℕ → ℕ) (ks : List ℕ) (i k : ℕ) → ((i k : ℕ) → slice_get ks i ≡ Some k → f k ≤ g k) →
-    slice_get ks i ≡ Some k → f k + 1 ≤ g k → sum-over f ks + 1 ≤ sum-over g ks
-sum-strict f g [] i k h e less = absurd cc
-sum-strict f g (j ∷ ks) zero k h e less =
-    let same : j ≡ k = cc in
-    let here : f j + 1 ≤ g j = subst (λ (n : ℕ). f n + 1 ≤ g n) (sym same) less in
-    omega (arith, here, sum-more f g ks (λ i n e. h (suc i) n e))
-sum-strict f g (j ∷ ks) (suc i) k h e less = omega (arith, h zero j refl, sum-strict f g ks i k (λ i n e. h (suc i) n e) e less)
-
-pub sum-most :
-    (f : ℕ → ℕ) (most : ℕ) (ks : List ℕ) → ((k : ℕ) → f k ≤ most) → sum-over f ks ≤ most * length ks
-sum-most f most [] h = omega arith
-sum-most f most (k ∷ ks) h = let step : most * length (k ∷ ks) ≡ most + most * length ks = omega arith in omega (arith, h k, sum-most f most ks h, step)
-
--- ---- how far a node is
-
-abbrev pub of-node : (NodeState → Bool) → Option PortNode → Bool
-of-node f None = false
-of-node f (Some x) = f x.state
-
--- the end to which a parent port leads
-abbrev pub up-end : CableWorld → ℕ → Option ℕ → Option End
-up-end w k None = None
-up-end w k (Some p) = far w.cabling (end_at k p)
-
-abbrev pub of-end : (NodeState → ℕ → Bool) → CableWorld → Option End → Bool
-of-end f w None = false
-of-end f w (Some e) = of-node (λ x. f x e.port) (slice_get w.nodes e.node)
-
-abbrev pub was-granted : CableWorld → ℕ → Bool
-was-granted w k = of-node (λ x. x.view.granted) (slice_get w.nodes k)
-
-abbrev pub came-ready : CableWorld → ℕ → Bool
-came-ready w k = of-node (λ x. is_ready x.view.phase) (slice_get w.nodes k)
-
-abbrev pub was-asked : CableWorld → ℕ → Bool
-was-asked w k = of-end is_asked w (up-end w k (parent_now w k))
-
-abbrev pub was-named : CableWorld → ℕ → Bool
-was-named w k = of-end is_named w (up-end w k (parent_now w k))
-
-pub stage : CableWorld → ℕ → ℕ
-stage w k = bit (was-granted w k) + (bit (came-ready w k) + (bit (was-asked w k) + bit (was-named w k)))
-
-pub stage-most : (w : CableWorld) (k : ℕ) → stage w k ≤ 4
-unfolding stage
-stage-most w k = omega (arith, bit-most (was-granted w k), bit-most (came-ready w k), bit-most (was-asked w k), bit-most (was-named w k))
-
--- it goes no way back
-pub record Gains (w v : CableWorld) (k : ℕ) : Type 0 where
-  pub granted : was-granted w k ≡ true → was-granted v k ≡ true
-  pub ready : came-ready w k ≡ true → came-ready v k ≡ true
-  pub asked : was-asked w k ≡ true → was-asked v k ≡ true
-  pub named : was-named w k ≡ true → was-named v k ≡ true
-
-pub gains-more : (u w v : CableWorld) (k : ℕ) → Gains u w k → Gains w v k → Gains u v k
-gains-more u w v k g h = record { granted = λ e. h.granted (g.granted e); ready = λ e. h.ready (g.ready e); asked = λ e. h.asked (g.asked e); named = λ e. h.named (g.named e) }
-
-pub same-gains : (w : CableWorld) (k : ℕ) → Gains w w k
-same-gains w k = record { granted = λ e. e; ready = λ e. e; asked = λ e. e; named = λ e. e }
-
-pub stage-rises : (w v : CableWorld) (k : ℕ) → Gains w v k → stage w k ≤ stage v k
-unfolding stage
-stage-rises w v k g =
-    omega (arith, bit-le (was-granted w k) (was-granted v k) g.granted, bit-le (came-ready w k) (came-ready v k) g.ready, bit-le (was-asked w k) (was-asked v k) g.asked, bit-le (was-named w k) (was-named v k) g.named)
-
--- one of the four is new
-pub data News (w v : CableWorld) (k : ℕ) : Type 0 where
-  granting : was-granted w k ≡ false → was-granted v k ≡ true → News w v k
-  coming : came-ready w k ≡ false → came-ready v k ≡ true → News w v k
-  asking : was-asked w k ≡ false → was-asked v k ≡ true → News w v k
-  naming : was-named w k ≡ false → was-named v k ≡ true → News w v k
-
-pub stage-strict : (w v : CableWorld) (k : ℕ) → Gains w v k → News w v k → stage w k + 1 ≤ stage v k
-unfolding stage
-stage-strict w v k g (granting e f) = omega (arith, bit-less (was-granted w k) (was-granted v k) e f, bit-le (came-ready w k) (came-ready v k) g.ready, bit-le (was-asked w k) (was-asked v k) g.asked, bit-le (was-named w k) (was-named v k) g.named)
-stage-strict w v k g (coming e f) = omega (arith, bit-le (was-granted w k) (was-granted v k) g.granted, bit-less (came-ready w k) (came-ready v k) e f, bit-le (was-asked w k) (was-asked v k) g.asked, bit-le (was-named w k) (was-named v k) g.named)
-stage-strict w v k g (asking e f) = omega (arith, bit-le (was-granted w k) (was-granted v k) g.granted, bit-le (came-ready w k) (came-ready v k) g.ready, bit-less (was-asked w k) (was-asked v k) e f, bit-le (was-named w k) (was-named v k) g.named)
-stage-strict w v k g (naming e f) = omega (arith, bit-le (was-granted w k) (was-granted v k) g.granted, bit-le (came-ready w k) (came-ready v k) g.ready, bit-le (was-asked w k) (was-asked v k) g.asked, bit-less (was-named w k) (was-named v k) e f)
+use Rattle.outcomes.proofs.numbers.Stages.{sum-over, sum-strict, sum-most, of-node, up-end, of-end, stage, stage-most, Gains, gains-more, same-gains, stage-rises, News, granting, coming, asking, naming, stage-strict}
 
 -- ---- in a world that settles
 
@@ -137,7 +33,8 @@ module _
       (k : ℕ) (x : PortNode) (u : Up-of k x) → slice_get w.nodes k ≡ Some x →
       up-end w k (parent_now w k) ≡ Some u.end
   end-of-up k x u at =
-      ap (up-end w k) (ap parent_of at ∙ port-is x.state.view.parent u.port u.above.parent) ∙ l.well_formed.cabling.both_ways u.end (end_at k u.port) u.joined
+      ap (up-end w k) (ap parent_of at ∙ port-is x.state.view.parent u.port u.above.parent)
+      ∙ l.well_formed.cabling.both_ways u.end (end_at k u.port) u.joined
 
   -- a turn
   after-up :
@@ -147,17 +44,28 @@ module _
       →
       (k : ℕ) → Holds set k → of-end f w (up-end w k (parent_now w k)) ≡ true →
       of-end f (turn w) (up-end (turn w) k (parent_now (turn w) k)) ≡ true
-  after-up f keeps k h e = elim (up-or-root w l acyclic i set root s.component s.inside s.is_root s.all k x h at) [
-    | inl same ↦ contrary e (ap (λ o. of-end f w (up-end w k o)) (ap (parent_now w) same ∙ ap parent_of s.is_root.at ∙ s.is_root.parentless))
-    | inr u ↦
-        let y : PortNode = (turn_at w u.end.node u.is).node in
-        let at_y : slice_get (turn w).nodes u.end.node ≡ Some y = node-after w u.end.node u.is l.well_formed.count u.at in
-        let before-it : f u.is.state u.end.port ≡ true = sym (ap (of-end f w) (end-of-up k x u at) ∙ ap (of-node (λ v. f v u.end.port)) u.at) ∙ e in
-        let same-parent : parent_now (turn w) k ≡ parent_now w k = ap parent_of at_z ∙ (stayed w l i set root t s.component.closed s.walk s.all s.numbered k x z h at at_z).parent ∙ sym (ap parent_of at) in
-        let same-end : up-end (turn w) k (parent_now (turn w) k) ≡ Some u.end =
-        ap (up-end (turn w) k) same-parent ∙ wires (parent_now w k) ∙ end-of-up k x u at in
-        ap (of-end f (turn w)) same-end ∙ ap (of-node (λ v. f v u.end.port)) at_y ∙ keeps u.end.node u.is y u.inside_too u.at at_y u.end.port before-it
-  ]
+  after-up f keeps k h e =
+      elim (up-or-root w l acyclic i set root s.component s.inside s.is_root s.all k x h at) [
+        | inl same ↦
+            contrary e (ap (λ o. of-end f w (up-end w k o))
+            (ap (parent_now w) same ∙ ap parent_of s.is_root.at ∙ s.is_root.parentless))
+        | inr u ↦
+            let y : PortNode = (turn_at w u.end.node u.is).node in
+            let at_y : slice_get (turn w).nodes u.end.node ≡ Some y =
+            node-after w u.end.node u.is l.well_formed.count u.at in
+            let before-it : f u.is.state u.end.port ≡ true =
+            sym (ap (of-end f w) (end-of-up k x u at) ∙ ap (of-node (λ v. f v u.end.port)) u.at)
+            ∙ e in
+            let same-parent : parent_now (turn w) k ≡ parent_now w k =
+            ap parent_of at_z ∙ (stayed w l i set root t s.component.closed s.walk s.all s.numbered
+            k x
+            z h at at_z).parent ∙ sym (ap parent_of at) in
+            let same-end : up-end (turn w) k (parent_now (turn w) k) ≡ Some u.end =
+            ap (up-end (turn w) k) same-parent ∙ wires (parent_now w k) ∙ end-of-up k x u at in
+            ap (of-end f (turn w)) same-end ∙ ap (of-node (λ v. f v u.end.port)) at_y
+            ∙ keeps u.end.node
+            u.is y u.inside_too u.at at_y u.end.port before-it
+      ]
     where
       x : PortNode
       x = (there w l acyclic i set core root t s k h).0
@@ -183,28 +91,50 @@ module _
       let z : PortNode = (turn_at w k x).node in
       let at_z : slice_get (turn w).nodes k ≡ Some z = node-after w k x l.well_formed.count at in
       record {
-        granted = λ e. ap (of-node (λ v. v.view.granted)) at_z ∙ (node-rises w l i set core root t s k x z h at at_z).granted (sym (ap (of-node (λ v. v.view.granted)) at) ∙ e);
-        ready = λ e. ap (of-node (λ v. is_ready v.view.phase)) at_z ∙ (stayed w l i set root t s.component.closed s.walk s.all s.numbered k x z h at at_z).ready (sym (ap (of-node (λ v. is_ready v.view.phase)) at) ∙ e);
-        asked = after-up is_asked (λ k x z h at at_z q e. (node-rises w l i set core root t s k x z h at at_z).asked q e) k h;
-        named = after-up is_named (λ k x z h at at_z q e. (node-rises w l i set core root t s k x z h at at_z).named q e) k h;
+        granted = λ e.
+            ap (of-node (λ v. v.view.granted)) at_z
+            ∙ (node-rises w l i set core root t s k x z h at at_z).granted
+            (sym (ap (of-node (λ v. v.view.granted)) at) ∙ e);
+        ready = λ e.
+            ap (of-node (λ v. is_ready v.view.phase)) at_z
+            ∙ (stayed w l i set root t s.component.closed s.walk s.all s.numbered k x z h at
+            at_z).ready (sym (ap (of-node (λ v. is_ready v.view.phase)) at) ∙ e);
+        asked =
+            after-up is_asked (λ k x z h at at_z q e.
+            (node-rises w l i set core root t s k x z h at at_z).asked q e) k h;
+        named =
+            after-up is_named (λ k x z h at at_z q e.
+            (node-rises w l i set core root t s k x z h at at_z).named q e) k h;
       }
 
   -- once the root is in A0 all nodes are
   pub all-ready :
       is_ready s.is_root.node.state.view.phase ≡ true → (k : ℕ) (x : PortNode) → Holds set k →
       slice_get w.nodes k ≡ Some x → is_ready x.state.view.phase ≡ true
-  all-ready r k x h at = true_from_ne_false _ (λ e. contrary r (climbs w l acyclic i set root s.component s.inside s.is_root s.all (λ j y. is_ready y.state.view.phase ≡ false) above (acyclic.most - acyclic.rank k) k x (omega arith) h at e))
+  all-ready r k x h at =
+      true_from_ne_false _ (λ e. contrary r
+      (climbs w l acyclic i set root s.component s.inside s.is_root s.all
+      (λ j y. is_ready y.state.view.phase ≡ false) above (acyclic.most - acyclic.rank k) k x
+      (omega arith) h at e))
     where
       above :
           (j : ℕ) (y : PortNode) (u : Up-of j y) → Holds set j → slice_get w.nodes j ≡ Some y →
           is_ready y.state.view.phase ≡ false → is_ready u.is.state.view.phase ≡ false
-      above j y u h_j at_j e = false_from_ne_true _ (λ f. contrary (u.above.line.names ((i.nodes u.end.node u.is u.at).all_named f u.end.port u.above.child)) e)
+      above j y u h_j at_j e =
+          false_from_ne_true _ (λ f.
+          contrary (u.above.line.names ((i.nodes u.end.node u.is u.at).all_named f u.end.port
+          u.above.child)) e)
 
 -- holds change nothing of it
 gains-held :
     (holds : List PlacedHold) (w v : CableWorld) (k : ℕ) → Gains w v k →
     Gains w (with_holds holds v) k
-gains-held holds w v k g = record { granted = g.granted; ready = g.ready; asked = g.asked; named = g.named }
+gains-held holds w v k g = record {
+  granted = g.granted;
+  ready = g.ready;
+  asked = g.asked;
+  named = g.named;
+}
 
 -- ---- turn by turn
 
@@ -224,11 +154,14 @@ link-end :
     (v : CableWorld) → IsLawful v → (a b : End) → (n : Link v a b) → (f : NodeState → ℕ → Bool) →
     of-end f v (up-end v b.node (parent_now v b.node)) ≡ f n.above.state a.port
 link-end v l a b n f =
-    ap (λ (o : Option ℕ). of-end f v (up-end v b.node o)) (ap parent_of n.below_at ∙ port-is n.below.state.view.parent b.port n.is.parent)
-    ∙ ap (of-end f v) (l.well_formed.cabling.both_ways a b n.joined) ∙ ap (of-node (λ x. f x a.port)) n.above_at
+    ap (λ (o : Option ℕ). of-end f v (up-end v b.node o))
+    (ap parent_of n.below_at ∙ port-is n.below.state.view.parent b.port n.is.parent)
+    ∙ ap (of-end f v) (l.well_formed.cabling.both_ways a b n.joined)
+    ∙ ap (of-node (λ x. f x a.port)) n.above_at
 
 module _
-    (hs : HoldSchedule) (w : CableWorld) (r : ComesOfPowerOn w) (k : ℕ) (late : length w.nodes * w.delay ≤ k)
+    (hs : HoldSchedule) (w : CableWorld) (r : ComesOfPowerOn w) (k : ℕ)
+    (late : length w.nodes * w.delay ≤ k)
     (set core root : ℕ) (t : Tree) (s0 : IsSettling (quiet_after hs k w) set core root t) where
   abbrev pub W : ℕ → CableWorld
   W j = quiet_after hs (k + j) w
@@ -251,32 +184,48 @@ module _
   -- what is under way doesn't change in holds
   pub wire-next : (j : ℕ) (a : End) →
       (wire_of (W (suc j)) a).signals ≡ (wire_of (turn (W j)) a).signals
-  wire-next j a = ap (λ (v : CableWorld). (wire_of v a).signals) (sym (next j)) ∙ holds-signals (hs (k + j + 1)) (turn (W j)) a (turn-lawful (W j) (L j))
+  wire-next j a =
+      ap (λ (v : CableWorld). (wire_of v a).signals) (sym (next j)) ∙ holds-signals (hs (k + j + 1))
+      (turn (W j)) a (turn-lawful (W j) (L j))
 
   pub node-of : (j q : ℕ) → Holds set q → (x : PortNode) × (slice_get (W j).nodes q ≡ Some x)
   node-of j q h = there (W j) (L j) (A j) (I j) set core root t (S j) q h
 
   pub gains-on : (j m q : ℕ) → Holds set q → Gains (W j) (W (j + m)) q
-  gains-on j zero q h = let e : j ≡ j + 0 = omega arith in subst (λ (n : ℕ). Gains (W j) (W n) q) e (same-gains (W j) q)
+  gains-on j zero q h =
+      let e : j ≡ j + 0 = omega arith in
+      subst (λ (n : ℕ). Gains (W j) (W n) q) e (same-gains (W j) q)
   gains-on j (suc m) q h =
       let e : suc (j + m) ≡ j + suc m = omega arith in
-      subst (λ (n : ℕ). Gains (W j) (W n) q) e (gains-more (W j) (W (j + m)) (W (suc (j + m))) q (gains-on j m q h) (subst (λ (v : CableWorld). Gains (W (j + m)) v q) (next (j + m))
-      (gains-held (hs (k + (j + m) + 1)) (W (j + m)) (turn (W (j + m))) q (turn-gains (W (j + m)) (L (j + m)) (A (j + m)) (I (j + m)) set core root t (S (j + m)) q h))))
+      subst (λ (n : ℕ). Gains (W j) (W n) q) e
+      (gains-more (W j) (W (j + m)) (W (suc (j + m))) q (gains-on j m q h)
+      (subst (λ (v : CableWorld). Gains (W (j + m)) v q) (next (j + m))
+      (gains-held (hs (k + (j + m) + 1)) (W (j + m)) (turn (W (j + m))) q
+      (turn-gains (W (j + m)) (L (j + m)) (A (j + m)) (I (j + m)) set core root t (S (j + m)) q
+      h))))
 
   pub wires-on : (j m : ℕ) → (W (j + m)).cabling ≡ (W j).cabling
   wires-on j zero = let e : j + 0 ≡ j = omega arith in ap (λ (n : ℕ). (W n).cabling) e
-  wires-on j (suc m) = let e : j + suc m ≡ suc (j + m) = omega arith in ap (λ (n : ℕ). (W n).cabling) e ∙ sym (ap (λ (v : CableWorld). v.cabling) (next (j + m))) ∙ cabling-after (W (j + m)) ∙ wires-on j m
+  wires-on j (suc m) =
+      let e : j + suc m ≡ suc (j + m) = omega arith in
+      ap (λ (n : ℕ). (W n).cabling) e ∙ sym (ap (λ (v : CableWorld). v.cabling) (next (j + m)))
+      ∙ cabling-after (W (j + m)) ∙ wires-on j m
 
   one-parent-on : (j q : ℕ) → Holds set q → parent_now (W (suc j)) q ≡ parent_now (W j) q
   one-parent-on j q h =
       let n = node-of j q h in
       let z : PortNode = (turn_at (W j) q n.0).node in
-      let at_z : slice_get (turn (W j)).nodes q ≡ Some z = node-after (W j) q n.0 (L j).well_formed.count n.1 in
-      sym (ap (λ (v : CableWorld). parent_now v q) (next j)) ∙ ap parent_of at_z ∙ (stayed (W j) (L j) (I j) set root t (S j).component.closed (S j).walk (S j).all (S j).numbered q n.0 z h n.1 at_z).parent ∙ sym (ap parent_of n.1)
+      let at_z : slice_get (turn (W j)).nodes q ≡ Some z =
+      node-after (W j) q n.0 (L j).well_formed.count n.1 in
+      sym (ap (λ (v : CableWorld). parent_now v q) (next j)) ∙ ap parent_of at_z
+      ∙ (stayed (W j) (L j) (I j) set root t (S j).component.closed (S j).walk (S j).all
+      (S j).numbered q n.0 z h n.1 at_z).parent ∙ sym (ap parent_of n.1)
 
   pub parent-on : (j m q : ℕ) → Holds set q → parent_now (W (j + m)) q ≡ parent_now (W j) q
   parent-on j zero q h = let e : j + 0 ≡ j = omega arith in ap (λ (n : ℕ). parent_now (W n) q) e
-  parent-on j (suc m) q h = let e : j + suc m ≡ suc (j + m) = omega arith in ap (λ (n : ℕ). parent_now (W n) q) e ∙ one-parent-on (j + m) q h ∙ parent-on j m q h
+  parent-on j (suc m) q h =
+      let e : j + suc m ≡ suc (j + m) = omega arith in
+      ap (λ (n : ℕ). parent_now (W n) q) e ∙ one-parent-on (j + m) q h ∙ parent-on j m q h
 
   pub link-by :
       (j : ℕ) (a b : End) → Holds set a.node → far (W j).cabling a ≡ Some b → parent_now (W j)
@@ -284,58 +233,81 @@ module _
   link-by j a b h e p =
       let n = joined-of (W j) a b (L j).well_formed e in
       let h_b : Holds set b.node = (S j).component.closed a b e h in
-      let is : is_port n.other.state.view.parent b.port ≡ true = ap (λ (o : Option ℕ). is_port o b.port) (sym (ap parent_of n.other_at) ∙ p) ∙ eq-eqb b.port b.port refl in
+      let is : is_port n.other.state.view.parent b.port ≡ true =
+      ap (λ (o : Option ℕ). is_port o b.port) (sym (ap parent_of n.other_at) ∙ p)
+      ∙ eq-eqb b.port b.port refl in
       record {
         joined = e;
         above = n.near;
         above_at = n.near_at;
         below = n.other;
         below_at = n.other_at;
-        is = parent-below (W j) (L j) (I j) b a n.other n.near ((L j).well_formed.cabling.both_ways a b e) n.other_at n.near_at ((S j).all b.node n.other h_b n.other_at) ((S j).all a.node n.near h n.near_at) is;
+        is =
+            parent-below (W j) (L j) (I j) b a n.other n.near
+            ((L j).well_formed.cabling.both_ways a b e) n.other_at n.near_at
+            ((S j).all b.node n.other h_b n.other_at) ((S j).all a.node n.near h n.near_at) is;
       }
 
   pub link-on : (j m : ℕ) (a b : End) → Holds set a.node → Link (W j) a b → Link (W (j + m)) a b
   link-on j m a b h n =
       let h_b : Holds set b.node = (S j).component.closed a b n.joined h in
-      link-by (j + m) a b h (ap (λ (d : Wiring). far d a) (wires-on j m) ∙ n.joined) (parent-on j m b.node h_b ∙ ap parent_of n.below_at ∙ port-is n.below.state.view.parent b.port n.is.parent)
+      link-by (j + m) a b h (ap (λ (d : Wiring). far d a) (wires-on j m) ∙ n.joined)
+      (parent-on j m b.node h_b ∙ ap parent_of n.below_at ∙ port-is n.below.state.view.parent b.port
+      n.is.parent)
 
   -- ---- what is under way comes
 
   travels :
-      (test : Signal → Bool) →
-      ((n : ℕ) (ts : List Travelling) → Old test n ts →
-      (has_grant (signals_of ts) ≡ true) ⊎ (has_done (signals_of ts) ≡ true))
-      → (j : ℕ) (a b : End) → Holds set b.node → far (W j).cabling a ≡ Some b →
+      {one : Signal} {test : Signal → Bool} {has : List Signal → Bool} → IsKind one test has →
+      (j : ℕ) (a b : End) → Holds set b.node → far (W j).cabling a ≡ Some b →
       Old test 0 (wire_of (W j) a).signals →
       (n : ℕ) →
       Old test n (wire_of (W (j + n)) a).signals
       ⊎ ((m : ℕ) × (m ≤ n) × (silent (signals_of (wire_of (W (j + m)) a).signals) ≡ true))
-  travels test is j a b h e old zero = inl (let z : j ≡ j + 0 = omega arith in subst (λ (i : ℕ). Old test 0 (wire_of (W i) a).signals) z old)
-  travels test is j a b h e old (suc n) = elim (travels test is j a b h e old n) [
+  travels {one} {test} {has} kind j a b h e old zero =
+      inl (let z : j ≡ j + 0 = omega arith in
+      subst (λ (i : ℕ). Old test 0 (wire_of (W i) a).signals) z old)
+  travels {one} {test} {has} kind j a b h e old (suc n) = elim (travels kind j a b h e old n) [
     | inr m ↦ inr (m.0, omega (arith, m.1), m.2)
-    | inl o ↦ elim (moves (W (j + n)) (L (j + n)) (I (j + n)) set core root t (S (j + n)) test is a b n h (ap (λ (d : Wiring). far d a) (wires-on j n) ∙ e) o) [
-      | inl p ↦ inl (subst (λ (i : ℕ). Old test i (wire_of (W (j + suc n)) a).signals) one (subst (Old test (n + 1)) (sym now) p))
-      | inr p ↦ inr (suc n, omega arith, subst (λ (ts : List Travelling). silent (signals_of ts) ≡ true) (sym now) p)
-    ]
+    | inl o ↦
+        elim (moves (W (j + n)) (L (j + n)) (I (j + n)) set core root t (S (j + n)) kind a b n h
+        (ap (λ (d : Wiring). far d a) (wires-on j n) ∙ e) o) [
+          | inl p ↦
+              inl (subst (λ (i : ℕ). Old test i (wire_of (W (j + suc n)) a).signals) later
+              (subst (Old test (n + 1)) (sym now) p))
+          | inr p ↦
+              inr (
+                suc n,
+                omega arith,
+                subst (λ (ts : List Travelling). silent (signals_of ts) ≡ true)
+                    (sym now) p,
+              )
+        ]
   ]
     where
-      one : n + 1 ≡ suc n
-      one = omega arith
+      later : n + 1 ≡ suc n
+      later = omega arith
 
       now : (wire_of (W (j + suc n)) a).signals ≡ (wire_of (turn (W (j + n))) a).signals
-      now = ap (λ (i : ℕ). (wire_of (W i) a).signals) (let e : j + suc n ≡ suc (j + n) = omega arith in e) ∙ wire-next (j + n) a
+      now =
+          ap (λ (i : ℕ). (wire_of (W i) a).signals)
+          (let e : j + suc n ≡ suc (j + n) = omega arith in e) ∙ wire-next (j + n) a
 
   comes-by :
-      (test : Signal → Bool) →
-      ((n : ℕ) (ts : List Travelling) → Old test n ts →
-      (has_grant (signals_of ts) ≡ true) ⊎ (has_done (signals_of ts) ≡ true))
-      → (j : ℕ) (a b : End) → Holds set b.node → far (W j).cabling a ≡ Some b →
+      {one : Signal} {test : Signal → Bool} {has : List Signal → Bool} → IsKind one test has →
+      (j : ℕ) (a b : End) → Holds set b.node → far (W j).cabling a ≡ Some b →
       Old test 0 (wire_of (W j) a).signals →
       (m : ℕ) × (m ≤ w.delay) × (silent (signals_of (wire_of (W (j + m)) a).signals) ≡ true)
-  comes-by test is j a b h e old = elim (travels test is j a b h e old w.delay) [
+  comes-by {one} {test} {has} kind j a b h e old = elim (travels kind j a b h e old w.delay) [
     | inr m ↦ m
-    | inl o ↦ absurd (none-older test ((W (j + w.delay)).delay - 1) w.delay (wire_of (W (j + w.delay)) a).signals
-        (omega (arith, after-delay hs w (comes-lawful w r) (k + (j + w.delay)), (comes-lawful w r).well_formed.some_delay)) ((L (j + w.delay)).well_formed.ages a) o)
+    | inl o ↦
+        absurd (none-older test ((W (j + w.delay)).delay - 1) w.delay
+        (wire_of (W (j + w.delay)) a).signals
+        (omega (
+          arith,
+          after-delay hs w (comes-lawful w r) (k + (j + w.delay)),
+          (comes-lawful w r).well_formed.some_delay,
+        )) ((L (j + w.delay)).well_formed.ages a) o)
   ]
 
   -- ---- and so the count rises
@@ -352,18 +324,26 @@ module _
       has_grant (signals_of (wire_of (W j) a).signals) ≡ true → Rising j
   by-grant j a b h n g =
       let h_b : Holds set b.node = (S j).component.closed a b n.joined h in
-      let one = two-parts (is_asked n.above.state a.port) n.below.state.view.granted (sym n.is.line.granting ∙ g) in
-      let c = comes-by is_grant (λ n ts o. inl (grant-old n ts o)) j a b h_b n.joined (old-grant (wire_of (W j) a).signals g) in
+      let one =
+      two-parts (is_asked n.above.state a.port) n.below.state.view.granted
+      (sym n.is.line.granting ∙ g) in
+      let c = comes-by grants j a b h_b n.joined (old-of grants (wire_of (W j) a).signals g) in
       let n1 = link-on j c.0 a b h n in
       let asked : is_asked n1.above.state a.port ≡ true =
-      sym (link-end (W (j + c.0)) (L (j + c.0)) a b n1 is_asked) ∙ (gains-on j c.0 b.node h_b).asked (link-end (W j) (L j) a b n is_asked ∙ one.0) in
-      let granted : n1.below.state.view.granted ≡ true = both-not (is_asked n1.above.state a.port) n1.below.state.view.granted (sym n1.is.line.granting ∙ silent-grant (signals_of (wire_of (W (j + c.0)) a).signals) c.2) asked in
+      sym (link-end (W (j + c.0)) (L (j + c.0)) a b n1 is_asked) ∙ (gains-on j c.0 b.node h_b).asked
+      (link-end (W j) (L j) a b n is_asked ∙ one.0) in
+      let granted : n1.below.state.view.granted ≡ true =
+      both-not (is_asked n1.above.state a.port) n1.below.state.view.granted
+      (sym n1.is.line.granting ∙ silent-has grants (signals_of (wire_of (W (j + c.0)) a).signals)
+      c.2) asked in
       record {
         turns = c.0;
         within = c.1;
         node = b.node;
         inside = h_b;
-        news = granting (ap (of-node (λ x. x.view.granted)) n.below_at ∙ one.1) (ap (of-node (λ x. x.view.granted)) n1.below_at ∙ granted);
+        news =
+            granting (ap (of-node (λ x. x.view.granted)) n.below_at ∙ one.1)
+            (ap (of-node (λ x. x.view.granted)) n1.below_at ∙ granted);
       }
 
   by-done :
@@ -371,31 +351,55 @@ module _
       has_done (signals_of (wire_of (W j) b).signals) ≡ true → Rising j
   by-done j a b h n g =
       let h_b : Holds set b.node = (S j).component.closed a b n.joined h in
-      let one = two-parts (is_ready n.below.state.view.phase) (is_named n.above.state a.port) (sym n.is.line.naming ∙ g) in
-      let c = comes-by is_done (λ n ts o. inr (done-old n ts o)) j b a h ((L j).well_formed.cabling.both_ways a b n.joined) (old-done (wire_of (W j) b).signals g) in
+      let one =
+      two-parts (is_ready n.below.state.view.phase) (is_named n.above.state a.port)
+      (sym n.is.line.naming ∙ g) in
+      let c =
+      comes-by dones j b a h ((L j).well_formed.cabling.both_ways a b n.joined)
+      (old-of dones (wire_of (W j) b).signals g) in
       let n1 = link-on j c.0 a b h n in
       let ready : is_ready n1.below.state.view.phase ≡ true =
-      sym (ap (of-node (λ x. is_ready x.view.phase)) n1.below_at) ∙ (gains-on j c.0 b.node h_b).ready (ap (of-node (λ x. is_ready x.view.phase)) n.below_at ∙ one.0) in
-      let named : is_named n1.above.state a.port ≡ true = both-not (is_ready n1.below.state.view.phase) (is_named n1.above.state a.port) (sym n1.is.line.naming ∙ silent-done (signals_of (wire_of (W (j + c.0)) b).signals) c.2) ready in
+      sym (ap (of-node (λ x. is_ready x.view.phase)) n1.below_at)
+      ∙ (gains-on j c.0 b.node h_b).ready (ap (of-node (λ x. is_ready x.view.phase)) n.below_at
+      ∙ one.0) in
+      let named : is_named n1.above.state a.port ≡ true =
+      both-not (is_ready n1.below.state.view.phase) (is_named n1.above.state a.port)
+      (sym n1.is.line.naming ∙ silent-has dones (signals_of (wire_of (W (j + c.0)) b).signals) c.2)
+      ready in
       record {
         turns = c.0;
         within = c.1;
         node = b.node;
         inside = h_b;
-        news = naming (link-end (W j) (L j) a b n is_named ∙ one.1) (link-end (W (j + c.0)) (L (j + c.0)) a b n1 is_named ∙ named);
+        news =
+            naming (link-end (W j) (L j) a b n is_named ∙ one.1)
+            (link-end (W (j + c.0)) (L (j + c.0)) a b n1 is_named ∙ named);
       }
 
   by-turn : (j q : ℕ) → Holds set q → HasTurn (W j) q → Rising j
   by-turn j q h turn-of =
       let x : PortNode = turn-of.is in
       let z : PortNode = (turn_at (W j) q x).node in
-      let at_z : slice_get (turn (W j)).nodes q ≡ Some z = node-after (W j) q x (L j).well_formed.count turn-of.at in
-      let world : with_holds (hs (k + j + 1)) (turn (W j)) ≡ W (j + 1) = next j ∙ ap W (let e : suc j ≡ j + 1 = omega arith in e) in
-      let at_1 : slice_get (W (j + 1)).nodes q ≡ Some z = sym (ap (λ (v : CableWorld). slice_get v.nodes q) world) ∙ at_z in
+      let at_z : slice_get (turn (W j)).nodes q ≡ Some z =
+      node-after (W j) q x (L j).well_formed.count turn-of.at in
+      let world : with_holds (hs (k + j + 1)) (turn (W j)) ≡ W (j + 1) =
+      next j ∙ ap W (let e : suc j ≡ j + 1 = omega arith in e) in
+      let at_1 : slice_get (W (j + 1)).nodes q ≡ Some z =
+      sym (ap (λ (v : CableWorld). slice_get v.nodes q) world) ∙ at_z in
       let unready : is_ready x.state.view.phase ≡ false = ap is_ready turn-of.identifies in
       let d : 1 ≤ w.delay = (comes-lawful w r).well_formed.some_delay in
-      elim (turn-used (W j) (L j) (I j) set core root t (S j) (A j) q x z h turn-of.at at_z turn-of.granted unready turn-of.awaits_none) [
-        | inl done-so ↦ record { turns = 1; within = d; node = q; inside = h; news = coming (ap (of-node (λ v. is_ready v.view.phase)) turn-of.at ∙ unready) (ap (of-node (λ v. is_ready v.view.phase)) at_1 ∙ done-so) }
+      elim (turn-used (W j) (L j) (I j) set core root t (S j) (A j) q x z h turn-of.at at_z
+      turn-of.granted unready turn-of.awaits_none) [
+        | inl done-so ↦
+            record {
+              turns = 1;
+              within = d;
+              node = q;
+              inside = h;
+              news =
+                  coming (ap (of-node (λ v. is_ready v.view.phase)) turn-of.at ∙ unready)
+                  (ap (of-node (λ v. is_ready v.view.phase)) at_1 ∙ done-so);
+            }
         | inr ask ↦ asks-one x z ask.0 turn-of.at at_1 d ask.1 ask.2
       ]
     where
@@ -406,20 +410,39 @@ module _
       asks-one x z p at at_1 d before-it now =
           let a : End = end_at q p in
           let child = ((I (j + 1)).nodes q z at_1).asked p now in
-          let on = (child-role z.state p ((L (j + 1)).well_formed.nodes q z at_1).valid (hears-late z.state.view.phase ((S (j + 1)).all q z h at_1)) child).1 in
-          let b = end-of (far (W (j + 1)).cabling a) (sym (((L (j + 1)).well_formed.nodes q z at_1).connected p) ∙ on) in
+          let on =
+          (child-role z.state p ((L (j + 1)).well_formed.nodes q z at_1).valid
+          (hears-late z.state.view.phase ((S (j + 1)).all q z h at_1)) child).1 in
+          let b =
+          end-of (far (W (j + 1)).cabling a)
+          (sym (((L (j + 1)).well_formed.nodes q z at_1).connected p) ∙ on) in
           let n = joined-of (W (j + 1)) a b.0 (L (j + 1)).well_formed b.1 in
           let h_b : Holds set b.0.node = (S (j + 1)).component.closed a b.0 b.1 h in
-          let u = child-above (W (j + 1)) (L (j + 1)) (I (j + 1)) a b.0 z n.other b.1 at_1 n.other_at ((S (j + 1)).all q z h at_1) ((S (j + 1)).all b.0.node n.other h_b n.other_at) child in
-          let n1 : Link (W (j + 1)) a b.0 = record { joined = b.1; above = z; above_at = at_1; below = n.other; below_at = n.other_at; is = u } in
-          let n0 : Link (W j) a b.0 = link-by j a b.0 h (sym (ap (λ (d : Wiring). far d a) (wires-on j 1)) ∙ b.1) (sym (parent-on j 1 b.0.node h_b) ∙ ap parent_of n.other_at ∙ port-is n.other.state.view.parent b.0.port u.parent) in
+          let u =
+          child-above (W (j + 1)) (L (j + 1)) (I (j + 1)) a b.0 z n.other b.1 at_1 n.other_at
+          ((S (j + 1)).all q z h at_1) ((S (j + 1)).all b.0.node n.other h_b n.other_at) child in
+          let n1 : Link (W (j + 1)) a b.0 = record {
+            joined = b.1;
+            above = z;
+            above_at = at_1;
+            below = n.other;
+            below_at = n.other_at;
+            is = u;
+          } in
+          let n0 : Link (W j) a b.0 =
+          link-by j a b.0 h (sym (ap (λ (d : Wiring). far d a) (wires-on j 1)) ∙ b.1)
+          (sym (parent-on j 1 b.0.node h_b) ∙ ap parent_of n.other_at
+          ∙ port-is n.other.state.view.parent b.0.port u.parent) in
           let same : n0.above ≡ x = some-same n0.above x (sym n0.above_at ∙ at) in
           record {
             turns = 1;
             within = d;
             node = b.0.node;
             inside = h_b;
-            news = asking (link-end (W j) (L j) a b.0 n0 is_asked ∙ ap (λ (v : PortNode). is_asked v.state p) same ∙ before-it) (link-end (W (j + 1)) (L (j + 1)) a b.0 n1 is_asked ∙ now);
+            news =
+                asking (link-end (W j) (L j) a b.0 n0 is_asked
+                ∙ ap (λ (v : PortNode). is_asked v.state p) same ∙ before-it)
+                (link-end (W (j + 1)) (L (j + 1)) a b.0 n1 is_asked ∙ now);
           }
 
   -- while a node isn't in A0
@@ -427,37 +450,48 @@ module _
       (j q : ℕ) (x : PortNode) → Holds set q → slice_get (W j).nodes q ≡ Some x →
       is_ready x.state.view.phase ≡ false → Rising j
   rises-within j q x h at u =
-      let o = one-holder (W j) (L j) (I j) set (S j).component.closed (S j).all (A j) root (S j).component q x h at u in
+      let o =
+      one-holder (W j) (L j) (I j) set (S j).component.closed (S j).all (A j) root (S j).component q
+      x h at u in
       by o.holder o.inside o.is
     where
-      wired :
-          (a : End) → (test : List Signal → Bool) → test [] ≡ false →
-          test (signals_of (wire_of (W j) a).signals) ≡ true → (b : End)
-          × (far (W j).cabling a ≡ Some b)
-      wired a test none g = go (far (W j).cabling a) refl
-        where
-          go :
-              (o : Option End) → far (W j).cabling a ≡ o → (b : End)
-              × (far (W j).cabling a ≡ Some b)
-          go None e = contrary g (ap (λ (v : Wire). test (signals_of v.signals)) ((L j).well_formed.unplugged a e) ∙ none)
-          go (Some b) e = (b, e)
-
       by : (v : Holder) → Holds set (holder.place v) → IsHolder (W j) v → Rising j
       by (grant a) h is =
-          let b = wired a has_grant refl is in
+          let b = wired grants (W j) (L j) a is in
           let n = joined-of (W j) a b.0 (L j).well_formed b.1 in
           let h_b : Holds set b.0.node = (S j).component.closed a b.0 b.1 h in
-          elim (one-above (W j) (L j) (I j) a b.0 n.near n.other b.1 n.near_at n.other_at ((S j).all a.node n.near h n.near_at) ((S j).all b.0.node n.other h_b n.other_at)) [
-            | inl u ↦ by-grant j a b.0 h (record { joined = b.1; above = n.near; above_at = n.near_at; below = n.other; below_at = n.other_at; is = u }) is
-            | inr u ↦ contrary is (no-grant (child_mode (is_asked n.other.state b.0.port) (is_named n.other.state b.0.port)) (signals_of (wire_of (W j) a).signals) (child-grants-none (is_asked n.other.state b.0.port) (is_named n.other.state b.0.port)) u.line.fits_up)
+          elim (one-above (W j) (L j) (I j) a b.0 n.near n.other b.1 n.near_at n.other_at
+          ((S j).all a.node n.near h n.near_at) ((S j).all b.0.node n.other h_b n.other_at)) [
+            | inl u ↦
+                by-grant j a b.0 h (record {
+                  joined = b.1;
+                  above = n.near;
+                  above_at = n.near_at;
+                  below = n.other;
+                  below_at = n.other_at;
+                  is = u;
+                }) is
+            | inr u ↦ contrary is (no-grant-up u.line)
           ]
       by (done a) h is =
-          let b = wired a has_done refl is in
+          let b = wired dones (W j) (L j) a is in
           let n = joined-of (W j) a b.0 (L j).well_formed b.1 in
           let h_b : Holds set b.0.node = (S j).component.closed a b.0 b.1 h in
-          elim (one-above (W j) (L j) (I j) a b.0 n.near n.other b.1 n.near_at n.other_at ((S j).all a.node n.near h n.near_at) ((S j).all b.0.node n.other h_b n.other_at)) [
-            | inr u ↦ by-done j b.0 a h_b (record { joined = (L j).well_formed.cabling.both_ways a b.0 b.1; above = n.other; above_at = n.other_at; below = n.near; below_at = n.near_at; is = u }) is
-            | inl u ↦ contrary is (no-done (parent_mode (is_ready n.other.state.view.phase) n.other.state.view.granted) (signals_of (wire_of (W j) a).signals) (parent-says-none (is_ready n.other.state.view.phase) n.other.state.view.granted) u.line.fits_down)
+          elim (one-above (W j) (L j) (I j) a b.0 n.near n.other b.1 n.near_at n.other_at
+          ((S j).all a.node n.near h n.near_at) ((S j).all b.0.node n.other h_b n.other_at)) [
+            | inr u ↦
+                by-done j b.0 a h_b (record {
+                  joined = (L j).well_formed.cabling.both_ways a b.0
+                      b.1;
+                  above =
+                      n.other;
+                  above_at =
+                      n.other_at;
+                  below = n.near;
+                  below_at = n.near_at;
+                  is = u;
+                }) is
+            | inl u ↦ contrary is (no-done-down u.line)
           ]
       by (node q) h is = by-turn j q h is
 
@@ -469,8 +503,12 @@ module _
   member : (i q : ℕ) → slice_get (numbers (quiet_after hs k w).cabling root t) i ≡ Some q →
       Holds set q
   member i q e =
-      let c = s0.walk.marked.covers i (slice_get_within (numbers (quiet_after hs k w).cabling root t) i q e) in
-      let at : slice_get (numbers (quiet_after hs k w).cabling root t) i ≡ Some c.0 = subst (λ (n : ℕ). slice_get (numbers (quiet_after hs k w).cabling root t) n ≡ Some c.0) c.2 (s0.walk.marked.at c.0 c.1) in
+      let c =
+      s0.walk.marked.covers i (slice_get_within (numbers (quiet_after hs k w).cabling root t) i q
+      e) in
+      let at : slice_get (numbers (quiet_after hs k w).cabling root t) i ≡ Some c.0 =
+      subst (λ (n : ℕ). slice_get (numbers (quiet_after hs k w).cabling root t) n ≡ Some c.0) c.2
+      (s0.walk.marked.at c.0 c.1) in
       let same : c.0 ≡ q = some-same c.0 q (sym at ∙ e) in
       subst (Holds set) same c.1
 
@@ -478,19 +516,29 @@ module _
       (j : ℕ) (p : Rising j) → sum-over (stage (W j)) order + 1 ≤ sum-over (stage (W (j + p.turns)))
       order
   total-rises j p =
-      sum-strict (stage (W j)) (stage (W (j + p.turns))) order (place_now (quiet_after hs k w) root t p.node) p.node
-      (λ i q e. stage-rises (W j) (W (j + p.turns)) q (gains-on j p.turns q (member i q e))) (s0.walk.marked.at p.node p.inside)
+      sum-strict (stage (W j)) (stage (W (j + p.turns))) order
+      (place_now (quiet_after hs k w) root t p.node) p.node
+      (λ i q e. stage-rises (W j) (W (j + p.turns)) q (gains-on j p.turns q (member i q e)))
+      (s0.walk.marked.at p.node p.inside)
       (stage-strict (W j) (W (j + p.turns)) p.node (gains-on j p.turns p.node p.inside) p.news)
 
   -- all nodes are in A0 then
   abbrev pub ReadyAt : ℕ → Type 0
-  ReadyAt j = (q : ℕ) (x : PortNode) → Holds set q → slice_get (W j).nodes q ≡ Some x → is_ready x.state.view.phase ≡ true
+  ReadyAt j =
+      (q : ℕ) (x : PortNode) → Holds set q → slice_get (W j).nodes q
+      ≡ Some x → is_ready x.state.view.phase ≡ true
 
   pub readies :
       (n j : ℕ) → 4 * length (numbers (quiet_after hs k w).cabling root t) < sum-over (stage (W j))
       (numbers (quiet_after hs k w).cabling root t) + n →
       (m : ℕ) × (m ≤ n * w.delay) × ReadyAt (j + m)
-  readies zero j h = absurd (omega (arith, h, sum-most (stage (W j)) 4 (numbers (quiet_after hs k w).cabling root t) (λ q. stage-most (W j) q)))
+  readies zero j h =
+      absurd (omega (
+        arith,
+        h,
+        sum-most (stage (W j)) 4 (numbers (quiet_after hs k w).cabling root t)
+            (λ q. stage-most (W j) q),
+      ))
   readies (suc n) j h = go (is_ready (S j).is_root.node.state.view.phase) refl (readies n)
     where
       more : suc n * w.delay ≡ w.delay + n * w.delay
@@ -499,10 +547,17 @@ module _
       go :
           (b : Bool) → is_ready (S j).is_root.node.state.view.phase ≡ b →
           ((i : ℕ) →
-          4 * length (numbers (quiet_after hs k w).cabling root t) < sum-over (stage (W i)) (numbers (quiet_after hs k w).cabling root t) + n →
+          4 * length (numbers (quiet_after hs k w).cabling root t) < sum-over (stage (W i))
+          (numbers (quiet_after hs k w).cabling root t) + n →
           (m : ℕ) × (m ≤ n * w.delay) × ReadyAt (i + m))
           → (m : ℕ) × (m ≤ suc n * w.delay) × ReadyAt (j + m)
-      go true e rest = let z : j ≡ j + 0 = omega arith in (0, omega arith, subst ReadyAt z (all-ready (W j) (L j) (A j) (I j) set core root t (S j) e))
+      go true e rest =
+          let z : j ≡ j + 0 = omega arith in (
+            0,
+            omega arith,
+            subst ReadyAt z
+                (all-ready (W j) (L j) (A j) (I j) set core root t (S j) e),
+          )
       go false e rest =
           let p = rises-within j root (S j).is_root.node s0.inside (S j).is_root.at e in
           let u = rest (j + p.turns) (omega (arith, h, total-rises j p)) in
@@ -513,6 +568,7 @@ module _
       (m : ℕ) × (m ≤ (4 * length (numbers (quiet_after hs k w).cabling root t) + 1) * w.delay)
       × ReadyAt m
   ready-soon =
-      let u = readies (4 * length (numbers (quiet_after hs k w).cabling root t) + 1) 0 (omega arith) in
+      let u =
+      readies (4 * length (numbers (quiet_after hs k w).cabling root t) + 1) 0 (omega arith) in
       let z : 0 + u.0 ≡ u.0 = omega arith in
       (u.0, u.1, subst ReadyAt z u.2)

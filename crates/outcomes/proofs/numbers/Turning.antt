@@ -2,18 +2,19 @@
 -- the walk.
 use Rattle.std.proofs.Common.{◌≡◌, inl, inr, ℕ, ◌+◌, ◌<◌, ◌≤◌, Bool, true, false, ◌&&◌, ◌==◌, List, [], ◌∷◌, ◌++◌, Some, None, refl, sym, ◌∙◌, ap, subst, arith, true≢false, if◌then◌else◌}
 use Rattle.std.proofs.lemmas.Bool.{eq-eqb, eqb-true, and_parts, cases_lt, cases_eq, false_from_ne_true}
-use Rattle.outcomes.proofs.Common.{contrary, Node, group, node_count, Level, SelfIdent, Signal, NodeState, is_port, is_unnamed, lowest, is_connected, with_port, sent_on, silent_step, is_identifying, hears_packets, with_packet, with_level, hears, is_heard, on_signal, shown_node, own_group, Row, raise_timer, does, next_row, tick, IsValid, valid-raise_timer, sound-on_signal, port_is-changed, leads_down, hear-stays, no-packets, hear_all, is_ready, is_asked, is_named, IsMarked, is_message, silent, quads_in, has_grant, has_done, kept, parent_mode, child_mode, mode_of, mode, allows, fits, StandsAt}
+use Rattle.outcomes.proofs.Common.{contrary, Node, group, node_count, Level, SelfIdent, Signal, NodeState, is_port, is_unnamed, lowest, is_connected, with_port, sent_on, silent_step, is_identifying, hears_packets, with_packet, with_level, hears, is_heard, on_signal, shown_node, own_group, Row, raise_timer, does, next_row, tick, IsValid, valid-raise_timer, sound-on_signal, port_is-changed, leads_down, hear-stays, no-packets, hear_all, is_ready, is_asked, is_named, IsMarked, is_message, silent, quads_in, has_grant, has_done, mode, allows, fits, StandsAt}
 use Rattle.port_state.specs.declared.signal.Level.TheVariants as level
 use Rattle.port_state.specs.declared.signal.Signal.TheVariants as signal
 use Rattle.port_state.specs.Step.{Step}
 use Rattle.port_state.specs.Row as row
-use Rattle.outcomes.proofs.identify.Messages.{shut-silent, silent-quads, silent-grant, silent-done}
+use Rattle.outcomes.proofs.identify.Messages.{IsKind, grants, dones, has-rest, silent-has, level-quads}
 use Rattle.outcomes.proofs.identify.Ports.{changed-other, changed-here, lowest-is, lowest-first, child-role, not-unnamed, is-unnamed}
 use Rattle.outcomes.proofs.identify.MarksKept.{hears-late, done-asked, signal-marked, raised-marked, all-named}
 use Rattle.outcomes.proofs.identify.Hearing.{Stays, signal-stays, level-asked, level-named, reset-heard}
+use Rattle.outcomes.proofs.identify.LinedTicks.{names-silent}
 use Rattle.outcomes.proofs.identify.LinedHears.{with, unheard-level, front-hears, others-silent}
 use Rattle.outcomes.proofs.identify.LateRows.{LateRow, rests, asks_next, names_now, late-row}
-use Rattle.outcomes.proofs.numbers.NodeMessages.{shown-port, level-owed, level-grant, level-done, rest-fits, after-grant, after-done, at-port, no-packet, root-packet, grant-comes}
+use Rattle.outcomes.proofs.numbers.NodeMessages.{shown-port, Owes, owes-still, owes-now, rest-fits, at-port, no-packet, root-packet, grant-comes}
 
 -- ---- a node of the walk
 
@@ -33,10 +34,8 @@ module _ (n : ℕ) (em : ℕ → List ℕ) (mk : ℕ → ℕ) (c : Node) where
     pub turn :
         x.view.granted ≡ true → is_ready x.view.phase ≡ false → (p : ℕ) → p ≤ n → StandsAt x p →
         x.list.items ≡ em (mk p)
-    pub grant :
-        (j : ℕ) → has_grant (pend j) ≡ true → kept x.list.items (quads_in (pend j)) ≡ em (mk 0)
-    pub done :
-        (j : ℕ) → has_done (pend j) ≡ true → kept x.list.items (quads_in (pend j)) ≡ em (mk (j + 1))
+    pub grant : (j : ℕ) → Owes has_grant x.list.items (em (mk 0)) (pend j)
+    pub done : (j : ℕ) → Owes has_done x.list.items (em (mk (j + 1))) (pend j)
     pub last : is_ready x.view.phase ≡ true → x.view.parent ≡ None → x.list.items ≡ em (mk n + 1)
 
   -- ---- one signal
@@ -44,16 +43,26 @@ module _ (n : ℕ) (em : ℕ → List ℕ) (mk : ℕ → ℕ) (c : Node) where
   module _
       (k : ℕ) (x : NodeState) (pend : ℕ → List Signal) (v : IsValid x) (m : IsMarked x)
       (h : hears_packets x.view.phase ≡ true) (r : Marks x) where
+    -- a signal that is no packet changes nothing of what is owed
+    passes :
+        (s : Signal) → ((ss : List Signal) → quads_in (s ∷ ss) ≡ quads_in ss) →
+        Goes-on x (λ j. with (k == j) s (pend j)) → Goes-on x pend
+    passes s same g = record {
+      id = g.id;
+      turn = g.turn;
+      grant = λ j.
+          owes-still grants s (pend j) x.list.items (em (mk 0)) (k == j) (same (pend j))
+          (g.grant j);
+      done = λ j.
+          owes-still dones s (pend j) x.list.items (em (mk (j + 1))) (k == j) (same (pend j))
+          (g.done j);
+      last = g.last;
+    }
+
     passes-level :
         (s : Signal) → is_message s ≡ false → Goes-on x (λ j. with (k == j) s (pend j)) →
         Goes-on x pend
-    passes-level s t g = record {
-      id = g.id;
-      turn = g.turn;
-      grant = λ j. level-owed has_grant level-grant (k == j) s t (pend j) x.list.items (em (mk 0)) (g.grant j);
-      done = λ j. level-owed has_done level-done (k == j) s t (pend j) x.list.items (em (mk (j + 1))) (g.done j);
-      last = g.last;
-    }
+    passes-level s t g = passes s (λ ss. level-quads s ss t) g
 
     hears-level :
         (lv : Level) (s : Signal) → is_message s ≡ false → Goes-on x (λ j. with (k == j) s (pend j))
@@ -63,7 +72,10 @@ module _ (n : ℕ) (em : ℕ → List ℕ) (mk : ℕ → ℕ) (c : Node) where
         record {
           id = o.id;
           turn = λ gr u p le st. o.turn gr u p le (record {
-            named = λ i b d. sym (level-named k lv x i) ∙ st.named i b (port_is-changed (λ q. q.child) k (λ q. record q { shown = lv }) (λ q. refl) x.view.ports i ∙ d);
+            named = λ i b d.
+                sym (level-named k lv x i)
+                ∙ st.named i b (port_is-changed (λ q. q.child) k (λ q. record q { shown = lv })
+                (λ q. refl) x.view.ports i ∙ d);
             unasked = λ i b. sym (level-asked k lv x i) ∙ st.unasked i b;
           });
           grant = o.grant;
@@ -75,13 +87,17 @@ module _ (n : ℕ) (em : ℕ → List ℕ) (mk : ℕ → ℕ) (c : Node) where
         fits (mode x k) (signal.Grant ∷ pend k) ≡ true → is_port x.view.parent k ≡ true →
         Goes-on x (λ j. with (k == j) signal.Grant (pend j)) →
         Goes-on (record x { view = record x.view { granted = true } }) pend
-    hears-grant f i g = record {
-      id = g.id;
-      turn = λ gr u p le st. now ∙ ap em (sym (r.flat 0 p (omega arith) le (λ i low high. none i (st.named i high))));
-      grant = λ j e. go-grant j (k == j) (g.grant j) e;
-      done = λ j e. go-done j (k == j) (g.done j) e;
-      last = g.last;
-    }
+    hears-grant f i g =
+        let o = passes signal.Grant (λ ss. refl) g in
+        record {
+          id = o.id;
+          turn = λ gr u p le st.
+              now ∙ ap em (sym (r.flat 0 p (omega arith) le
+              (λ i low high. none i (st.named i high))));
+          grant = o.grant;
+          done = o.done;
+          last = o.last;
+        }
       where
         ungranted : x.view.granted ≡ false
         ungranted = grant-comes x k i (rest-fits (mode x k) signal.Grant (pend k) f).0
@@ -89,34 +105,13 @@ module _ (n : ℕ) (em : ℕ → List ℕ) (mk : ℕ → ℕ) (c : Node) where
         none :
             (i : ℕ) → (leads_down x.view.ports i ≡ true → is_named x i ≡ true) →
             leads_down x.view.ports i ≡ false
-        none i all = false_from_ne_true _ (λ e. contrary (m.asks i (m.named i (all e))) ungranted)
-
-        here :
-            (b : Bool) → b ≡ true →
-            (has_grant (with b signal.Grant (pend k)) ≡ true →
-            kept x.list.items (quads_in (with b signal.Grant (pend k))) ≡ em (mk 0))
-            → kept x.list.items (quads_in (pend k)) ≡ em (mk 0)
-        here true e o = o refl
-        here false e o = absurd (true≢false (sym e))
+        none i all =
+            false_from_ne_true _ (λ e. contrary (m.asks i (m.named i (all e))) ungranted)
 
         now : x.list.items ≡ em (mk 0)
-        now = ap (kept x.list.items) (sym (silent-quads (pend k) (after-grant (mode x k) (pend k) f))) ∙ here (k == k) (eq-eqb k k refl) (g.grant k)
-
-        go-grant :
-            (j : ℕ) (b : Bool) →
-            (has_grant (with b signal.Grant (pend j)) ≡ true →
-            kept x.list.items (quads_in (with b signal.Grant (pend j))) ≡ em (mk 0))
-            → has_grant (pend j) ≡ true → kept x.list.items (quads_in (pend j)) ≡ em (mk 0)
-        go-grant j true o e = o refl
-        go-grant j false o e = o e
-
-        go-done :
-            (j : ℕ) (b : Bool) →
-            (has_done (with b signal.Grant (pend j)) ≡ true →
-            kept x.list.items (quads_in (with b signal.Grant (pend j))) ≡ em (mk (j + 1)))
-            → has_done (pend j) ≡ true → kept x.list.items (quads_in (pend j)) ≡ em (mk (j + 1))
-        go-done j true o e = o e
-        go-done j false o e = o e
+        now =
+            owes-now grants signal.Grant (pend k) x.list.items (em (mk 0)) (mode x k) (k == k)
+            (eq-eqb k k refl) refl f (g.grant k)
 
     hears-packet :
         (quad : ℕ) → allows (mode x k) (signal.Packet quad) ≡ true →
@@ -125,49 +120,61 @@ module _ (n : ℕ) (em : ℕ → List ℕ) (mk : ℕ → ℕ) (c : Node) where
         Goes-on (hears k (signal.Packet quad) x).state pend
     hears-packet quad a f g = record {
       id = g.id;
-      turn = λ gr u p le st. absurd (no-packet x k p quad m gr u (record { named = st.named; unasked = st.unasked }) a);
-      grant = λ j e. go has_grant (em (mk 0)) silent-grant j (k == j) refl (f j) (g.grant j) (λ t. t) e;
-      done = λ j e. go has_done (em (mk (j + 1))) silent-done j (k == j) refl (f j) (g.done j) (λ t. t) e;
+      turn = λ gr u p le st.
+          absurd (no-packet x k p quad m gr u (record { named = st.named; unasked = st.unasked })
+          a);
+      grant = λ j. go grants (em (mk 0)) j (k == j) refl (f j) (g.grant j);
+      done = λ j. go dones (em (mk (j + 1))) j (k == j) refl (f j) (g.done j);
       last = λ rd o. absurd (root-packet x k quad m rd o a);
     }
       where
         go :
-            (test : List Signal → Bool) (end : List ℕ) →
-            ((ss : List Signal) → silent ss ≡ true → test ss ≡ false) → (j : ℕ) (b : Bool) →
-            (k == j) ≡ b → fits (mode x j) (with b (signal.Packet quad) (pend j)) ≡ true →
-            (test (with b (signal.Packet quad) (pend j)) ≡ true →
-            kept x.list.items (quads_in (with b (signal.Packet quad) (pend j))) ≡ end) →
-            (test (pend j) ≡ true → test (signal.Packet quad ∷ pend j) ≡ true) →
-            test (pend j) ≡ true → kept (with_packet quad x.list.items) (quads_in (pend j)) ≡ end
-        go test end none j true e f o same t = o (same t)
-        go test end none j false e f o same t = contrary t (none (pend j) (others-silent x k j quad (pend j) m e a f))
+            {one : Signal} {test : Signal → Bool} {has : List Signal → Bool} →
+            IsKind one test has → (end : List ℕ) (j : ℕ) (b : Bool) → (k == j) ≡ b →
+            fits (mode x j) (with b (signal.Packet quad) (pend j)) ≡ true →
+            Owes has x.list.items end (with b (signal.Packet quad) (pend j)) →
+            Owes has (with_packet quad x.list.items) end (pend j)
+        go kind end j true e f o t = o (has-rest kind (signal.Packet quad) (pend j) t)
+        go kind end j false e f o t =
+            let none = others-silent x k j quad (pend j) m e a f in
+            contrary t (silent-has kind (pend j) none)
 
     hears-done :
         leads_down x.view.ports k ≡ true → fits (mode x k) (signal.Done ∷ pend k) ≡ true →
         Goes-on x (λ j. with (k == j) signal.Done (pend j)) →
         Goes-on (hears k signal.Done x).state pend
-    hears-done d f g = record {
-      id = g.id;
-      turn = λ gr u p le st. now ∙ ap em (sym (r.flat (k + 1) p (behind p st) le (λ i low high. none p st i low high)));
-      grant = λ j e. go-grant j (k == j) (g.grant j) e;
-      done = λ j e. go-done j (k == j) (g.done j) e;
-      last = g.last;
-    }
+    hears-done d f g =
+        let o = passes signal.Done (λ ss. refl) g in
+        record {
+          id = o.id;
+          turn = λ gr u p le st.
+              now ∙ ap em (sym (r.flat (k + 1) p (past p st) le
+              (λ i low high. none p st i low high)));
+          grant = o.grant;
+          done = o.done;
+          last = o.last;
+        }
       where
         y : NodeState
         y = (hears k signal.Done x).state
 
         asked : (i : ℕ) → is_asked y i ≡ is_asked x i
-        asked i = port_is-changed (λ q. q.asked) k (λ q. record q { named = true }) (λ q. refl) x.view.ports i
+        asked i =
+            port_is-changed (λ q. q.asked) k (λ q. record q { named = true }) (λ q. refl)
+            x.view.ports i
 
         child : (i : ℕ) → leads_down y.view.ports i ≡ leads_down x.view.ports i
-        child i = port_is-changed (λ q. q.child) k (λ q. record q { named = true }) (λ q. refl) x.view.ports i
+        child i =
+            port_is-changed (λ q. q.child) k (λ q. record q { named = true }) (λ q. refl)
+            x.view.ports i
 
         was : (is_asked x k ≡ true) × (is_named x k ≡ false)
-        was = done-asked x k (child-role x k v (hears-late x.view.phase h) d).0 (rest-fits (mode x k) signal.Done (pend k) f).0
+        was =
+            done-asked x k (child-role x k v (hears-late x.view.phase h) d).0
+            (rest-fits (mode x k) signal.Done (pend k) f).0
 
-        behind : (p : ℕ) → StandsAt y p → k + 1 ≤ p
-        behind p st = elim (cases_lt k p) [
+        past : (p : ℕ) → StandsAt y p → k + 1 ≤ p
+        past p st = elim (cases_lt k p) [
           | inl less ↦ omega (arith, less)
           | inr more ↦ contrary was.0 (sym (asked k) ∙ st.unasked k more)
         ]
@@ -175,42 +182,23 @@ module _ (n : ℕ) (em : ℕ → List ℕ) (mk : ℕ → ℕ) (c : Node) where
         none :
             (p : ℕ) → StandsAt y p → (i : ℕ) → k + 1 ≤ i → i < p → leads_down x.view.ports i ≡ false
         none p st i low high = false_from_ne_true _ (λ e.
-            let now : is_named x i ≡ true = sym (changed-other (λ q. q.named) k i (λ q. record q { named = true }) x.view.ports apart) ∙ st.named i high (child i ∙ e) in
+            let now : is_named x i ≡ true =
+            sym (changed-other (λ q. q.named) k i (λ q. record q { named = true }) x.view.ports
+            apart) ∙ st.named i high (child i ∙ e) in
             contrary (m.order k i (omega (arith, low)) (m.named i now) d) was.1)
           where
             apart : (i == k) ≡ false
             apart = other (i == k) refl
               where
                 other : (b : Bool) → (i == k) ≡ b → b ≡ false
-                other true e = let same : i ≡ k = eqb-true i k e in absurd (omega (arith, low, same))
+                other true e =
+                    let same : i ≡ k = eqb-true i k e in absurd (omega (arith, low, same))
                 other false e = refl
 
-        here :
-            (b : Bool) → b ≡ true →
-            (has_done (with b signal.Done (pend k)) ≡ true →
-            kept x.list.items (quads_in (with b signal.Done (pend k))) ≡ em (mk (k + 1)))
-            → kept x.list.items (quads_in (pend k)) ≡ em (mk (k + 1))
-        here true e o = o refl
-        here false e o = absurd (true≢false (sym e))
-
         now : x.list.items ≡ em (mk (k + 1))
-        now = ap (kept x.list.items) (sym (silent-quads (pend k) (after-done (mode x k) (pend k) f))) ∙ here (k == k) (eq-eqb k k refl) (g.done k)
-
-        go-grant :
-            (j : ℕ) (b : Bool) →
-            (has_grant (with b signal.Done (pend j)) ≡ true →
-            kept x.list.items (quads_in (with b signal.Done (pend j))) ≡ em (mk 0))
-            → has_grant (pend j) ≡ true → kept x.list.items (quads_in (pend j)) ≡ em (mk 0)
-        go-grant j true o e = o e
-        go-grant j false o e = o e
-
-        go-done :
-            (j : ℕ) (b : Bool) →
-            (has_done (with b signal.Done (pend j)) ≡ true →
-            kept x.list.items (quads_in (with b signal.Done (pend j))) ≡ em (mk (j + 1)))
-            → has_done (pend j) ≡ true → kept x.list.items (quads_in (pend j)) ≡ em (mk (j + 1))
-        go-done j true o e = o refl
-        go-done j false o e = o e
+        now =
+            owes-now dones signal.Done (pend k) x.list.items (em (mk (k + 1))) (mode x k) (k == k)
+            (eq-eqb k k refl) refl f (g.done k)
 
     hearing :
         (s : Signal) → is_heard k s x ≡ true → hears_packets (hears k s x).state.view.phase ≡ true →
@@ -221,9 +209,15 @@ module _ (n : ℕ) (em : ℕ → List ℕ) (mk : ℕ → ℕ) (c : Node) where
     hearing signal.Idle e n a f fs g = hears-level level.Idle signal.Idle refl g
     hearing signal.Parent e n a f fs g = hears-level level.Parent signal.Parent refl g
     hearing signal.Child e n a f fs g = hears-level level.Child signal.Child refl g
-    hearing signal.Grant e n a f fs g = hears-grant f (and_parts (is_identifying x.view.phase) (is_port x.view.parent k) (and_parts (is_connected x.view.ports k) (is_identifying x.view.phase && is_port x.view.parent k) e).1).1 g
+    hearing signal.Grant e n a f fs g =
+        hears-grant f (and_parts (is_identifying x.view.phase) (is_port x.view.parent k)
+        (and_parts (is_connected x.view.ports k)
+        (is_identifying x.view.phase && is_port x.view.parent k) e).1).1 g
     hearing (signal.Packet quad) e n a f fs g = hears-packet quad a fs g
-    hearing signal.Done e n a f fs g = hears-done (and_parts (is_identifying x.view.phase) (leads_down x.view.ports k) (and_parts (is_connected x.view.ports k) (is_identifying x.view.phase && leads_down x.view.ports k) e).1).1 f g
+    hearing signal.Done e n a f fs g =
+        hears-done (and_parts (is_identifying x.view.phase) (leads_down x.view.ports k)
+        (and_parts (is_connected x.view.ports k)
+        (is_identifying x.view.phase && leads_down x.view.ports k) e).1).1 f g
 
   pub hears-one :
       (k : ℕ) (s : Signal) (x : NodeState) (pend : ℕ → List Signal) → IsValid x → IsMarked x →
@@ -260,9 +254,12 @@ module _ (n : ℕ) (em : ℕ → List ℕ) (mk : ℕ → ℕ) (c : Node) where
           hears_packets (hears k s x).state.view.phase ≡ true →
           shown_node (hears k s x).state ≡ shown_node x
       heard-so signal.Reset u on = absurd (reset-heard k x h on)
-      heard-so signal.Idle u on = shown-port k (λ q. record q { shown = level.Idle }) x v u (λ q. refl)
-      heard-so signal.Parent u on = shown-port k (λ q. record q { shown = level.Parent }) x v u (λ q. refl)
-      heard-so signal.Child u on = shown-port k (λ q. record q { shown = level.Child }) x v u (λ q. refl)
+      heard-so signal.Idle u on =
+          shown-port k (λ q. record q { shown = level.Idle }) x v u (λ q. refl)
+      heard-so signal.Parent u on =
+          shown-port k (λ q. record q { shown = level.Parent }) x v u (λ q. refl)
+      heard-so signal.Child u on =
+          shown-port k (λ q. record q { shown = level.Child }) x v u (λ q. refl)
       heard-so signal.Grant u on = refl
       heard-so (signal.Packet quad) u on = refl
       heard-so signal.Done u on = shown-port k (λ q. record q { named = true }) x v u (λ q. refl)
@@ -309,7 +306,9 @@ module _ (n : ℕ) (em : ℕ → List ℕ) (mk : ℕ → ℕ) (c : Node) where
       heard-so signal.Child on = level-asked k level.Child x j
       heard-so signal.Grant on = refl
       heard-so (signal.Packet quad) on = refl
-      heard-so signal.Done on = port_is-changed (λ q. q.asked) k (λ q. record q { named = true }) (λ q. refl) x.view.ports j
+      heard-so signal.Done on =
+          port_is-changed (λ q. q.asked) k (λ q. record q { named = true }) (λ q. refl) x.view.ports
+          j
 
       go :
           (b : Bool) →
@@ -329,8 +328,8 @@ module _ (n : ℕ) (em : ℕ → List ℕ) (mk : ℕ → ℕ) (c : Node) where
   goes-along x one two same g = record {
     id = g.id;
     turn = g.turn;
-    grant = λ j. subst (λ ss. has_grant ss ≡ true → kept x.list.items (quads_in ss) ≡ em (mk 0)) (same j) (g.grant j);
-    done = λ j. subst (λ ss. has_done ss ≡ true → kept x.list.items (quads_in ss) ≡ em (mk (j + 1))) (same j) (g.done j);
+    grant = λ j. subst (Owes has_grant x.list.items (em (mk 0))) (same j) (g.grant j);
+    done = λ j. subst (Owes has_done x.list.items (em (mk (j + 1)))) (same j) (g.done j);
     last = g.last;
   }
 
@@ -342,10 +341,22 @@ module _ (n : ℕ) (em : ℕ → List ℕ) (mk : ℕ → ℕ) (c : Node) where
       Goes-on x (λ j. sent_on j signals ++ pend j) →
       Heard-so x (hear_all signals x).state × Goes-on (hear_all signals x).state pend
       × ((j : ℕ) → fits (mode (hear_all signals x).state j) (pend j) ≡ true)
-  hears-all [] x pend v m h r on f g = (record { valid = v; marked = m; marks = r; asked = λ j. refl; stays = record { phase = refl; parent = refl; child = λ k. refl; cables = λ k. refl } }, g, f)
+  hears-all [] x pend v m h r on f g = (
+    record {
+      valid = v;
+      marked = m;
+      marks = r;
+      asked = λ j. refl;
+      stays = record { phase = refl; parent = refl; child = λ k. refl; cables = λ k. refl };
+    },
+    g,
+    f,
+  )
   hears-all (s ∷ rest) x pend v m h r on f g = elim (signal-stays s.0 s.1 x) [
     | inl t ↦ goes-first t (hears-all rest first.state pend)
-    | inr t ↦ absurd (no-packets (hear_all rest first.state).state.view.phase (hear-stays rest first.state t) on)
+    | inr t ↦
+        absurd (no-packets (hear_all rest first.state).state.view.phase
+        (hear-stays rest first.state t) on)
   ]
     where
       first : Step
@@ -361,7 +372,9 @@ module _ (n : ℕ) (em : ℕ → List ℕ) (mk : ℕ → ℕ) (c : Node) where
       fs j = ap (fits (mode x j)) (sym (same j)) ∙ f j
 
       may : allows (mode x s.0) s.1 ≡ true
-      may = (rest-fits (mode x s.0) s.1 (later s.0) (at-port (s.0 == s.0) (eq-eqb s.0 s.0 refl) (mode x s.0) s.1 (later s.0) (fs s.0))).0
+      may =
+          (rest-fits (mode x s.0) s.1 (later s.0)
+          (at-port (s.0 == s.0) (eq-eqb s.0 s.0 refl) (mode x s.0) s.1 (later s.0) (fs s.0))).0
 
       goes-first :
           Stays x first.state →
@@ -377,13 +390,24 @@ module _ (n : ℕ) (em : ℕ → List ℕ) (mk : ℕ → ℕ) (c : Node) where
           × ((j : ℕ) → fits (mode (hear_all rest first.state).state j) (pend j) ≡ true)
       goes-first t rest-so =
           let n1 : hears_packets first.state.view.phase ≡ true = ap hears_packets t.phase ∙ h in
-          let o = rest-so (sound-on_signal s.0 s.1 x v).valid (signal-marked s.0 s.1 x v m (λ _. may)) n1 (marks-stay s.0 s.1 x v h n1 t r) on (λ j. front-hears s.0 s.1 x j (later j) v m h n1 may (fs j)) (hears-one s.0 s.1 x later v m h r n1 fs (goes-along x (λ j. sent_on j (s ∷ rest) ++ pend j) (λ j. with (s.0 == j) s.1 (later j)) same g)) in (
+          let o =
+          rest-so (sound-on_signal s.0 s.1 x v).valid (signal-marked s.0 s.1 x v m (λ _. may)) n1
+          (marks-stay s.0 s.1 x v h n1 t r) on
+          (λ j. front-hears s.0 s.1 x j (later j) v m h n1 may (fs j))
+          (hears-one s.0 s.1 x later v m h r n1 fs
+          (goes-along x (λ j. sent_on j (s ∷ rest) ++ pend j) (λ j. with (s.0 == j) s.1 (later j))
+          same g)) in (
             record {
               valid = o.0.valid;
               marked = o.0.marked;
               marks = o.0.marks;
               asked = λ j. o.0.asked j ∙ same-asked s.0 s.1 x h n1 j;
-              stays = record { phase = o.0.stays.phase ∙ t.phase; parent = o.0.stays.parent ∙ t.parent; child = λ k. o.0.stays.child k ∙ t.child k; cables = λ k. o.0.stays.cables k ∙ t.cables k };
+              stays = record {
+                phase = o.0.stays.phase ∙ t.phase;
+                parent = o.0.stays.parent ∙ t.parent;
+                child = λ k. o.0.stays.child k ∙ t.child k;
+                cables = λ k. o.0.stays.cables k ∙ t.cables k;
+              };
             },
             o.1,
             o.2,
@@ -425,7 +449,9 @@ module _ (n : ℕ) (em : ℕ → List ℕ) (mk : ℕ → ℕ) (c : Node) where
       record {
         asks = λ q a b. elim (cases_eq q k) [
           | inl same ↦ subst (λ (i : ℕ). x.list.items ≡ em (mk i)) (sym same) now
-          | inr ne ↦ contrary b (changed-other (λ q. q.asked) k q (λ q. record q { asked = true }) x.view.ports (apart q k ne) ∙ a)
+          | inr ne ↦
+              contrary b (changed-other (λ q. q.asked) k q (λ q. record q { asked = true })
+              x.view.ports (apart q k ne) ∙ a)
         ];
         names = λ a b. contrary b a;
       },
@@ -438,13 +464,20 @@ module _ (n : ℕ) (em : ℕ → List ℕ) (mk : ℕ → ℕ) (c : Node) where
         here = is-unnamed x.view.ports k (lowest-is is_unnamed x.view.ports k low)
 
         named : (i : ℕ) → is_named y i ≡ is_named x i
-        named i = port_is-changed (λ q. q.named) k (λ q. record q { asked = true }) (λ q. refl) x.view.ports i
+        named i =
+            port_is-changed (λ q. q.named) k (λ q. record q { asked = true }) (λ q. refl)
+            x.view.ports i
 
         child : (i : ℕ) → leads_down y.view.ports i ≡ leads_down x.view.ports i
-        child i = port_is-changed (λ q. q.child) k (λ q. record q { asked = true }) (λ q. refl) x.view.ports i
+        child i =
+            port_is-changed (λ q. q.child) k (λ q. record q { asked = true }) (λ q. refl)
+            x.view.ports i
 
         asked : (i : ℕ) → (i == k) ≡ true → is_asked y i ≡ true
-        asked i same = changed-here (λ q. q.asked) (λ q. q.child) k i (λ q. record q { asked = true }) x.view.ports (λ q. refl) same (subst (λ (j : ℕ). leads_down x.view.ports j ≡ true) (sym (eqb-true i k same)) here)
+        asked i same =
+            changed-here (λ q. q.asked) (λ q. q.child) k i (λ q. record q { asked = true })
+            x.view.ports (λ q. refl) same
+            (subst (λ (j : ℕ). leads_down x.view.ports j ≡ true) (sym (eqb-true i k same)) here)
 
         apart : (i j : ℕ) → (i ≡ j → ⊥) → (i == j) ≡ false
         apart i j ne = false_from_ne_true _ (λ e. ne (eqb-true i j e))
@@ -461,7 +494,10 @@ module _ (n : ℕ) (em : ℕ → List ℕ) (mk : ℕ → ℕ) (c : Node) where
 
         stands : StandsAt x k
         stands = record {
-          named = λ i less d. not-unnamed x.view.ports i (lowest-first is_unnamed 0 x.view.ports k low i (omega (arith, less))) (child-role x i v (hears-late x.view.phase h) d).1 d;
+          named = λ i less d.
+              not-unnamed x.view.ports i
+              (lowest-first is_unnamed 0 x.view.ports k low i (omega (arith, less)))
+              (child-role x i v (hears-late x.view.phase h) d).1 d;
           unasked = late-unasked;
         }
 
@@ -476,8 +512,8 @@ module _ (n : ℕ) (em : ℕ → List ℕ) (mk : ℕ → ℕ) (c : Node) where
       record {
         id = λ rd. ap (λ (i : ℕ). Some i) many;
         turn = λ gr u. absurd (true≢false u);
-        grant = λ j t. contrary t (silent-grant (pend j) (quiet-port j));
-        done = λ j t. contrary t (silent-done (pend j) (quiet-port j));
+        grant = λ j t. contrary t (silent-has grants (pend j) (quiet-port j));
+        done = λ j t. contrary t (silent-has dones (pend j) (quiet-port j));
         last = λ rd o. whole;
       },
       record {
@@ -493,7 +529,9 @@ module _ (n : ℕ) (em : ℕ → List ℕ) (mk : ℕ → ℕ) (c : Node) where
         unasked i le = false_from_ne_true _ (λ e. omega (arith, le, r.below i (m.asked i e)))
 
         now : x.list.items ≡ em (mk n)
-        now = g.turn gr (ap is_ready e) n (omega arith) (record { named = λ i less d. all i d; unasked = unasked })
+        now =
+            g.turn gr (ap is_ready e) n (omega arith)
+            (record { named = λ i less d. all i d; unasked = unasked })
 
         many : node_count x.list.items ≡ mk n
         many = ap node_count now ∙ count
@@ -502,21 +540,12 @@ module _ (n : ℕ) (em : ℕ → List ℕ) (mk : ℕ → ℕ) (c : Node) where
         own = ap (λ (z : Node). group z (node_count x.list.items)) r.shown ∙ ap (group c) many
 
         whole : x.list.items ++ own_group x (node_count x.list.items) ≡ em (mk n + 1)
-        whole = ap (λ (ss : List ℕ). x.list.items ++ ss) own ∙ ap (λ (ss : List ℕ). ss ++ group c (mk n)) now ∙ sym add
+        whole =
+            ap (λ (ss : List ℕ). x.list.items ++ ss) own
+            ∙ ap (λ (ss : List ℕ). ss ++ group c (mk n)) now ∙ sym add
 
         quiet-port : (j : ℕ) → silent (pend j) ≡ true
-        quiet-port j = go (is_port x.view.parent j) (is_ready x.view.phase) x.view.granted (is_asked x j) (is_named x j) (ap is_ready e) gr refl refl (f j)
-          where
-            go :
-                (i r b a n : Bool) → r ≡ false → b ≡ true → is_asked x j ≡ a → is_named x j ≡ n →
-                fits (mode_of i (parent_mode r b) (child_mode a n)) (pend j) ≡ true →
-                silent (pend j) ≡ true
-            go true true b a n er eb ea en f = absurd (true≢false er)
-            go true false false a n er eb ea en f = absurd (true≢false (sym eb))
-            go true false true a n er eb ea en f = shut-silent (pend j) f
-            go false r b true true er eb ea en f = shut-silent (pend j) f
-            go false r b false n er eb ea en f = shut-silent (pend j) f
-            go false r b true false er eb ea en f = contrary (all j (m.asked j ea)) en
+        quiet-port j = names-silent x j (pend j) v m h (f j) e gr low
 
     does-so :
         (coin : Bool) (w : Row) → LateRow x w →
@@ -532,5 +561,16 @@ module _ (n : ℕ) (em : ℕ → List ℕ) (mk : ℕ → ℕ) (c : Node) where
       Goes-on (tick coin x).state pend × Ticks-so x (tick coin x).state
   unfolding tick
   ticks-so coin x pend v m h r f add count g =
-      let o = does-so (raise_timer x) pend (valid-raise_timer x v) (raised-marked x m) h (record { flat = r.flat; below = r.below; shown = r.shown }) f add count (record { id = g.id; turn = λ gr u p le st. g.turn gr u p le (record { named = st.named; unasked = st.unasked }); grant = g.grant; done = g.done; last = g.last }) coin (next_row x) (late-row x h) in
+      let o =
+      does-so (raise_timer x) pend (valid-raise_timer x v) (raised-marked x m) h
+      (record { flat = r.flat; below = r.below; shown = r.shown }) f add count
+      (record {
+        id = g.id;
+        turn = λ gr u p le st. g.turn gr u p le
+            (record { named = st.named; unasked = st.unasked });
+        grant =
+            g.grant;
+        done = g.done;
+        last = g.last;
+      }) coin (next_row x) (late-row x h) in
       (o.0, record { asks = o.1.asks; names = o.1.names })

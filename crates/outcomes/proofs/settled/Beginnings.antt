@@ -1,6 +1,6 @@
 -- The turn in which the last node of a component comes to self identify: from there lists follow
 -- the walk, so that the component comes to its tree.
-use Rattle.std.proofs.Common.{◌≡◌, ◌⊎◌, inl, inr, ℕ, ◌^◌, ◌<◌, Bool, true, false, not, ◌==◌, Option, Some, None, length, slice_get, refl, sym, ap, subst, arith, eq-eqb}
+use Rattle.std.proofs.Common.{◌≡◌, ◌⊎◌, inl, inr, ℕ, ◌<◌, Bool, true, false, not, ◌==◌, Option, Some, None, length, slice_get, refl, sym, ap, subst, arith, eq-eqb}
 use Rattle.std.specs.Int.{bit_at}
 use Rattle.std.proofs.lemmas.Bool.{cases_lt, eqb-true, not-false}
 use Rattle.std.proofs.lemmas.Option.{slice_get_cases, slice_get_within}
@@ -12,6 +12,7 @@ use Rattle.outcomes.proofs.identify.IdentifyingTurn.{turn-identifying}
 use Rattle.outcomes.proofs.identify.MarksKept.{hears-late}
 use Rattle.outcomes.proofs.numbers.Settling.{settles-first}
 use Rattle.outcomes.proofs.roots.RootWalk.{root-walk}
+use Rattle.outcomes.proofs.settled.Components.{Part}
 use Rattle.outcomes.proofs.settled.Unnamed.{Above, above-of}
 use Rattle.std.proofs.lemmas.Bool.{not-true}
 
@@ -28,7 +29,14 @@ pub record IsUnfinished (w : CableWorld) (set : ℕ) : Type 0 where
 pub all-or-not : (w : CableWorld) (set : ℕ) → AreIdentifying w set ⊎ IsUnfinished w set
 all-or-not w set = elim (search-set set (λ x. not (hears_packets x.state.view.phase)) w) [
   | inl none ↦ inl (λ k x h at. not-false (hears_packets x.state.view.phase) (none k x h at))
-  | inr f ↦ inr (record { number = f.0; holds = f.1.holds; node = f.1.node; at = f.1.at; out = not-true (hears_packets f.1.node.state.view.phase) f.1.passes })
+  | inr f ↦
+      inr (record {
+        number = f.0;
+        holds = f.1.holds;
+        node = f.1.node;
+        at = f.1.at;
+        out = not-true (hears_packets f.1.node.state.view.phase) f.1.passes;
+      })
 ]
 
 pub not-both-ways : (w : CableWorld) (set : ℕ) → IsUnfinished w set → AreIdentifying w set → ⊥
@@ -42,8 +50,11 @@ pub all-there :
     j < length c → Holds set k → k < length c
 all-there c node set j k is comp in_j there h = elim (cases_lt k (length c)) [
   | inl less ↦ less
-  | inr more ↦ absurd (in-component c j set (λ n. n < length c) is (shared c node j set is comp in_j) there there
-      (λ a b e n. (plugged c b a (is.both_ways a b e)).node) k h (λ less. omega (arith, less, more)))
+  | inr more ↦
+      absurd (in-component c j set (λ n. n < length c) is (shared c node j set is comp in_j) there
+      there
+      (λ a b e n. (plugged c b a (is.both_ways a b e)).node) k h
+      (λ less. omega (arith, less, more)))
 ]
 
 pub nodes-there :
@@ -51,7 +62,14 @@ pub nodes-there :
     node < length w.nodes → (k : ℕ) → Holds set k → (x : PortNode) × (slice_get w.nodes k ≡ Some x)
 nodes-there w l node set comp there k h = elim (slice_get_cases w.nodes k).1 [
   | inl found ↦ (found.0, found.2)
-  | inr lacks ↦ absurd (omega (arith, lacks.0, all-there w.cabling node set node k l.well_formed.cabling comp comp.holds (omega (arith, there, l.well_formed.count)) h, l.well_formed.count))
+  | inr lacks ↦
+      absurd (omega (
+        arith,
+        lacks.0,
+        all-there w.cabling node set node k l.well_formed.cabling comp
+            comp.holds (omega (arith, there, l.well_formed.count)) h,
+        l.well_formed.count,
+      ))
 ]
 
 -- where all identify, the node above the others has no parent
@@ -59,7 +77,8 @@ pub has-root :
     (w : CableWorld) → IsLawful w → IsAcyclic w → IsIdentifying w → (node set j : ℕ) →
     IsComponent w.cabling node set → Holds set j → j < length w.cabling → AreIdentifying w set →
     (root : ℕ) × Holds set root × IsRoot w root
-has-root w l acyclic i node set j comp in_j there all = (top.0, inside, root x.0.state.view.parent refl)
+has-root w l acyclic i node set j comp in_j there all =
+    (top.0, inside, root x.0.state.view.parent refl)
   where
     member : ℕ → Bool
     member k = bit_at set k == 1
@@ -73,25 +92,38 @@ has-root w l acyclic i node set j comp in_j there all = (top.0, inside, root x.0
     x : (u : PortNode) × (slice_get w.nodes top.0 ≡ Some u)
     x = elim (slice_get_cases w.nodes top.0).1 [
       | inl found ↦ (found.0, found.2)
-      | inr lacks ↦ absurd (omega (arith, lacks.0, all-there w.cabling node set j top.0 l.well_formed.cabling comp in_j there inside, l.well_formed.count))
+      | inr lacks ↦
+          absurd (omega (
+            arith,
+            lacks.0,
+            all-there w.cabling node set j top.0 l.well_formed.cabling
+                comp in_j there inside,
+            l.well_formed.count,
+          ))
     ]
 
     hears : hears_packets x.0.state.view.phase ≡ true
     hears = all top.0 x.0 inside x.1
 
     root : (o : Option ℕ) → x.0.state.view.parent ≡ o → IsRoot w top.0
-    root None e = record { node = x.0; at = x.1; late = hears-late x.0.state.view.phase hears; parentless = e }
+    root None e = record {
+      node = x.0;
+      at = x.1;
+      late = hears-late x.0.state.view.phase hears;
+      parentless = e;
+    }
     root (Some p) e =
-        let u : Above w top.0 x.0 = above-of w l i set (calm-in w l set comp.closed all) top.0 p x.0 inside x.1 hears e in
+        let u : Above w top.0 x.0 =
+        above-of w l i set (calm-in w l set comp.closed all) top.0 p x.0 inside x.1 hears e in
         let up : Holds set u.from.node = comp.closed (end_at top.0 u.port) u.from u.back inside in
-        absurd (top.1.none u.from (end_at top.0 u.port) u.cable refl (eq-eqb (bit_at set u.from.node) 1 up))
+        absurd (top.1.none u.from (end_at top.0 u.port) u.cable refl
+        (eq-eqb (bit_at set u.from.node) 1 up))
 
 -- ---- the turn in which they come there
 
 module _
     (w : CableWorld) (l : IsLawful w) (acyclic : IsAcyclic w) (i : IsIdentifying w)
-    (node set core : ℕ) (comp : IsComponent w.cabling node set) (is_core : IsCore w.cabling set core)
-    (small : set < 2 ^ 63) (out : IsUnfinished w set) (all : AreIdentifying (turn w) set) where
+    (p : Part w) (out : IsUnfinished w p.set) (all : AreIdentifying (turn w) p.set) where
   v-lawful : IsLawful (turn w)
   v-lawful = turn-lawful w l
 
@@ -101,27 +133,40 @@ module _
   same : (turn w).cabling ≡ w.cabling
   same = cabling-after w
 
-  comp-v : IsComponent (turn w).cabling node set
-  comp-v = subst (λ (c : Wiring). IsComponent c node set) (sym same) comp
+  comp-v : IsComponent (turn w).cabling p.node p.set
+  comp-v = subst (λ (c : Wiring). IsComponent c p.node p.set) (sym same) p.component
 
-  core-v : IsCore (turn w).cabling set core
-  core-v = subst (λ (c : Wiring). IsCore c set core) (sym same) is_core
+  core-v : IsCore (turn w).cabling p.set p.core
+  core-v = subst (λ (c : Wiring). IsCore c p.set p.core) (sym same) p.is_core
 
   there : out.number < length (turn w).cabling
-  there = omega (arith, slice_get_within w.nodes out.number out.node out.at, l.well_formed.count, ap (λ (c : Wiring). length c) same)
+  there =
+      omega (
+        arith,
+        slice_get_within w.nodes out.number out.node out.at,
+        l.well_formed.count,
+        ap (λ (c : Wiring). length c) same,
+      )
 
-  root : (k : ℕ) × Holds set k × IsRoot (turn w) k
-  root = has-root (turn w) v-lawful v-acyclic (turn-identifying w l i) node set out.number comp-v out.holds there all
+  root : (k : ℕ) × Holds p.set k × IsRoot (turn w) k
+  root =
+      has-root (turn w) v-lawful v-acyclic (turn-identifying w l i) p.node p.set out.number comp-v
+      out.holds there all
 
-  walk : (t : Tree) × RootWalk (turn w) set root.0 t
-  walk = root-walk (turn w) v-lawful v-acyclic node set (calm-in (turn w) v-lawful set comp-v.closed all) core root.0 comp-v core-v small root.1 root.2
+  walk : (t : Tree) × RootWalk (turn w) p.set root.0 t
+  walk =
+      root-walk (turn w) v-lawful v-acyclic p.node p.set
+      (calm-in (turn w) v-lawful p.set comp-v.closed all) p.core root.0 comp-v core-v p.small root.1
+      root.2
 
-  comp-root : IsComponent w.cabling root.0 set
-  comp-root = shared w.cabling node root.0 set l.well_formed.cabling comp root.1
+  comp-root : IsComponent w.cabling root.0 p.set
+  comp-root = shared w.cabling p.node root.0 p.set l.well_formed.cabling p.component root.1
 
-  pub begins-to-settle : Settles (turn w) set core
+  pub begins-to-settle : Settles (turn w) p.set p.core
   begins-to-settle = record {
     root = root.0;
     tree = walk.0;
-    is = settles-first w l acyclic i set core root.0 walk.0 comp-root is_core small root.1 root.2 walk.1 all (not-both-ways w set out);
+    is =
+        settles-first w l acyclic i p.set p.core root.0 walk.0 comp-root p.is_core p.small root.1
+        root.2 walk.1 all (not-both-ways w p.set out);
   }

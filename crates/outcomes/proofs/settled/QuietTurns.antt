@@ -1,7 +1,7 @@
 -- After so many quiet turns every component has an outcome.
-use Rattle.std.proofs.Common.{◌≡◌, ◌⊎◌, inl, inr, ℕ, zero, suc, ◌+◌, ◌-◌, ◌*◌, ◌^◌, ◌<◌, ◌≤◌, true, length, max, sym, ◌∙◌, ap, subst, arith, true≢false}
+use Rattle.std.proofs.Common.{◌≡◌, ◌⊎◌, inl, inr, ℕ, zero, suc, ◌+◌, ◌-◌, ◌*◌, ◌<◌, ◌≤◌, true, length, max, sym, ◌∙◌, ap, subst, arith, true≢false}
 use Rattle.std.proofs.lemmas.Option.{slice_get_cases}
-use Rattle.outcomes.proofs.Common.{Wiring, Holds, IsEmpty, IsComponent, IsCore, HasTwo, numbers, plugged, end_at, CableWorld, ComesOfPowerOn, IsLawful, IsTree, IsSettled, loop, after-length, comes-lawful, quiet-then, quiet-lawful, after-cabling, HoldSchedule, holds_after, quiet_after, done-after, comes-contested, search-set, ResetsAreOver, ResetsAreDone, AreIdentifying, HasContention, Settles, IsNumbering}
+use Rattle.outcomes.proofs.Common.{Holds, IsEmpty, IsCore, HasTwo, numbers, plugged, end_at, CableWorld, ComesOfPowerOn, IsLawful, IsTree, IsSettled, loop, after-length, comes-lawful, quiet-then, quiet-lawful, after-cabling, HoldSchedule, holds_after, quiet_after, done-after, comes-contested, search-set, ResetsAreOver, ResetsAreDone, AreIdentifying, HasContention, Settles, IsNumbering}
 use Rattle.cable_world.specs.Times.{longest_in_range}
 use Rattle.outcomes.specs.QuietTurns.{AreShort, QuietTurnsAreEnough, InRangeIsEnough}
 use Rattle.convergence.proofs.Lemmas.{quiet-contested, taken-reached, decided-reached, start-grown, resets-over, grown-of, contention-after}
@@ -12,6 +12,7 @@ use Rattle.convergence.specs.Turns.{turns_to_settle, turns_to_decision}
 use Rattle.outcomes.proofs.numbers.Spreads.{tree-soon}
 use Rattle.outcomes.proofs.settled.Beginnings.{all-or-not, not-both-ways}
 use Rattle.outcomes.proofs.settled.Numbering.{comes-numbering}
+use Rattle.outcomes.proofs.settled.Components.{Part, part-in, part-settles}
 use Rattle.outcomes.proofs.settled.Outcomes.{no-tree-yet, tree-or-none, contention-outcome, tree-outcome}
 use Rattle.outcomes.proofs.settled.Unnamed.{loop-outcome}
 
@@ -28,7 +29,9 @@ room-to-rest len d few =
 
 -- where times are short enough, `quiet_turns` are enough
 pub short-enough : QuietTurnsAreEnough
-short-enough w short = parts (length w.nodes) w.delay w.longest.hold w.longest.force w.longest.timeout w.longest.long short.tree short.loop
+short-enough w short =
+    parts (length w.nodes) w.delay w.longest.hold w.longest.force w.longest.timeout w.longest.long
+    short.tree short.loop
   where
     square : (n d : ℕ) → 2 * (n * d) ≤ d * (n * n) + d
     square zero d = omega arith
@@ -40,17 +43,20 @@ short-enough w short = parts (length w.nodes) w.delay w.longest.hold w.longest.f
     parts :
         (n d h f t l : ℕ) → h + f + 35 * l < 1600 * d → h + t < 1600 * d →
         max (n * d + (h + d) + (t + 1))
-        (n * d + (h + d) + (f + n * d) + (12 * (n * d) + 33 * (l + 2 * d) + (l + (l + 2 * d)) + 1) + 315 * d)
+        (n * d + (h + d) + (f + n * d) + (12 * (n * d) + 33 * (l + 2 * d) + (l + (l + 2 * d)) + 1)
+        + 315 * d)
         ≤ d * (2000 + 4 * n * n + 8 * n)
     parts n d h f t l few soon =
-        let z : d * (2000 + 4 * n * n + 8 * n) ≡ 2000 * d + 4 * (d * (n * n)) + 8 * (n * d) = grind arith in
+        let z : d * (2000 + 4 * n * n + 8 * n) ≡ 2000 * d + 4 * (d * (n * n)) + 8 * (n * d) =
+        grind arith in
         omega (arith, z, square n d, few, soon)
 
 pub range-short : (d : ℕ) → 1 ≤ d → AreShort d (longest_in_range d)
 range-short d some = record { tree = omega (arith, some); loop = omega (arith, some) }
 
 pub range-enough : InRangeIsEnough
-range-enough w some is = short-enough w (subst (AreShort w.delay) (sym is) (range-short w.delay some))
+range-enough w some is =
+    short-enough w (subst (AreShort w.delay) (sym is) (range-short w.delay some))
 
 -- ---- the core
 
@@ -64,16 +70,21 @@ core-or-none w set core l is = elim (search-set core (λ x. true) w) [
     | inr lacks ↦
         let part = (is j).0 h in
         let two : HasTwo w.cabling part.0 j = part.2 j part.3 in
-        omega (arith, lacks.0, (plugged w.cabling (end_at j two.low) two.low_leads.0 two.low_leads.1).node, l.well_formed.count)
+        omega (
+          arith,
+          lacks.0,
+          (plugged w.cabling (end_at j two.low) two.low_leads.0
+              two.low_leads.1).node,
+          l.well_formed.count,
+        )
   ])
 ]
 
 -- ---- a component
 
 module _
-    (hs : HoldSchedule) (w : CableWorld) (r : ComesOfPowerOn w) (node set core : ℕ) (there : node < length w.nodes)
-    (comp : IsComponent w.cabling node set) (is_core : IsCore w.cabling set core)
-    (small : set < 2 ^ 63) (k : ℕ) (quiet : turns_to_settle w ≤ k) where
+    (hs : HoldSchedule) (w : CableWorld) (r : ComesOfPowerOn w) (p : Part w) (k : ℕ)
+    (quiet : turns_to_settle w ≤ k) where
   lawful : IsLawful w
   lawful = comes-lawful w r
 
@@ -92,38 +103,50 @@ module _
   v-over : ResetsAreOver v
   v-over = resets-over hs w lawful k (omega (arith, enough))
 
-  comp-at : (i : ℕ) → IsComponent (quiet_after hs i w).cabling node set
-  comp-at i = subst (λ (c : Wiring). IsComponent c node set) (sym (after-cabling hs i w)) comp
-
-  core-at : (i : ℕ) → IsCore (quiet_after hs i w).cabling set core
-  core-at i = subst (λ (c : Wiring). IsCore c set core) (sym (after-cabling hs i w)) is_core
+  -- the component after so many turns
+  abbrev at : (i : ℕ) → Part (quiet_after hs i w)
+  at i = part-in w (quiet_after hs i w) (after-cabling hs i w) (after-length hs w lawful i) p
 
   -- where all are in self identify or A0, lists follow the walk
-  settles-at : (i : ℕ) → AreIdentifying (quiet_after hs i w) set →
-      Settles (quiet_after hs i w) set core
-  settles-at i all = (quiet-numbering hs i w lawful (comes-numbering w r)).walks node set core (omega (arith, there, after-length hs w lawful i)) (comp-at i) (core-at i) small all
+  settles-at :
+      (i : ℕ) → AreIdentifying (quiet_after hs i w) p.set →
+      Settles (quiet_after hs i w) p.set p.core
+  settles-at i =
+      part-settles (quiet_after hs i w) (quiet-numbering hs i w lawful (comes-numbering w r)) (at i)
 
   abbrev middle : ℕ
   middle = k - 315 * w.delay
 
   -- all came to self identify early enough
-  tree-by : AreIdentifying (quiet_after hs middle w) set → IsSettled v set
-  tree-by all = tree-outcome v set s.root s.tree (subst (λ (i : ℕ). IsTree (quiet_after hs i w) set s.root s.tree) sum rest)
+  tree-by : AreIdentifying (quiet_after hs middle w) p.set → IsSettled v p.set
+  tree-by all =
+      tree-outcome v p.set s.root s.tree
+      (subst (λ (i : ℕ). IsTree (quiet_after hs i w) p.set s.root s.tree) sum rest)
     where
-      s : Settles (quiet_after hs middle w) set core
+      s : Settles (quiet_after hs middle w) p.set p.core
       s = settles-at middle all
 
       sum : middle + (k - middle) ≡ k
       sum = omega (arith, enough)
 
-      rest : IsTree (quiet_after hs (middle + (k - middle)) w) set s.root s.tree
-      rest = tree-soon hs w r middle (omega (arith, enough)) set core s.root s.tree s.is (k - middle)
-          (omega (arith, enough, room-to-rest (length (numbers (quiet_after hs middle w).cabling s.root s.tree)) w.delay s.is.walk.few))
+      rest : IsTree (quiet_after hs (middle + (k - middle)) w) p.set s.root s.tree
+      rest =
+          tree-soon hs w r middle (omega (arith, enough)) p.set p.core s.root s.tree s.is
+          (k - middle)
+          (omega (
+            arith,
+            enough,
+            room-to-rest
+                (length (numbers (quiet_after hs middle w).cabling s.root s.tree)) w.delay
+                s.is.walk.few,
+          ))
 
   -- or only later, after 32 equal draws, or not yet
-  contended : IsEmpty core → HasContention (quiet_after hs middle w) set → IsSettled v set
-  contended empty h = elim (all-or-not v set) [
-    | inr still ↦ contention-outcome v v-lawful v-contested v-over node set (comp-at k) now (no-tree-yet v set v-numbering.identifies still)
+  contended : IsEmpty p.core → HasContention (quiet_after hs middle w) p.set → IsSettled v p.set
+  contended empty h = elim (all-or-not v p.set) [
+    | inr still ↦
+        contention-outcome v v-lawful v-contested v-over p.node p.set (at k).component now
+        (no-tree-yet v p.set v-numbering.identifies still)
     | inl all ↦ late-tree (settles-at k all)
   ]
     where
@@ -134,31 +157,47 @@ module _
       v-contested = quiet-contested hs k w lawful (comes-contested w r)
 
       grown : IsGrown (quiet_after hs middle w)
-      grown = start-grown hs w r middle (omega (arith, enough)) (taken-reached hs w middle r (omega (arith, enough)))
+      grown =
+          start-grown hs w r middle (omega (arith, enough))
+          (taken-reached hs w middle r (omega (arith, enough)))
 
-      now : HasContention v set
-      now = subst (λ (u : CableWorld). HasContention u set) (sym (quiet-then hs middle (k - middle) w) ∙ ap (λ (i : ℕ). quiet_after hs i w) sum)
-          (contention-after (holds_after middle hs) (quiet_after hs middle w) set (grown-of (quiet_after hs middle w) node set core grown (comp-at middle) (core-at middle) empty) (k - middle) h)
+      now : HasContention v p.set
+      now =
+          subst (λ (u : CableWorld). HasContention u p.set)
+          (sym (quiet-then hs middle (k - middle) w) ∙ ap (λ (i : ℕ). quiet_after hs i w) sum)
+          (contention-after (holds_after middle hs) (quiet_after hs middle w) p.set
+          (grown-of (quiet_after hs middle w) p.node p.set p.core grown (at middle).component
+          (at middle).is_core empty) (k - middle) h)
 
-      late-tree : Settles v set core → IsSettled v set
-      late-tree s = elim (tree-or-none v v-lawful v-numbering.acyclic v-numbering.identifies set core s.root s.tree s.is) [
-        | inl t ↦ tree-outcome v set s.root s.tree t
-        | inr none ↦ contention-outcome v v-lawful v-contested v-over node set (comp-at k) now none
-      ]
+      late-tree : Settles v p.set p.core → IsSettled v p.set
+      late-tree s =
+          elim (tree-or-none v v-lawful v-numbering.acyclic v-numbering.identifies p.set p.core
+          s.root s.tree s.is) [
+            | inl t ↦ tree-outcome v p.set s.root s.tree t
+            | inr none ↦
+                contention-outcome v v-lawful v-contested v-over p.node p.set (at k).component now
+                none
+          ]
 
-  tree-settles : IsEmpty core → IsSettled v set
-  tree-settles empty = elim (all-or-not (quiet_after hs middle w) set) [
+  tree-settles : IsEmpty p.core → IsSettled v p.set
+  tree-settles empty = elim (all-or-not (quiet_after hs middle w) p.set) [
     | inl all ↦ tree-by all
-    | inr out ↦ elim (decided-reached hs w middle r (omega (arith, enough)) node set core (comp-at middle) (core-at middle) empty) [
-      | inl all ↦ absurd (not-both-ways (quiet_after hs middle w) set out all)
-      | inr h ↦ contended empty h
-    ]
+    | inr out ↦
+        elim (decided-reached hs w middle r (omega (arith, enough)) p.node p.set p.core
+        (at middle).component (at middle).is_core empty) [
+          | inl all ↦ absurd (not-both-ways (quiet_after hs middle w) p.set out all)
+          | inr h ↦ contended empty h
+        ]
   ]
 
-  pub settles-at-last : IsSettled v set
-  settles-at-last = elim (core-or-none w set core lawful is_core) [
+  pub settles-at-last : IsSettled v p.set
+  settles-at-last = elim (core-or-none w p.set p.core lawful p.is_core) [
     | inl empty ↦ tree-settles empty
-    | inr j ↦ (loop core, loop-outcome hs w k node set core j.0 r (omega (arith, quiet)) (comp-at k) (core-at k) j.1)
+    | inr j ↦ (
+      loop p.core,
+      loop-outcome hs w k p.node p.set p.core j.0 r (omega (arith, quiet))
+          (at k).component (at k).is_core j.1,
+    )
   ]
 
 -- by then no node is in R0 or R1
@@ -183,5 +222,6 @@ pub few-nodes :
     × (length w.nodes * w.delay ≤ 63 * w.delay)
 few-nodes w l = (
   times-more (length w.nodes - 1) (length w.nodes) w.delay (omega arith),
-  times-more (length w.nodes) 63 w.delay (omega (arith, l.well_formed.cabling.few_nodes, l.well_formed.count)),
+  times-more (length w.nodes) 63 w.delay
+      (omega (arith, l.well_formed.cabling.few_nodes, l.well_formed.count)),
 )

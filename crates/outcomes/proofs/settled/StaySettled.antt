@@ -1,11 +1,12 @@
--- What has settled stays settled in turns and holds. A loop does, since its nodes don't leave T0 and their timers rise;
+-- What has settled stays settled in turns and holds. A loop does, since its nodes don't leave T0
+-- and their timers rise;
 -- a tree is at rest; of a contention it is told at the end whether a tree has come of it.
-use Rattle.std.proofs.Common.{◌≡◌, inl, inr, ℕ, ◌+◌, ◌-◌, ◌*◌, ◌^◌, ◌<◌, ◌≤◌, true, List, [], ◌∷◌, None, Some, length, slice_get, sym, ◌∙◌, ap, subst, arith}
-use Rattle.outcomes.proofs.Common.{Tree, Wiring, Holds, IsComponent, IsCore, End, NodeState, Timing, coin, PortNode, CableWorld, turn, hold, hold_fault, Event, acts, holds, turns, Runs, ComesOfPowerOn, IsLawful, loop, tree, contention, IsTree, IsSettled, is_before_tree, some-of, some-at, some-same, comes-lawful, after-delay, after-length, cabling-after, risen, quiet-then, quiet-lawful, after-cabling, HoldSchedule, holds_after, quiet_after, ResetsAreDone, ResetsAreOver, HasContention, done-after, comes-contested, comes-acyclic, done-over, Calmly, heard_by, IsNumbering, HasNoAct}
+use Rattle.std.proofs.Common.{◌≡◌, inl, inr, ℕ, ◌+◌, ◌-◌, ◌^◌, ◌<◌, ◌≤◌, true, List, [], ◌∷◌, None, Some, length, slice_get, sym, ◌∙◌, ap, subst, arith}
+use Rattle.outcomes.proofs.Common.{Tree, Wiring, Holds, IsComponent, IsCore, End, NodeState, Timing, coin, PortNode, CableWorld, turn, hold, hold_fault, Event, acts, holds, turns, Runs, ComesOfPowerOn, IsLawful, loop, tree, contention, IsTree, IsSettled, is_before_tree, some-of, some-at, some-same, comes-lawful, after-length, cabling-after, risen, quiet-then, quiet-lawful, after-cabling, HoldSchedule, holds_after, quiet_after, ResetsAreDone, ResetsAreOver, HasContention, done-after, comes-contested, comes-acyclic, done-over, Calmly, heard_by, IsNumbering, HasNoAct}
 use Rattle.port_state.specs.declared.signal.Phase.TheVariants as phase
 use Rattle.cable_world.specs.Outcome.{Outcome, IsLoop, IsContention, IsOutcome}
 use Rattle.cable_world.specs.Times.{Suits}
-use Rattle.cable_world.proofs.Lemmas.{after-longest, longest-after, turn-comes, hold-comes, delay-after, nodes-after, quiet-comes}
+use Rattle.cable_world.proofs.Lemmas.{after-longest, longest-after, turn-comes, hold-comes, nodes-after, quiet-comes}
 use Rattle.convergence.specs.Kept.{IsGrown}
 use Rattle.convergence.specs.Milestones.{TreesAreTaken}
 use Rattle.convergence.specs.Turns.{turns_to_settle, turns_to_done}
@@ -13,6 +14,7 @@ use Rattle.convergence.proofs.Lemmas.{taken-reached, taken-turn, core-shows, Gro
 use Rattle.outcomes.proofs.settled.Beginnings.{all-or-not}
 use Rattle.outcomes.proofs.settled.Numbering.{comes-numbering}
 use Rattle.outcomes.proofs.settled.Outcomes.{no-tree-yet, tree-or-none, contention-outcome, tree-outcome}
+use Rattle.outcomes.proofs.settled.Components.{Part}
 use Rattle.outcomes.proofs.settled.QuietTurns.{settles-at-last}
 use Rattle.outcomes.proofs.settled.TreesStay.{turn-tree}
 use Rattle.outcomes.proofs.settled.Unnamed.{shows-unnamed}
@@ -41,7 +43,9 @@ record Staying (w : CableWorld) (node set : ℕ) : Type 0 where
 
 -- ---- a turn
 
-module _ (w : CableWorld) (r : ComesOfPowerOn w) (done : ResetsAreDone w) (node set : ℕ) (comp : IsComponent w.cabling node set) where
+module _
+    (w : CableWorld) (r : ComesOfPowerOn w) (done : ResetsAreDone w) (node set : ℕ)
+    (comp : IsComponent w.cabling node set) where
   lawful : IsLawful w
   lawful = comes-lawful w r
 
@@ -75,12 +79,20 @@ module _ (w : CableWorld) (r : ComesOfPowerOn w) (done : ResetsAreDone w) (node 
 
     stays-late : (k : ℕ) (y : PortNode) → Holds core k → slice_get v.nodes k ≡ Some y →
         StaysLate y.state
-    stays-late k y inside at = record { start = y-start; reports = kept.reports (omega (arith, risen-late, timeout)); late = omega (arith, risen-late, ap (λ (t : Timing). t.timeout) (longest-after w)) }
+    stays-late k y inside at = record {
+      start = y-start;
+      reports = kept.reports (omega (arith, risen-late, timeout));
+      late = omega (arith, risen-late, ap (λ (t : Timing). t.timeout) (longest-after w));
+    }
       where
         early : is_before_tree y.state.view.phase ≡ true
         early =
-            let x = some-of (slice_get v.nodes k) _ (core-shows v v-lawful set (λ a b y h. v-over a b y) (comes-acyclic v v-reached) core k core-after inside) in
-            ap (λ (z : PortNode). is_before_tree z.state.view.phase) (some-same y x.0 (sym at ∙ x.1)) ∙ x.2
+            let x =
+            some-of (slice_get v.nodes k) _
+            (core-shows v v-lawful set (λ a b y h. v-over a b y) (comes-acyclic v v-reached) core k
+            core-after inside) in
+            ap (λ (z : PortNode). is_before_tree z.state.view.phase)
+            (some-same y x.0 (sym at ∙ x.1)) ∙ x.2
 
         c : Calmly w k y.state
         c = calmly w lawful (done-calm w done) k y at
@@ -89,10 +101,15 @@ module _ (w : CableWorld) (r : ComesOfPowerOn w) (done : ResetsAreDone w) (node 
         y-start = only-start y.state.view.phase early (v-done k y at)
 
         x-start : c.node.state.view.phase ≡ phase.TreeStart
-        x-start = only-start c.node.state.view.phase (early-before w k y.state c early) (done k c.node c.at)
+        x-start =
+            only-start c.node.state.view.phase (early-before w k y.state c early)
+            (done k c.node c.at)
 
         kept : StaysInStart (heard_by w k c.node) y.state
-        kept = subst (StaysInStart (heard_by w k c.node)) (sym c.is) (stays-in-start (coin c.node.coins) (heard_by w k c.node) (c.heard.phase ∙ x-start) (sym (ap (λ (z : NodeState). z.view.phase) c.is) ∙ y-start))
+        kept =
+            subst (StaysInStart (heard_by w k c.node)) (sym c.is)
+            (stays-in-start (coin c.node.coins) (heard_by w k c.node) (c.heard.phase ∙ x-start)
+            (sym (ap (λ (z : NodeState). z.view.phase) c.is) ∙ y-start))
 
         fits : Suits w.delay w.longest c.node.state.timing
         fits = (lawful.well_formed.nodes k c.node c.at).timing
@@ -101,7 +118,10 @@ module _ (w : CableWorld) (r : ComesOfPowerOn w) (done : ResetsAreDone w) (node 
         timeout = omega (arith, ap (λ (t : Timing). t.timeout) c.hears.timing, fits.timeout_most)
 
         risen-late : w.longest.timeout ≤ y.state.view.timer
-        risen-late = up w.longest.timeout c.node.state.view.timer (heard_by w k c.node).view.timer y.state.view.timer (late k c.node inside c.at) c.heard.timer kept.timer fits.counted.timeout
+        risen-late =
+            up w.longest.timeout c.node.state.view.timer (heard_by w k c.node).view.timer
+            y.state.view.timer (late k c.node inside c.at) c.heard.timer kept.timer
+            fits.counted.timeout
           where
             up : (n a b c : ℕ) → n ≤ a → b ≡ a → c ≡ risen b → n ≤ 65535 → n ≤ c
             up n a b c h e f m = omega (arith, h, e, f, m)
@@ -112,22 +132,37 @@ module _ (w : CableWorld) (r : ComesOfPowerOn w) (done : ResetsAreDone w) (node 
       node = h.node;
       in_core = h.in_core;
       timed_out = λ k inside.
-          let x = some-of (slice_get v.nodes k) _ (core-shows v v-lawful set (λ a b y h. v-over a b y) (comes-acyclic v v-reached) core k core-after inside) in
+          let x =
+          some-of (slice_get v.nodes k) _
+          (core-shows v v-lawful set (λ a b y h. v-over a b y) (comes-acyclic v v-reached) core k
+          core-after inside) in
           let s = stays-late k x.0 inside x.1 in
-          some-at (slice_get v.nodes k) x.0 (λ (y : PortNode). (y.state.view.phase ≡ phase.TreeStart) × (y.state.view.timed_out ≡ true)) x.1 (s.start, s.reports);
-      unnamed = shows-unnamed v v-lawful (comes-numbering v v-reached).identifies set (λ a b y h. v-over a b y) (comes-acyclic v v-reached) node core h.node v-comp core-after h.in_core;
+          some-at (slice_get v.nodes k) x.0
+          (λ (y : PortNode). (y.state.view.phase ≡ phase.TreeStart)
+          × (y.state.view.timed_out ≡ true)) x.1 (s.start, s.reports);
+      unnamed =
+          shows-unnamed v v-lawful (comes-numbering v v-reached).identifies set
+          (λ a b y h. v-over a b y) (comes-acyclic v v-reached) node core h.node v-comp core-after
+          h.in_core;
     }
 
     loop-late : AreLate v core
     loop-late k y inside at = (stays-late k y inside at).late
 
   come-turn : TreesAreTaken w → set < 2 ^ 63 → Come w set → Come v set
-  come-turn taken small (looped core h late) = looped core (loop-turn core h late) (loop-late core h late)
+  come-turn taken small (looped core h late) =
+      looped core (loop-turn core h late) (loop-late core h late)
   come-turn taken small (treed root t h) = treed root t (turn-tree w r node set comp small root t h)
   come-turn taken small (contended a b h) = contended now.low now.high now.is
     where
       whole : IsGrown w
-      whole = record { lawful = lawful; acyclic = comes-acyclic w r; contested = comes-contested w r; done = done; taken = taken }
+      whole = record {
+        lawful = lawful;
+        acyclic = comes-acyclic w r;
+        contested = comes-contested w r;
+        done = done;
+        taken = taken;
+      }
 
       grown : Grown w set
       grown = grown-of w node set h.no_loop.core whole comp h.no_loop.is_core h.no_loop.empty
@@ -149,7 +184,14 @@ turn-stays w node set small s = record {
 -- ---- a hold
 
 come-held : (end : End) (k : ℕ) (w : CableWorld) (set : ℕ) → Come w set → Come (hold end k w) set
-come-held end k w set (looped core h late) = looped core (record { is_core = h.is_core; node = h.node; in_core = h.in_core; timed_out = h.timed_out; unnamed = h.unnamed }) late
+come-held end k w set (looped core h late) =
+    looped core (record {
+      is_core = h.is_core;
+      node = h.node;
+      in_core = h.in_core;
+      timed_out = h.timed_out;
+      unnamed = h.unnamed;
+    }) late
 come-held end k w set (treed root t h) = treed root t (record {
   no_loop = record { core = h.no_loop.core; is_core = h.no_loop.is_core; empty = h.no_loop.empty };
   holds_root = h.holds_root;
@@ -187,12 +229,16 @@ stays-on :
     (events : List Event) (w v : CableWorld) (node set : ℕ) → HasNoAct events → Runs events w v →
     set < 2 ^ 63 →
     Staying w node set → Staying v node set
-stays-on [] w v node set none run small s = subst (λ (u : CableWorld). Staying u node set) (sym run) s
+stays-on [] w v node set none run small s =
+    subst (λ (u : CableWorld). Staying u node set) (sym run) s
 stays-on (acts a ∷ events) w v node set none run small s = absurd none
 stays-on (holds end k ∷ events) w v node set none run small s =
-    stays-on events (hold end k w) v node set none (subst (λ (z : CableWorld). Runs events z v) run.1.1 run.2) small (hold-stays end k w node set run.1.0 s)
+    stays-on events (hold end k w) v node set none
+    (subst (λ (z : CableWorld). Runs events z v) run.1.1 run.2) small
+    (hold-stays end k w node set run.1.0 s)
 stays-on (turns ∷ events) w v node set none run small s =
-    stays-on events (turn w) v node set none (subst (λ (z : CableWorld). Runs events z v) run.1 run.2) small (turn-stays w node set small s)
+    stays-on events (turn w) v node set none
+    (subst (λ (z : CableWorld). Runs events z v) run.1 run.2) small (turn-stays w node set small s)
 
 -- ---- what it has come to
 
@@ -212,12 +258,18 @@ settled-of w node set small s = go s.come
     go (looped core h late) = (loop core, h)
     go (treed root t h) = tree-outcome w set root t h
     go (contended a b h) = elim (all-or-not w set) [
-      | inr still ↦ contention-outcome w lawful (comes-contested w s.reached) over node set s.component now (no-tree-yet w set n.identifies still)
+      | inr still ↦
+          contention-outcome w lawful (comes-contested w s.reached) over node set s.component now
+          (no-tree-yet w set n.identifies still)
       | inl all ↦
-          let walk = n.walks node set h.no_loop.core s.there s.component h.no_loop.is_core small all in
-          elim (tree-or-none w lawful n.acyclic n.identifies set h.no_loop.core walk.root walk.tree walk.is) [
+          let walk =
+          n.walks node set h.no_loop.core s.there s.component h.no_loop.is_core small all in
+          elim (tree-or-none w lawful n.acyclic n.identifies set h.no_loop.core walk.root walk.tree
+          walk.is) [
             | inl t ↦ tree-outcome w set walk.root walk.tree t
-            | inr none ↦ contention-outcome w lawful (comes-contested w s.reached) over node set s.component now none
+            | inr none ↦
+                contention-outcome w lawful (comes-contested w s.reached) over node set s.component
+                now none
           ]
     ]
       where
@@ -227,17 +279,17 @@ settled-of w node set small s = go s.come
 -- ---- after so many quiet turns
 
 module _
-    (hs : HoldSchedule) (w : CableWorld) (r : ComesOfPowerOn w) (node set core : ℕ) (there : node < length w.nodes)
-    (comp : IsComponent w.cabling node set) (is_core : IsCore w.cabling set core)
-    (small : set < 2 ^ 63) (k : ℕ) (quiet : turns_to_settle w ≤ k) where
+    (hs : HoldSchedule) (w : CableWorld) (r : ComesOfPowerOn w) (p : Part w) (k : ℕ)
+    (quiet : turns_to_settle w ≤ k) where
   abbrev u : CableWorld
   u = quiet_after hs k w
 
   w-lawful : IsLawful w
   w-lawful = comes-lawful w r
 
-  u-comp : IsComponent u.cabling node set
-  u-comp = subst (λ (c : Wiring). IsComponent c node set) (sym (after-cabling hs k w)) comp
+  u-comp : IsComponent u.cabling p.node p.set
+  u-comp =
+      subst (λ (c : Wiring). IsComponent c p.node p.set) (sym (after-cabling hs k w)) p.component
 
   abbrev first : ℕ
   first = turns_to_done w
@@ -249,42 +301,50 @@ module _
   start = quiet_after hs first w
 
   same : quiet_after (holds_after first hs) (k - first) start ≡ u
-  same = let z : first + (k - first) ≡ k = omega (arith, begun) in sym (quiet-then hs first (k - first) w) ∙ ap (λ (i : ℕ). quiet_after hs i w) z
+  same =
+      let z : first + (k - first) ≡ k = omega (arith, begun) in
+      sym (quiet-then hs first (k - first) w) ∙ ap (λ (i : ℕ). quiet_after hs i w) z
 
-  core-late : (c : ℕ) → IsLoop u set c → AreLate u c
+  core-late : (c : ℕ) → IsLoop u p.set c → AreLate u c
   core-late c h j x inside at =
       let y = some-of (slice_get u.nodes j) _ (h.timed_out j inside) in
-      let begins : x.state.view.phase ≡ phase.TreeStart = ap (λ (z : PortNode). z.state.view.phase) (some-same x y.0 (sym at ∙ y.1)) ∙ y.2.0 in
+      let begins : x.state.view.phase ≡ phase.TreeStart =
+      ap (λ (z : PortNode). z.state.view.phase) (some-same x y.0 (sym at ∙ y.1)) ∙ y.2.0 in
       let early : IsEarly (quiet_after (holds_after first hs) (k - first) start) j = record {
         node = x;
         at = ap (λ (z : CableWorld). slice_get z.nodes j) same ∙ at;
         early = start-early x.state.view.phase begins;
       } in
-      let same : (quiet_after hs k w).longest.timeout ≡ w.longest.timeout = ap (λ (t : Timing). t.timeout) (after-longest hs w w-lawful k) in
-      let fits : Suits u.delay u.longest x.state.timing = ((quiet-lawful hs k w w-lawful).well_formed.nodes j x at).timing in
+      let same : (quiet_after hs k w).longest.timeout ≡ w.longest.timeout =
+      ap (λ (t : Timing). t.timeout) (after-longest hs w w-lawful k) in
+      let fits : Suits u.delay u.longest x.state.timing =
+      ((quiet-lawful hs k w w-lawful).well_formed.nodes j x at).timing in
       let late : w.longest.timeout ≤ x.state.view.timer =
-      start-timer (holds_after first hs) start (quiet-lawful hs first w w-lawful) (done-after hs w first w-lawful (omega arith)) (k - first) w.longest.timeout j (omega (arith, begun))
+      start-timer (holds_after first hs) start (quiet-lawful hs first w w-lawful)
+      (done-after hs w first w-lawful (omega arith)) (k - first) w.longest.timeout j
+      (omega (arith, begun))
       (omega (arith, fits.counted.timeout, same)) early in
       omega (arith, late, same)
 
-  come-of : IsSettled u set → Come u set
+  come-of : IsSettled u p.set → Come u p.set
   come-of s = go s.0 s.1
     where
-      go : (o : Outcome) → IsOutcome u set o → Come u set
+      go : (o : Outcome) → IsOutcome u p.set o → Come u p.set
       go (loop c) h = looped c h (core-late c h)
       go (tree root t) h = treed root t h
       go (contention a b) h = contended a b h.0
 
-  staying : Staying u node set
+  staying : Staying u p.node p.set
   staying = record {
     reached = quiet-comes hs k w r;
     done = done-after hs w k w-lawful (omega (arith, quiet));
     taken = taken-reached hs w k r (omega (arith, quiet));
-    there = omega (arith, there, after-length hs w w-lawful k);
+    there = omega (arith, p.there, after-length hs w w-lawful k);
     component = u-comp;
-    come = come-of (settles-at-last hs w r node set core there comp is_core small k quiet);
+    come = come-of (settles-at-last hs w r p k quiet);
   }
 
   pub stays-settled : (v : CableWorld) (events : List Event) → HasNoAct events → Runs events u v →
-      IsSettled v set
-  stays-settled v events none run = settled-of v node set small (stays-on events u v node set none run small staying)
+      IsSettled v p.set
+  stays-settled v events none run =
+      settled-of v p.node p.set p.small (stays-on events u v p.node p.set none run p.small staying)
