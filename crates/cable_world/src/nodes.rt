@@ -106,7 +106,7 @@ fn next_heard(heard: PortSet, ports: u8, port: u8) -> Option<u8>
 
 /// A node hears what arrives at its ports, by rising port. What it sends goes onto its wires. At the
 /// ports that aren't in `heard` nothing arrives.
-#[inline(never)]
+#[inline(always)]
 fn hear_ports<M: PortMachine>(
     machine: &mut M,
     cabling: &Cabling,

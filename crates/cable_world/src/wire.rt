@@ -86,18 +86,42 @@ pub fn is_due(sent: &[UnderWay], port: u8, delay: u8) -> bool
     false
 }
 
-/// Puts what is sent behind what is under way.
+/// What was sent just now, on its way.
+fn just_sent(entry: &Sent) -> UnderWay
+    ensures { result ≡ record { ports = entry.now.ports; signal = entry.now.signal; age = 0 } }
+{
+    UnderWay {
+        ports: entry.ports,
+        signal: entry.signal,
+        age: 0,
+    }
+}
+
+/// Puts what is sent behind what is under way. Mostly it is one signal, for which there is room.
+#[inline(always)]
 pub fn add_all(sent: &mut Vec<UnderWay>, sends: &[Sent]) -> Result<(), OutOfMemory>
     ensures sent { OnOk result ((p : ℕ) → on_port p sent.new.items
         ≡ on_port p sent.old.items ++ map new_signal (sent_on p (all_sent sends.now))) }
     ensures behind { take (length sent.old.items) sent.new.items ≡ sent.old.items }
 {
+    if let [entry] = sends {
+        if sent.len() < sent.capacity() {
+            sent.push(just_sent(entry))?;
+            return Ok(());
+        }
+    }
+    add_each(sent, sends)
+}
+
+/// The same, whatever is sent.
+#[inline(never)]
+fn add_each(sent: &mut Vec<UnderWay>, sends: &[Sent]) -> Result<(), OutOfMemory>
+    ensures sent { OnOk result ((p : ℕ) → on_port p sent.new.items
+        ≡ on_port p sent.old.items ++ map new_signal (sent_on p (all_sent sends.now))) }
+    ensures behind { take (length sent.old.items) sent.new.items ≡ sent.old.items }
+{
     for entry in sends {
-        sent.push(UnderWay {
-            ports: entry.ports,
-            signal: entry.signal,
-            age: 0,
-        })?;
+        sent.push(just_sent(entry))?;
     }
     Ok(())
 }

@@ -3,7 +3,7 @@ use Rattle.port_state.specs.PortSet.{all_sent}
 use Rattle.port_state.specs.Sends.{sent_on}
 use Rattle.cable_world.specs.Wire.{new_signal}
 use Rattle.cable_world.specs.running.Rows.{on_port}
-use Rattle.cable_world.proofs.wire.add_all.Given as goal
+use Rattle.cable_world.proofs.wire.add_each.Given as goal
 
 abbrev pub invariant-loop-entry : goal.invariant-loop-entry
 invariant-loop-entry l = record {
