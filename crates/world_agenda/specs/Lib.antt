@@ -2,3 +2,4 @@ pub mod Clock
 pub mod Agenda
 pub mod Live
 pub mod Heard
+pub mod Alone

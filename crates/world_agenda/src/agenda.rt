@@ -11,10 +11,11 @@ ghost use Rattle.world_agenda.specs.Clock.{caught_up};
 ghost use Rattle.world_agenda.specs.Agenda.{Knows};
 ghost use Rattle.world_agenda.specs.Live.{HasLive};
 
+use crate::heard::awaiting;
 use crate::live::{live_silent, pass_live};
 use crate::mask::NodeMask;
 use crate::node::AgendaNode;
-use crate::nodes::{Agenda, act_agenda, turn_agenda};
+use crate::nodes::{Agenda, act_agenda, due_nodes, turn_agenda};
 use crate::still::TellsStillTurns;
 use cable_world::parts::{ArrivalRow, WireRow, arrival_rows, no_changes, port_counts, wire_rows};
 use cable_world::{
@@ -335,5 +336,15 @@ impl<M: PortMachine> TellsStillTurns for AgendaWorld<M> {
             return 0;
         }
         self.rest(most)
+    }
+
+    fn touched(&self) -> NodeMask {
+        if self.spent {
+            return NodeMask::none();
+        }
+        worlds_stay_lawful();
+        let mut agenda = self.agenda;
+        let due = due_nodes(&self.nodes, self.turns, &mut agenda);
+        due.union(awaiting(&self.cabling, &self.wires, self.live))
     }
 }

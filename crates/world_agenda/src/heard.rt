@@ -1,11 +1,12 @@
 //! Which nodes hear something in a turn, and at which of their ports.
 ghost use Rattle.std.specs.Prelude.{◌≡◌, ◌<◌, ℕ, length, slice_index_or, IfSome};
+ghost use Rattle.cabling.specs.NodeSet.{Holds, IsWithin};
 ghost use Rattle.world_agenda.specs.Agenda.{AreBelow};
-ghost use Rattle.world_agenda.specs.Live.{GiveNoneBut};
-ghost use Rattle.world_agenda.specs.Heard.{IsHeard, StayHeard, GivesBut, AreSparedBut};
+ghost use Rattle.world_agenda.specs.Live.{GiveNoneBut, RestBut};
+ghost use Rattle.world_agenda.specs.Heard.{IsHeard, StayHeard, GivesBut, AreSparedBut, SendsBut, AwaitNoneBut};
 
 use crate::mask::NodeMask;
-use cable_world::parts::ArrivalRow;
+use cable_world::parts::{ArrivalRow, WireRow};
 use cabling::{Cabling, End, cables_are_two_ended};
 use port_state::PortSet;
 
@@ -18,7 +19,7 @@ pub struct Heard {
 
 impl Heard {
     /// Nothing is heard.
-    fn none() -> Heard
+    pub(crate) fn none() -> Heard
         ensures { result.nodes ≡ 0 }
     {
         Heard {
@@ -72,20 +73,62 @@ fn mark_from(cabling: &Cabling, node: u8, row: &ArrivalRow, heard: &mut Heard)
     }
 }
 
-/// Which nodes hear something, and at which ports. From the wires of the nodes that aren't in `live`
-/// nothing arrives.
-pub fn hearers(cabling: &Cabling, arrivals: &[ArrivalRow], live: NodeMask) -> Heard
+/// Marks in `heard`, where nothing is marked yet, which nodes hear something, and at which ports. From
+/// the wires of the nodes that aren't in `live` nothing arrives.
+pub fn hearers(cabling: &Cabling, arrivals: &[ArrivalRow], live: NodeMask, heard: &mut Heard)
+    requires unmarked { heard.old.nodes ≡ 0 }
     requires nodes { length arrivals.now ≡ length cabling.now }
     requires near { AreBelow live (length arrivals.now) }
     requires none { GiveNoneBut live arrivals.now }
-    ensures spared { AreSparedBut result arrivals.now cabling.now }
-    ensures below { AreBelow result.nodes (length cabling.now) }
+    ensures spared { AreSparedBut heard.new arrivals.now cabling.now }
+    ensures below { AreBelow heard.new.nodes (length cabling.now) }
 {
     cables_are_two_ended(cabling);
-    let mut heard = Heard::none();
     let mut left = live;
     while let Some(node) = left.take_least() {
-        mark_from(cabling, node, &arrivals[node as usize], &mut heard);
+        mark_from(cabling, node, &arrivals[node as usize], heard);
     }
-    heard
+}
+
+// ---- what is under way
+
+/// Takes the node at the far end of a wire, if there is one, into a set where so many signals are under
+/// way on the wire.
+fn mark_far(far: Option<End>, count: usize, nodes: &mut NodeMask)
+    requires { IfSome far (λ end. end.node < 63) }
+    ensures holds { 0 < count → IfSome far (λ end. Holds nodes.new end.node) }
+    ensures kept { IsWithin nodes.old nodes.new }
+{
+    if count > 0 {
+        if let Some(end) = far {
+            nodes.insert(end.node);
+        }
+    }
+}
+
+/// Takes the nodes to which something is under way on the wires of a node into a set. The node exists.
+fn mark_awaiting(cabling: &Cabling, node: u8, row: &WireRow, nodes: &mut NodeMask)
+    requires exists { node < length cabling.now }
+    ensures sends { SendsBut nodes.new cabling.now node row.now }
+    ensures kept { IsWithin nodes.old nodes.new }
+{
+    cables_are_two_ended(cabling);
+    for port in 0..cabling.ports(node) {
+        mark_far(cabling.far(End { node, port }), row.count(port), nodes);
+    }
+}
+
+/// The nodes to which something is under way. The wires of the nodes that aren't in `live` are at rest.
+pub fn awaiting(cabling: &Cabling, wires: &[WireRow], live: NodeMask) -> NodeMask
+    requires nodes { length wires.now ≡ length cabling.now }
+    requires near { AreBelow live (length wires.now) }
+    requires rest { RestBut live wires.now }
+    ensures { AwaitNoneBut result wires.now cabling.now }
+{
+    let mut nodes = NodeMask::none();
+    let mut left = live;
+    while let Some(node) = left.take_least() {
+        mark_awaiting(cabling, node, &wires[node as usize], &mut nodes);
+    }
+    nodes
 }

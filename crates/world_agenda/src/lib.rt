@@ -12,4 +12,5 @@ mod still;
 
 pub use agenda::AgendaWorld;
 pub use cabling::OutOfMemory;
+pub use mask::NodeMask;
 pub use still::TellsStillTurns;

@@ -166,7 +166,11 @@ fn note_due(node: u8, end: u32, turns: u32, next: u32, due: &mut NodeMask) -> u3
 
 /// The nodes that are due in the turn after `turns` turns, if they hear nothing before. The others
 /// don't come to the end of their idle turns before the end of the turn that `agenda` then tells.
-fn due_nodes<M: PortMachine>(nodes: &[AgendaNode<M>], turns: u32, agenda: &mut Agenda) -> NodeMask
+pub fn due_nodes<M: PortMachine>(
+    nodes: &[AgendaNode<M>],
+    turns: u32,
+    agenda: &mut Agenda,
+) -> NodeMask
     requires few { length nodes.now ≤ 63 }
     requires early { turns < 4000000000 }
     requires below { AreBelow agenda.old.soon (length nodes.now) }
@@ -358,7 +362,8 @@ pub fn turn_agenda<M: PortMachine>(
     ensures live { OnOk result (HasLive live.new wires.new arrivals.new) }
 {
     turn_live(wires, delay, arrivals, live)?;
-    let heard = hearers(cabling, arrivals, *live);
+    let mut heard = Heard::none();
+    hearers(cabling, arrivals, *live, &mut heard);
     let visited = due_nodes(nodes, turns, agenda).union(heard.nodes);
     turn_nodes(
         nodes, cabling, arrivals, &heard, visited, turns, changed, out, wires, agenda, live,

@@ -9,7 +9,7 @@ pub loop-node-init : goal.loop-node-init
 loop-node-init c = record {
   left = λ k has. has;
   gives = λ k out port end e free. none-at (get_or c.args.arrivals.now k []) port (c.requires.none k out);
-  below = λ k has. absurd (none_of_zero k (subst (λ (n : ℕ). Holds n k) c.none-heard.ensures has));
+  below = λ k has. absurd (none_of_zero k (subst (λ (n : ℕ). Holds n k) c.requires.unmarked has));
 }
 
 pub returns-clause-spared : goal.returns-clause-spared

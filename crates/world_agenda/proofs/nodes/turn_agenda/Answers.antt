@@ -51,13 +51,13 @@ returns-clause-same g c =
     ∙ ap lengths (sym c.in_ok-turn_live.ensures.stays)
     ∙ sym (sent-long _ c.turn_live.new.wires) ∙ ap lengths (sym c.in_ok-turn_nodes.ensures.wires)
 
-pub hearers-heard-requires-clause-nodes : goal.hearers-heard-requires-clause-nodes
-hearers-heard-requires-clause-nodes g c =
+pub hearers-requires-clause-nodes : goal.hearers-requires-clause-nodes
+hearers-requires-clause-nodes g c =
     let w = c.requires.lawful.1.well_formed in
     ap length c.in_ok-turn_live.ensures.arrives ∙ length-map c.args.wires.now (map (arrives c.args.delay)) ∙ w.wire_rows
 
-pub hearers-heard-requires-clause-near : goal.hearers-heard-requires-clause-near
-hearers-heard-requires-clause-near g c =
+pub hearers-requires-clause-near : goal.hearers-requires-clause-near
+hearers-requires-clause-near g c =
     let rows = c.args.wires.now in
     let d = c.args.delay in
     λ k has.
@@ -85,7 +85,7 @@ turn_nodes-requires-clause-below g c =
     let w = c.requires.lawful.1.well_formed in
     λ k has. elim ((c.union-visited.ensures k).0 has) [
       | inl due ↦ c.due_nodes.ensures.below k due
-      | inr heard ↦ let less = c.hearers-heard.ensures.below k heard in omega (arith, less, length-map c.args.nodes.now f, w.count)
+      | inr heard ↦ let less = c.hearers.ensures.below k heard in omega (arith, less, length-map c.args.nodes.now f, w.count)
     ]
 
 pub turn_nodes-requires-clause-within : goal.turn_nodes-requires-clause-within
