@@ -8,12 +8,12 @@ use cable_world::{Act, ShowsWires, WorldRun};
 use cabling::End;
 use script_lines::{Command, Name};
 use script_run::{Kind, ScriptFault, ScriptStop, trace_script};
-use script_trace::{put_command, put_since, seen_before_act, trace_turns};
+use script_trace::{Legend, Listener, hear_turns, put_command, seen_before_act};
 use settle::{Report, settle};
 use std::alloc::{AllocError, Global};
 use std::process::Abort;
 use std::test::Fail;
-use world_agenda::TellsStillTurns;
+use world_agenda::{NodeMask, TellsStillTurns};
 
 /// One node, which is alone.
 const ALONE: [&str; 7] = [
@@ -179,12 +179,17 @@ fn traced<W: TellsStillTurns>(
 {
     let names = two_names(alloc)?;
     assert!(rt; names.len() == 2 && world.turns() <= 1_000_000);
+    let legend = Legend {
+        names: names.as_slice(),
+        nanoseconds: None,
+    };
+    let touched = NodeMask::first(2);
     let mut text = Vec::new(alloc);
-    let seen = seen_before_act(alloc, &*world, 2)?;
+    let seen = seen_before_act(alloc, &*world, 2, touched)?;
     put_command(&mut text, world.turns(), command)?;
     world.act(act)?;
-    put_since(&mut text, &names, &seen, &*world)?;
-    trace_turns(alloc, world, 300, &names, &mut text)?;
+    text.since(&legend, touched, &seen, &*world)?;
+    hear_turns(alloc, world, 300, &legend, &mut text)?;
     Ok(text)
 }
 

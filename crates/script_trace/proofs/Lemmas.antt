@@ -2,5 +2,9 @@
 
 -- Lists that are gone through by number.
 pub use Rattle.script_trace.proofs.Walked.{all-told, left-from, one-more, past-end, signal-more}
--- Turns in which nothing happens.
-pub use Rattle.script_trace.proofs.Still.{both-none, same-number, silent-wire, timer-alone, true-then-none}
+-- What is told where nothing is new.
+pub use Rattle.script_trace.proofs.News.{IsOld, IsOldFrom, both-none, old-all, old-head, old-tail, same-number, true-then-none}
+-- A loop over all nodes that tells of those of a set.
+pub use Rattle.script_trace.proofs.Picked.{some-there, told-in, told-out}
+-- What the nodes showed before an act.
+pub use Rattle.script_trace.proofs.ActTouched.{seen-length}

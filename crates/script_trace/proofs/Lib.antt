@@ -1,6 +1,9 @@
 pub mod OneTrace
 pub mod Walked
-pub mod Still
+pub mod Picked
+pub mod News
+pub mod Turns
+pub mod ActTouched
 pub mod Shown
 pub mod ActShown
 pub mod NodeShown

@@ -39,7 +39,7 @@ before-turn [] i x is = absurd cc
 before-turn (y ∷ nodes) zero x is = ap (λ (z : PortNode). Some (seen_before_turn z)) (some-same y x is)
 before-turn (y ∷ nodes) (suc i) x is = before-turn nodes i x is
 
-before-act :
+pub before-act :
     (w : CableWorld) (first i k : ℕ) (nodes : List PortNode) (x : PortNode) → k ≡ first + i → slice_get nodes i ≡ Some x →
     slice_get (seen_before_act w first nodes) i ≡ Some (record { view = x.state.view; there = counts_from w k 0 x.state.view.ports })
 before-act w first i k [] x at is = absurd cc

@@ -1,24 +1,24 @@
 -- Lists that are gone through by number.
-use Rattle.std.proofs.Common.{◌≡◌, ◌++◌, ◌+◌, ◌-◌, min, Bool, true, false, ◌<◌, ◌≤◌, ℕ, List, [], ◌∷◌, length, drop, take, map, get_or, Option, Some, None, zero, suc, refl, sym, ◌∙◌, ap, append_assoc, add-one, arith}
-use Rattle.std.specs.Prelude.{slice_get, slice_index_or, nat_le}
+use Rattle.std.proofs.Common.{◌≡◌, ◌++◌, ◌+◌, ◌<◌, ◌≤◌, ℕ, List, [], ◌∷◌, length, drop, map, get_or, Option, Some, None, zero, suc, refl, sym, ◌∙◌, ap, append_assoc, add-one, arith}
+use Rattle.std.specs.Prelude.{slice_get, slice_index_or}
 use Rattle.std.specs.Option.{option_to_list}
 use Rattle.std.proofs.Math.Seq.{drop-cons}
-use Rattle.std.proofs.lemmas.Bool.Decides.{nat_tests}
-use Rattle.std.proofs.lemmas.List.{append-nil, map_more}
-use Rattle.cable_world.specs.Turn.{turn}
-use Rattle.std.proofs.lemmas.Option.{slice_get_within, get_or_from_slice_get}
+use Rattle.std.specs.Option.{option_map}
+use Rattle.std.proofs.lemmas.List.{append-nil}
+use Rattle.std.proofs.lemmas.Option.{slice_get-map, slice_get_within, get_or_from_slice_get}
 use Rattle.port_state.specs.declared.ports.PortView.{PortView}
 use Rattle.port_state.specs.declared.view.View.{View}
 use Rattle.port_state.specs.Machine.{PortNode}
 use Rattle.cable_world.specs.declared.wire.Travelling.{Travelling}
 use Rattle.cable_world.specs.World.{CableWorld, wire_of}
 use Rattle.script_text.specs.ReportText.{Names}
-use Rattle.script_trace.specs.Event.{Seen, sent_line, sent_lines, all_sent_lines, node_lines}
-use Rattle.script_trace.specs.Step.{counts_from, seen_before_act, seen_before_turn, all_lines, lines_since, turn_lines, turns_lines}
+use Rattle.script_trace.specs.Event.{Seen, sent_line, sent_lines, all_sent_lines}
+use Rattle.script_trace.specs.Step.{counts_from, seen_before_act, seen_before_turn, all_lines}
+use Rattle.script_trace.proofs.NodeShown.{before-act}
 
 -- ---- what is left of a list
 
-some-left :
+pub some-left :
     {A : Type 0} → (xs : List A) (k : ℕ) → k < length xs → (x : A) × (drop k xs ≡ x ∷ drop (k + 1) xs)
 some-left [] k h = absurd (omega (arith, h))
 some-left (x ∷ xs) k h = (
@@ -123,116 +123,34 @@ no-lines-left names now node port signals at out all past so =
 seen-of : View → List ℕ → Seen
 seen-of v there = record { view = v; there = there }
 
-pub next-seen :
-    (w : CableWorld) (k : ℕ) (x : PortNode) (v : View) (ports : List PortView) (there : List ℕ)
-    (nodes : List PortNode) (before after all : List Seen) → slice_get nodes k ≡ Some x →
-    v ≡ x.state.view → ports ≡ v.ports → there ≡ counts_from w k 0 ports →
-    after ≡ before ++ record { view = v; there = there } ∷ [] →
-    before ++ seen_before_act w k (drop k nodes) ≡ all →
-    after ++ seen_before_act w (k + 1) (drop (k + 1) nodes) ≡ all
+-- what a node showed before a turn, or before an act
+pub turn-seen :
+    (nodes : List PortNode) (k : ℕ) (x : PortNode) (v : View) (none : List ℕ) → slice_get nodes k ≡ Some x → v ≡ x.state.view →
+    none ≡ [] → slice_get (map seen_before_turn nodes) k ≡ Some (record { view = v; there = none })
 unfolding seen-of
-next-seen w k x v ports there nodes before after all at is its counted new so =
-    let rest = seen_before_act w (k + 1) (drop (k + 1) nodes) in
+turn-seen nodes k x v none at is empty =
+    slice_get-map seen_before_turn nodes k ∙ ap (option_map seen_before_turn) at
+    ∙ ap (λ (u : View). Some (seen-of u [])) (sym is) ∙ ap (λ (l : List ℕ). Some (seen-of v l)) (sym empty)
+
+pub act-seen :
+    (w : CableWorld) (nodes : List PortNode) (k : ℕ) (x : PortNode) (v : View) (ports : List PortView) (there : List ℕ) →
+    slice_get nodes k ≡ Some x → v ≡ x.state.view → ports ≡ v.ports → there ≡ counts_from w k 0 ports →
+    slice_get (seen_before_act w 0 nodes) k ≡ Some (record { view = v; there = there })
+unfolding seen-of
+act-seen w nodes k x v ports there at is its counted =
     let same : there ≡ counts_from w k 0 x.state.view.ports =
     counted ∙ ap (counts_from w k 0) (its ∙ ap (λ (u : View). u.ports) is) in
-    one-more before after (seen-of v there ∷ []) rest (seen_before_act w k (drop k nodes)) all new
-    (ap (seen_before_act w k) (left-from nodes k x at)
-    ∙ ap (λ (l : List ℕ). seen-of x.state.view l ∷ rest) (sym same)
-    ∙ ap (λ (u : View). seen-of u there ∷ rest) (sym is))
-    so
-
-pub one-seen-more :
-    (nodes : List PortNode) (k : ℕ) (x : PortNode) (v : View) (none : List ℕ)
-    (before after : List Seen) → slice_get nodes k ≡ Some x → v ≡ x.state.view → none ≡ [] →
-    after ≡ before ++ record { view = v; there = none } ∷ [] →
-    before ≡ map seen_before_turn (take k nodes) →
-    after ≡ map seen_before_turn (take (k + 1) nodes)
-unfolding seen-of
-one-seen-more nodes k x v none before after at is empty new so =
-    new
-    ∙ ap (λ (l : List ℕ). before ++ seen-of v l ∷ []) empty
-    ∙ ap (λ (u : View). before ++ seen-of u [] ∷ []) is
-    ∙ ap (λ (l : List Seen). l ++ seen_before_turn x ∷ []) so
-    ∙ ap (λ (y : PortNode). map seen_before_turn (take k nodes) ++ seen_before_turn y ∷ [])
-    (sym (get_or_from_slice_get nodes k x x at))
-    ∙ sym (map_more seen_before_turn nodes k x (slice_get_within nodes k x at))
-
-pub next-node :
-    (names : Names) (w : CableWorld) (k : ℕ) (x : PortNode) (s : Seen) (v : View) (seen : List Seen)
-    (nodes : List PortNode) (before after all : List ℕ) → slice_get nodes k ≡ Some x →
-    slice_get seen k ≡ Some s → v ≡ x.state.view → after ≡ before ++ node_lines names w k s v →
-    before ++ all_lines names w k (drop k seen) (drop k nodes) ≡ all →
-    after ++ all_lines names w (k + 1) (drop (k + 1) seen) (drop (k + 1) nodes) ≡ all
-next-node names w k x s v seen nodes before after all at here is new so =
-    let rest = all_lines names w (k + 1) (drop (k + 1) seen) (drop (k + 1) nodes) in
-    one-more before after (node_lines names w k s v) rest
-    (all_lines names w k (drop k seen) (drop k nodes)) all new
-    (ap (λ (l : List Seen). all_lines names w k l (drop k nodes)) (left-from seen k s here)
-    ∙ ap (all_lines names w k (s ∷ drop (k + 1) seen)) (left-from nodes k x at)
-    ∙ ap (λ (u : View). node_lines names w k s u ++ rest) (sym is))
-    so
+    before-act w 0 k k nodes x (omega arith) at
+    ∙ ap (λ (l : List ℕ). Some (seen-of x.state.view l)) (sym same) ∙ ap (λ (u : View). Some (seen-of u there)) (sym is)
 
 no-node : (names : Names) (w : CableWorld) (k : ℕ) (seen : List Seen) →
     all_lines names w k seen [] ≡ []
 no-node names w k [] = refl
 no-node names w k (s ∷ seen) = refl
 
-pub none-seen :
-    (names : Names) (w : CableWorld) (k : ℕ) (seen : List Seen) (nodes : List PortNode) →
-    length seen ≤ k → all_lines names w k (drop k seen) (drop k nodes) ≡ []
-none-seen names w k seen nodes h =
-    ap (λ (l : List Seen). all_lines names w k l (drop k nodes)) (past-end seen k h)
-
-pub none-there :
+-- nothing is left behind the last node
+pub none-left :
     (names : Names) (w : CableWorld) (k : ℕ) (seen : List Seen) (nodes : List PortNode) →
     length nodes ≤ k → all_lines names w k (drop k seen) (drop k nodes) ≡ []
-none-there names w k seen nodes h =
+none-left names w k seen nodes h =
     ap (all_lines names w k (drop k seen)) (past-end nodes k h) ∙ no-node names w k (drop k seen)
-
-pub none-left :
-    (names : Names) (w : CableWorld) (k : ℕ) (seen : List Seen) (nodes : List PortNode) (n : ℕ) →
-    n ≡ length nodes → min (length seen) n ≤ k → all_lines names w k (drop k seen) (drop k nodes) ≡ []
-none-left names w k seen nodes n count h = by (nat_le (length seen) k) refl
-  where
-    by : (b : Bool) → nat_le (length seen) k ≡ b → all_lines names w k (drop k seen) (drop k nodes) ≡ []
-    by true e = none-seen names w k seen nodes (grind (arith, nat_tests))
-    by false e =
-        let above : k < length seen = grind (arith, nat_tests) in
-        none-there names w k seen nodes (omega (arith, count, h, above))
-
--- ---- turns
-
-pub turn-told :
-    (names : Names) (w v : CableWorld) (seen : List Seen) (out new : List ℕ) → v ≡ turn w →
-    seen ≡ map seen_before_turn w.nodes → new ≡ out ++ lines_since names seen v →
-    new ≡ out ++ turn_lines names w
-unfolding turn_lines
-turn-told names w v seen out new done before is =
-    is
-    ∙ ap (λ (s : List Seen). out ++ lines_since names s v) before
-    ∙ ap (λ (u : CableWorld). out ++ lines_since names (map seen_before_turn w.nodes) u) done
-
-pub turns-left :
-    (names : Names) (n k : ℕ) (v : CableWorld) → k < n →
-    turns_lines names (n - k) v ≡ turn_lines names v ++ turns_lines names (n - (k + 1)) (turn v)
-unfolding turns_lines
-turns-left names n k v h =
-    let e : n - k ≡ suc (n - (k + 1)) = omega (arith, h) in
-    ap (λ (m : ℕ). turns_lines names m v) e
-
-pub next-turn :
-    (names : Names) (n k : ℕ) (v u : CableWorld) (before after all : List ℕ) → k < n → u ≡ turn v →
-    after ≡ before ++ turn_lines names v → before ++ turns_lines names (n - k) v ≡ all →
-    after ++ turns_lines names (n - (k + 1)) u ≡ all
-next-turn names n k v u before after all h done new so =
-    let rest = turns_lines names (n - (k + 1)) u in
-    one-more before after (turn_lines names v) rest (turns_lines names (n - k) v) all new
-    (turns-left names n k v h ∙ ap (λ (z : CableWorld). turn_lines names v ++ turns_lines names (n - (k + 1)) z) (sym done))
-    so
-
-pub no-turn-left : (names : Names) (n k : ℕ) (v : CableWorld) → n ≤ k →
-    turns_lines names (n - k) v ≡ []
-unfolding turns_lines
-no-turn-left names n k v h =
-    let e : n - k ≡ 0 = omega (arith, h) in
-    ap (λ (m : ℕ). turns_lines names m v) e

@@ -1,9 +1,11 @@
 pub mod Event
 pub mod Step
+pub mod News
 pub mod Voice
 pub mod Trace
 pub mod OneTrace
 pub mod OneTelling
 pub mod Shown
 pub mod ActShown
+pub mod ActTouches
 pub mod NodeShown

@@ -1,5 +1,5 @@
 -- What happens in a turn and at an act: the nodes by rising number.
-use Rattle.std.specs.Prelude.{ℕ, zero, suc, ◌+◌, List, [], ◌∷◌, ◌++◌, map, length}
+use Rattle.std.specs.Prelude.{ℕ, ◌+◌, List, [], ◌∷◌, ◌++◌, map, length}
 use Rattle.port_state.specs.declared.ports.PortView.{PortView}
 use Rattle.port_state.specs.Ports.{PortNumber}
 use Rattle.port_state.specs.Machine.{PortNode}
@@ -27,11 +27,6 @@ seen_before_turn x = record { view = x.state.view; there = [] }
 -- what happens in the next turn
 unfoldable pub turn_lines : Names → CableWorld → List ℕ
 turn_lines names w = lines_since names (map seen_before_turn w.nodes) (turn w)
-
--- what happens in so many turns
-unfoldable pub turns_lines : Names → ℕ → CableWorld → List ℕ
-turns_lines names zero w = []
-turns_lines names (suc k) w = turn_lines names w ++ turns_lines names k (turn w)
 
 -- ---- an act
 

@@ -10,8 +10,8 @@ use Rattle.script_told.specs.Bus.{Bus, Reported, node_named, tree_with}
 use Rattle.script_told.specs.Step.{CarriesOut}
 use Rattle.script_told.specs.Script.{Stage, running, bus_of, Told}
 use Rattle.script_told.specs.Run.{Entry, ScriptRun, IsRun}
-use Rattle.script_trace.specs.Step.{turns_lines, lines_since, seen_before_act}
-use Rattle.script_trace.specs.Voice.{Legend, legend_of, Voice}
+use Rattle.script_trace.specs.Step.{lines_since, seen_before_act}
+use Rattle.script_trace.specs.Voice.{Legend, legend_of, Voice, turns_told}
 
 -- ---- the line of a command
 
@@ -47,7 +47,7 @@ act_trace voice legend command before after =
 
 -- what happens in the quiet turns
 abbrev pub quiet_trace : Voice → Legend → CableWorld → List ℕ
-quiet_trace voice legend w = voice.turns legend (quiet_turns_of w) w
+quiet_trace voice legend w = turns_told voice legend (quiet_turns_of w) w
 
 -- A plan is carried out: its packet is sent, as a `config` does it, and the quiet turns are done.
 pub record TracesPlan (voice : Voice) (bus : Bus) (name : List ℕ) (after : Bus) (lines : List ℕ) :
@@ -79,7 +79,7 @@ Traces voice bus (Config name root_id gap) after lines =
 Traces voice bus (Hold name port turns) after lines =
     lines ≡ voice.command bus.world.turns (Hold name port turns)
 Traces voice bus (Turn count) after lines =
-    lines ≡ voice.turns (legend_of after.notes) count bus.world
+    lines ≡ turns_told voice (legend_of after.notes) count bus.world
 Traces voice bus Settle after lines =
     lines ≡ quiet_trace voice (legend_of after.notes) bus.world
 Traces voice bus (Plan name) after lines = TracesPlan voice bus name after lines
@@ -106,7 +106,6 @@ abbrev pub trace_voice : Voice
 trace_voice = record {
   command = command_line;
   since = λ legend. lines_since legend.names;
-  turns = λ legend. turns_lines legend.names;
 }
 
 -- what happens in a run, or its fault

@@ -1,7 +1,9 @@
 //! What the nodes of a world show, to be told from what they show later.
-ghost use Rattle.std.specs.Prelude.{◌≡◌, ◌<◌, ◌≤◌, ◌++◌, length, map, slice_index_or, drop, IfOk, OnOk};
+ghost use Rattle.std.specs.Prelude.{◌≡◌, ◌<◌, ◌≤◌, ◌++◌, List, Some, true, length, map, slice_get, slice_index_or, drop, IfOk, OnOk};
+ghost use Rattle.port_state.specs.Machine.{PortNode};
 ghost use Rattle.cable_world.specs.World.{wire_of};
-ghost use Rattle.script_trace.specs.Event.{node_lines, sent_lines, all_sent_lines};
+ghost use Rattle.script_trace.specs.Event.{Seen, node_lines, sent_lines, all_sent_lines};
+ghost use Rattle.script_trace.specs.News.{picked, IsEnough};
 ghost use Rattle.script_trace.specs.Step.{lines_since, seen_before_turn, seen_before_act, counts_from};
 
 use crate::node::{
@@ -13,6 +15,7 @@ use port_state::{PortViews, View};
 use script_text::{Name, OutOfMemory};
 use std::alloc::Global;
 use std::marker::Model;
+use world_agenda::NodeMask;
 
 /// What a node shows, and how many signals are under way on each of its wires.
 #[derive(Drop)]
@@ -45,18 +48,23 @@ impl Seen {
     }
 }
 
-/// The nodes before a turn. The world has 63 nodes at most, so many as are said.
+/// The nodes of a set before a turn. The world has 63 nodes at most, so many as are said.
 pub fn seen_before_turn<W: ShowsWires>(
     alloc: Global,
     world: &W,
     nodes: usize,
+    touched: NodeMask,
 ) -> Result<Vec<Seen>, OutOfMemory>
     requires few { nodes ≤ 63 }
     requires nodes { nodes ≡ length (W.world world.now).nodes }
-    ensures { IfOk result (λ seen. seen.items ≡ map seen_before_turn (W.world world.now).nodes) }
+    ensures { IfOk result (λ seen. seen.items
+        ≡ picked touched 0 (map seen_before_turn (W.world world.now).nodes)) }
 {
-    let mut seen = Vec::with_capacity(alloc, nodes)?;
+    let mut seen = Vec::new(alloc);
     for node in 0..nodes {
+        if !touched.has(node as u8) {
+            continue;
+        }
         seen.push(Seen {
             view: world.view(node as u8),
             there: Vec::new(alloc),
@@ -85,19 +93,23 @@ fn counts<W: ShowsWires>(
     Ok(list)
 }
 
-/// The nodes before an act. The world has 63 nodes at most, so many as are said.
+/// The nodes of a set before an act. The world has 63 nodes at most, so many as are said.
 pub fn seen_before_act<W: ShowsWires>(
     alloc: Global,
     world: &W,
     nodes: usize,
+    touched: NodeMask,
 ) -> Result<Vec<Seen>, OutOfMemory>
     requires few { nodes ≤ 63 }
     requires nodes { nodes ≡ length (W.world world.now).nodes }
     ensures { IfOk result (λ seen. seen.items
-        ≡ seen_before_act (W.world world.now) 0 (W.world world.now).nodes) }
+        ≡ picked touched 0 (seen_before_act (W.world world.now) 0 (W.world world.now).nodes)) }
 {
-    let mut seen = Vec::with_capacity(alloc, nodes)?;
+    let mut seen = Vec::new(alloc);
     for node in 0..nodes {
+        if !touched.has(node as u8) {
+            continue;
+        }
         let view = world.view(node as u8);
         let there = counts(alloc, world, node as u8, &view.ports)?;
         seen.push(Seen { view, there })?;
@@ -181,21 +193,52 @@ fn put_node<W: ShowsWires>(
     put_all_sent(out, names, world, node, &seen.there, &view.ports)
 }
 
-/// Appends what happened since the nodes showed this. `names` has the name of each node, at most 63.
-pub fn put_since<W: ShowsWires>(
+/// Appends what happened at a node since it showed what stands at a place, if something does.
+fn put_seen<W: ShowsWires>(
     out: &mut Vec<u8>,
     names: &[Name],
+    world: &W,
+    node: u8,
+    seen: &[Seen],
+    at: usize,
+) -> Result<(), OutOfMemory>
+    requires named { node < length names.now }
+    requires there { node < length (W.world world.now).nodes }
+    ensures { OnOk result ((s : Seen) (x : PortNode) → slice_get seen.now at ≡ Some s →
+        slice_get (W.world world.now).nodes node ≡ Some x → out.new.items
+        ≡ out.old.items ++ node_lines names.now (W.world world.now) node s x.state.view) }
+{
+    let count = seen.len();
+    if at >= count {
+        return Ok(());
+    }
+    let view = world.view(node);
+    put_node(out, names, world, node, &seen[at], &view)?;
+    Ok(())
+}
+
+/// Appends what happened since the nodes of a set showed this; the others show nothing new. `names` has
+/// the name of each node, at most 63.
+pub(crate) fn put_since<W: ShowsWires>(
+    out: &mut Vec<u8>,
+    names: &[Name],
+    touched: NodeMask,
     seen: &[Seen],
     world: &W,
 ) -> Result<(), OutOfMemory>
     requires few { length names.now ≤ 63 }
     requires nodes { length names.now ≡ length (W.world world.now).nodes }
-    ensures { OnOk result (out.new.items
-        ≡ out.old.items ++ lines_since names.now seen.now (W.world world.now)) }
+    ensures { OnOk result ((all : List Seen) →
+        IsEnough true touched seen.now all (W.world world.now) →
+        out.new.items ≡ out.old.items ++ lines_since names.now all (W.world world.now)) }
 {
-    for node in 0..seen.len().min(names.len()) {
-        let view = world.view(node as u8);
-        put_node(out, names, world, node as u8, &seen[node], &view)?;
+    let mut next = 0;
+    for node in 0..names.len() {
+        if !touched.has(node as u8) {
+            continue;
+        }
+        put_seen(out, names, world, node as u8, seen, next)?;
+        next += 1;
     }
     Ok(())
 }

@@ -1,3 +1,3 @@
 pub mod Walked
-pub mod Still
+pub mod News
 pub mod OneDump

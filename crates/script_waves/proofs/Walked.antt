@@ -1,56 +1,30 @@
 -- Nodes, ports and turns that are gone through by number, and texts of several parts.
-use Rattle.std.proofs.Common.{◌≡◌, ◌++◌, ◌+◌, ◌-◌, min, Bool, true, false, ◌<◌, ◌≤◌, ℕ, List, [], ◌∷◌, length, drop, map, Some, suc, refl, sym, ◌∙◌, ap, append_assoc, add-one, get_or, Option, append-nil, arith}
-use Rattle.std.specs.Prelude.{slice_get, nat_le}
+use Rattle.std.proofs.Common.{◌≡◌, ◌++◌, ◌+◌, ◌<◌, ◌≤◌, ℕ, List, [], ◌∷◌, length, drop, Some, refl, sym, ◌∙◌, ap, append_assoc, add-one, get_or, Option, append-nil, arith}
+use Rattle.std.specs.Prelude.{slice_get}
 use Rattle.std.specs.Option.{option_to_list}
 use Rattle.std.proofs.Math.Seq.{drop-cons}
-use Rattle.std.proofs.lemmas.Bool.Decides.{nat_tests}
-use Rattle.port_state.specs.declared.view.View.{View}
 use Rattle.port_state.specs.declared.ports.PortView.{PortView}
 use Rattle.port_state.specs.Machine.{PortNode}
 use Rattle.cable_world.specs.declared.wire.Travelling.{Travelling}
 use Rattle.cable_world.specs.World.{CableWorld}
-use Rattle.cable_world.specs.Turn.{turn}
 use Rattle.script_text.specs.ReportText.{Names}
 use Rattle.script_trace.specs.Event.{Seen}
-use Rattle.script_trace.specs.Step.{seen_before_turn}
 use Rattle.script_trace.proofs.Lemmas.{all-told, left-from, one-more, past-end, signal-more}
-use Rattle.script_waves.specs.Change.{node_changes, sent_change, sent_changes}
-use Rattle.script_waves.specs.Moment.{all_changes, waves_since, turn_waves, turns_waves}
+use Rattle.script_waves.specs.Change.{sent_change, sent_changes}
+use Rattle.script_waves.specs.Moment.{all_changes}
 use Rattle.script_waves.specs.Head.{port_variables, port_values, all_port_variables, all_port_values, node_scope, node_values, all_scopes, all_values}
 
 -- ---- nodes
-
-pub next-node :
-    (w : CableWorld) (k : ℕ) (x : PortNode) (s : Seen) (v : View) (seen : List Seen)
-    (nodes : List PortNode) (before after all : List ℕ) → slice_get nodes k ≡ Some x →
-    slice_get seen k ≡ Some s → v ≡ x.state.view → after ≡ before ++ node_changes w k s v →
-    before ++ all_changes w k (drop k seen) (drop k nodes) ≡ all →
-    after ++ all_changes w (k + 1) (drop (k + 1) seen) (drop (k + 1) nodes) ≡ all
-next-node w k x s v seen nodes before after all at here is new so =
-    let rest = all_changes w (k + 1) (drop (k + 1) seen) (drop (k + 1) nodes) in
-    one-more before after (node_changes w k s v) rest
-    (all_changes w k (drop k seen) (drop k nodes)) all new
-    (ap (λ (l : List Seen). all_changes w k l (drop k nodes)) (left-from seen k s here)
-    ∙ ap (all_changes w k (s ∷ drop (k + 1) seen)) (left-from nodes k x at)
-    ∙ ap (λ (u : View). node_changes w k s u ++ rest) (sym is))
-    so
 
 no-node : (w : CableWorld) (k : ℕ) (seen : List Seen) → all_changes w k seen [] ≡ []
 no-node w k [] = refl
 no-node w k (s ∷ seen) = refl
 
+-- nothing is left behind the last node
 pub none-left :
-    (w : CableWorld) (k : ℕ) (seen : List Seen) (nodes : List PortNode) (n : ℕ) →
-    n ≡ length nodes → min (length seen) n ≤ k → all_changes w k (drop k seen) (drop k nodes) ≡ []
-none-left w k seen nodes n count h = by (nat_le (length seen) k) refl
-  where
-    by : (b : Bool) → nat_le (length seen) k ≡ b → all_changes w k (drop k seen) (drop k nodes) ≡ []
-    by true e =
-        let past : length seen ≤ k = grind (arith, nat_tests) in
-        ap (λ (l : List Seen). all_changes w k l (drop k nodes)) (past-end seen k past)
-    by false e =
-        let above : k < length seen = grind (arith, nat_tests) in
-        ap (all_changes w k (drop k seen)) (past-end nodes k (omega (arith, count, h, above))) ∙ no-node w k (drop k seen)
+    (w : CableWorld) (k : ℕ) (seen : List Seen) (nodes : List PortNode) → length nodes ≤ k →
+    all_changes w k (drop k seen) (drop k nodes) ≡ []
+none-left w k seen nodes h = ap (all_changes w k (drop k seen)) (past-end nodes k h) ∙ no-node w k (drop k seen)
 
 -- ---- signals
 
@@ -137,39 +111,3 @@ no-scope names k nodes h = ap (all_scopes names k) (past-end nodes k h)
 pub no-values : (k : ℕ) (nodes : List PortNode) → length nodes ≤ k →
     all_values k (drop k nodes) ≡ []
 no-values k nodes h = ap (all_values k) (past-end nodes k h)
-
--- ---- turns
-
-pub turn-dumped :
-    (ns : Option ℕ) (w v : CableWorld) (seen : List Seen) (out new : List ℕ) → v ≡ turn w →
-    seen ≡ map seen_before_turn w.nodes → new ≡ out ++ waves_since ns seen v →
-    new ≡ out ++ turn_waves ns w
-unfolding turn_waves
-turn-dumped ns w v seen out new done before is =
-    is
-    ∙ ap (λ (s : List Seen). out ++ waves_since ns s v) before
-    ∙ ap (λ (u : CableWorld). out ++ waves_since ns (map seen_before_turn w.nodes) u) done
-
-turns-left :
-    (ns : Option ℕ) (n k : ℕ) (v : CableWorld) → k < n →
-    turns_waves ns (n - k) v ≡ turn_waves ns v ++ turns_waves ns (n - (k + 1)) (turn v)
-unfolding turns_waves
-turns-left ns n k v h =
-    let e : n - k ≡ suc (n - (k + 1)) = omega (arith, h) in
-    ap (λ (m : ℕ). turns_waves ns m v) e
-
-pub next-turn :
-    (ns : Option ℕ) (n k : ℕ) (v u : CableWorld) (before after all : List ℕ) → k < n → u ≡ turn v →
-    after ≡ before ++ turn_waves ns v → before ++ turns_waves ns (n - k) v ≡ all →
-    after ++ turns_waves ns (n - (k + 1)) u ≡ all
-next-turn ns n k v u before after all h done new so =
-    let rest = turns_waves ns (n - (k + 1)) u in
-    one-more before after (turn_waves ns v) rest (turns_waves ns (n - k) v) all new
-    (turns-left ns n k v h ∙ ap (λ (z : CableWorld). turn_waves ns v ++ turns_waves ns (n - (k + 1)) z) (sym done))
-    so
-
-pub no-turn-left : (ns : Option ℕ) (n k : ℕ) (v : CableWorld) → n ≤ k → turns_waves ns (n - k) v ≡ []
-unfolding turns_waves
-no-turn-left ns n k v h =
-    let e : n - k ≡ 0 = omega (arith, h) in
-    ap (λ (m : ℕ). turns_waves ns m v) e

@@ -11,7 +11,6 @@ mod head;
 mod laws;
 mod node;
 mod port;
-mod steps;
 mod value;
 mod waves;
 

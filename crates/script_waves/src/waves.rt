@@ -1,18 +1,23 @@
 //! A dump that grows.
-ghost use Rattle.std.specs.Prelude.{◌≡◌, ◌≤◌, ◌<◌, ◌++◌, [], length, drop, IfOk, OnOk};
+ghost use Rattle.std.specs.Prelude.{◌≡◌, ◌≤◌, ◌<◌, ◌++◌, [], List, Some, true, length, slice_get, drop, OnOk};
+ghost use Rattle.port_state.specs.Machine.{PortNode};
 ghost use Rattle.cable_world.specs.World.{wire_of};
+ghost use Rattle.script_trace.specs.Event.{Seen};
+ghost use Rattle.script_trace.specs.News.{IsEnough};
 ghost use Rattle.script_waves.specs.Change.{all_port_changes, node_changes, port_changes, sent_changes};
-ghost use Rattle.script_waves.specs.Moment.{all_changes, at_time, time_of, waves_since};
+ghost use Rattle.script_waves.specs.Moment.{all_changes, at_time, time_of, waves_since, waves_voice};
 
 use crate::node::{put_id, put_root, put_state, put_timeout};
 use crate::port::{put_gone, put_role, put_sent_some, put_shown, there_at};
 use cable_world::ShowsWires;
 use cabling::End;
 use port_state::{PortView, View};
+use script_lines::Command;
 use script_text::{OutOfMemory, put_numbered};
-use script_trace::{Legend, Seen};
+use script_trace::{Legend, Listener, Seen};
 use std::alloc::Global;
 use std::marker::Model;
+use world_agenda::NodeMask;
 
 /// The changes of a dump so far. In a contract it is their text.
 #[derive(Drop)]
@@ -110,21 +115,52 @@ fn put_node<W: ShowsWires>(
     put_ports(out, world, node, seen, view)
 }
 
-/// Appends what changed at all nodes, of which there are so many.
+/// Appends what changed at a node since it showed what stands at a place, if something does.
+fn put_seen<W: ShowsWires>(
+    out: &mut Vec<u8>,
+    world: &W,
+    node: u8,
+    seen: &[Seen],
+    at: usize,
+) -> Result<(), OutOfMemory>
+    requires few { node ≤ 62 }
+    requires there { node < length (W.world world.now).nodes }
+    ensures { OnOk result ((s : Seen) (x : PortNode) → slice_get seen.now at ≡ Some s →
+        slice_get (W.world world.now).nodes node ≡ Some x → out.new.items
+        ≡ out.old.items ++ node_changes (W.world world.now) node s x.state.view) }
+{
+    let count = seen.len();
+    if at >= count {
+        return Ok(());
+    }
+    let view = world.view(node);
+    put_node(out, world, node, &seen[at], &view)?;
+    Ok(())
+}
+
+/// Appends what changed at all nodes, of which there are so many, since those of a set showed this; the
+/// others show nothing new.
 fn put_all<W: ShowsWires>(
     out: &mut Vec<u8>,
     nodes: usize,
+    touched: NodeMask,
     seen: &[Seen],
     world: &W,
 ) -> Result<(), OutOfMemory>
     requires few { nodes ≤ 63 }
     requires nodes { nodes ≡ length (W.world world.now).nodes }
-    ensures { OnOk result (out.new.items
-        ≡ out.old.items ++ all_changes (W.world world.now) 0 seen.now (W.world world.now).nodes) }
+    ensures { OnOk result ((all : List Seen) →
+        IsEnough true touched seen.now all (W.world world.now) →
+        out.new.items
+        ≡ out.old.items ++ all_changes (W.world world.now) 0 all (W.world world.now).nodes) }
 {
-    for node in 0..seen.len().min(nodes) {
-        let view = world.view(node as u8);
-        put_node(out, world, node as u8, &seen[node], &view)?;
+    let mut next = 0;
+    for node in 0..nodes {
+        if !touched.has(node as u8) {
+            continue;
+        }
+        put_seen(out, world, node as u8, seen, next)?;
+        next += 1;
     }
     Ok(())
 }
@@ -165,22 +201,36 @@ impl Waves {
             scratch: Vec::new(alloc),
         }
     }
+}
 
-    /// Appends what changed in a world since its nodes showed that. The legend names them, 63 at most.
-    pub fn put_since<W: ShowsWires>(
+/// A dump to which the changes are appended.
+impl Listener for Waves {
+    ghost written = { λ waves. waves };
+
+    ghost voice = { waves_voice };
+
+    ghost looks = { true };
+
+    fn command(&mut self, _turn: u32, _command: &Command) -> Result<(), OutOfMemory> {
+        Ok(())
+    }
+
+    fn since<W: ShowsWires>(
         &mut self,
         legend: &Legend,
+        touched: NodeMask,
         seen: &[Seen],
         world: &W,
-    ) -> Result<(), OutOfMemory>
-        requires few { length legend.now.names ≤ 63 }
-        requires nodes { length legend.now.names ≡ length (W.world world.now).nodes }
-        ensures { OnOk result (self.new
-            ≡ self.old ++ waves_since legend.now.nanoseconds seen.now (W.world world.now)) }
-    {
+    ) -> Result<(), OutOfMemory> {
         self.scratch.clear();
-        put_all(&mut self.scratch, legend.names.len(), seen, world)?;
+        put_all(&mut self.scratch, legend.names.len(), touched, seen, world)?;
         let time = time_of(legend.nanoseconds, world.delay(), world.turns());
         put_time(&mut self.text, time, self.scratch.as_slice())
     }
+
+    fn hears(&self) -> bool {
+        true
+    }
+
+    fn news(&self) {}
 }

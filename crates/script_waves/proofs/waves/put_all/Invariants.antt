@@ -1,9 +1,15 @@
-use Rattle.std.proofs.Common.{◌≡◌, ◌++◌, drop}
+use Rattle.std.proofs.Common.{◌≡◌, ◌≤◌, ◌++◌, List, true, drop}
+use Rattle.script_trace.specs.Event.{Seen}
+use Rattle.script_trace.specs.News.{picked, IsEnough}
 use Rattle.script_waves.specs.Moment.{all_changes}
 use Rattle.script_waves.proofs.waves.put_all.Given as goal
 
 abbrev pub invariant-loop-node : goal.invariant-loop-node
 invariant-loop-node g l =
     let w = g.W.WorldRun.world l.world in
-    l.out.items ++ all_changes w l.node (drop l.node l.seen) (drop l.node w.nodes)
-    ≡ l.initial.out.items ++ all_changes w 0 l.seen w.nodes
+    record {
+      place : l.next ≤ l.node;
+      told : (all : List Seen) → IsEnough true l.touched l.seen all w →
+          (l.out.items ++ all_changes w l.node (drop l.node all) (drop l.node w.nodes) ≡ l.initial.out.items ++ all_changes w 0 all w.nodes)
+          × (drop l.next l.seen ≡ picked l.touched l.node (drop l.node all));
+    }

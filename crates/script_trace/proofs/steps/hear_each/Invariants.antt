@@ -2,18 +2,18 @@ use Rattle.std.proofs.Common.{◌≡◌, ◌-◌, ◌≤◌, ◌++◌}
 use Rattle.std.specs.Prelude.{IsFalse}
 use Rattle.cable_world.specs.Turn.{turns_after}
 use Rattle.cable_world.specs.Unchanged.{TurnsPass}
-use Rattle.script_trace.specs.Step.{turns_lines}
-use Rattle.script_trace.proofs.steps.trace_turns.Given as goal
+use Rattle.script_trace.specs.Voice.{turns_told}
+use Rattle.script_trace.proofs.steps.hear_each.Given as goal
 
 abbrev pub invariant-loop-done : goal.invariant-loop-done
 invariant-loop-done g l =
     let w = g.W.WorldRun.world l.fn.world in
     let v = g.W.WorldRun.world l.world in
+    let told = turns_told g.L.Listener.voice l.legend in
     record {
       few : l.done ≤ l.count;
       is : v ≡ turns_after l.done w;
-      lines : l.out.items ++ turns_lines l.names (l.count - l.done) v
-          ≡ l.fn.out.items ++ turns_lines l.names l.count w;
+      heard : g.L.Listener.written l.listener ++ told (l.count - l.done) v ≡ g.L.Listener.written l.fn.listener ++ told l.count w;
       passed : TurnsPass l.done w v;
       fine : IsFalse (g.W.WorldRun.is_spent l.world);
     }

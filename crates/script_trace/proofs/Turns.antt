@@ -1,0 +1,90 @@
+-- Turns, one after the other, as a voice tells them.
+use Rattle.std.proofs.Common.{◌≡◌, Bool, true, false, ℕ, zero, suc, ◌+◌, ◌-◌, ◌<◌, ◌≤◌, List, [], ◌++◌, length, map, refl, sym, ◌∙◌, ap, arith}
+use Rattle.std.specs.Prelude.{Result, Ok, Err, OnOk}
+use Rattle.std.proofs.lemmas.List.{append_assoc, length-map}
+use Rattle.port_state.specs.Idle.{after_ticks}
+use Rattle.cable_world.specs.World.{CableWorld}
+use Rattle.cable_world.specs.Turn.{turn, turns_after}
+use Rattle.cable_world.specs.Still.{IsStillFor, after_still, StillTurnsPass}
+use Rattle.world_agenda.proofs.Lemmas.{still-first, still-later, still-turn}
+use Rattle.script_trace.specs.Step.{seen_before_turn}
+use Rattle.script_trace.specs.Voice.{Legend, Voice, turns_told, TellsNewsAlone, TellsNothing}
+use Rattle.script_trace.proofs.News.{both-none, still-news}
+use Rattle.script_trace.proofs.Walked.{one-more}
+
+-- nothing is told of turns in which nothing happens
+pub still-told :
+    (voice : Voice) (legend : Legend) (k : ℕ) (w : CableWorld) → TellsNewsAlone voice → StillTurnsPass → length w.nodes ≡ length w.cabling →
+    IsStillFor k w → turns_told voice legend k w ≡ []
+unfolding turns_told
+still-told voice legend zero w news law e h = refl
+still-told voice legend (suc k) w news law e h =
+    let one = still-first k w h in
+    both-none (voice.since legend (map seen_before_turn w.nodes) (turn w)) (turns_told voice legend k (turn w))
+    (news legend (map seen_before_turn w.nodes) (turn w) (still-news w law e one))
+    (ap (turns_told voice legend k) (still-turn law w e one)
+    ∙ still-told voice legend k (after_still 1 w) news law (length-map w.nodes (after_ticks 1) ∙ e) (still-later k w h))
+
+-- nor of any where nothing is ever told
+pub mute-told : (voice : Voice) (legend : Legend) (k : ℕ) (w : CableWorld) → TellsNothing voice → turns_told voice legend k w ≡ []
+unfolding turns_told
+mute-told voice legend zero w h = refl
+mute-told voice legend (suc k) w h =
+    both-none (voice.since legend (map seen_before_turn w.nodes) (turn w)) (turns_told voice legend k (turn w))
+    (h legend (map seen_before_turn w.nodes) (turn w)) (mute-told voice legend k (turn w) h)
+
+pub not-spent : (spent : Bool) → (spent ≡ true → false ≡ true) → spent ≡ false
+not-spent true h = sym (h refl)
+not-spent false h = refl
+
+-- what holds whatever comes
+pub always : {A E : Type 0} → (r : Result A E) (P : Type 0) → P → OnOk r P
+always (Ok x) P p = p
+always (Err e) P p = tt
+
+module _ (voice : Voice) (legend : Legend) where
+  abbrev told : ℕ → CableWorld → List ℕ
+  told = turns_told voice legend
+
+  abbrev once : CableWorld → List ℕ
+  once w = voice.since legend (map seen_before_turn w.nodes) (turn w)
+
+  -- some turns, and then others
+  told-add : (j k : ℕ) (w : CableWorld) → told (j + k) w ≡ told j w ++ told k (turns_after j w)
+  unfolding turns_told turns_after
+  told-add zero k w = let e : 0 + k ≡ k = omega arith in ap (λ (n : ℕ). told n w) e
+  told-add (suc j) k w =
+      let e : suc j + k ≡ suc (j + k) = omega arith in
+      ap (λ (n : ℕ). told n w) e ∙ ap (λ (l : List ℕ). once w ++ l) (told-add j k (turn w))
+      ∙ sym (append_assoc (once w) (told j (turn w)) (told k (turns_after j (turn w))))
+
+  -- of the turns that are left nothing is told of the next ones
+  pub none-passed :
+      (left passed next : ℕ) (v u : CableWorld) (out all : List ℕ) → passed + next ≡ left → u ≡ turns_after passed v →
+      told passed v ≡ [] → out ++ told left v ≡ all → out ++ told next u ≡ all
+  none-passed left passed next v u out all e is none so =
+      let rest : told left v ≡ told next u =
+      sym (ap (λ (n : ℕ). told n v) e) ∙ told-add passed next v
+      ∙ ap (λ (l : List ℕ). l ++ told next (turns_after passed v)) none ∙ ap (told next) (sym is) in
+      sym (ap (λ (l : List ℕ). out ++ l) rest) ∙ so
+
+  turns-left : (n k : ℕ) (v : CableWorld) → k < n → told (n - k) v ≡ once v ++ told (n - (k + 1)) (turn v)
+  unfolding turns_told
+  turns-left n k v h =
+      let e : n - k ≡ suc (n - (k + 1)) = omega (arith, h) in
+      ap (λ (m : ℕ). told m v) e
+
+  pub next-turn :
+      (n k : ℕ) (v u : CableWorld) (before after all : List ℕ) → k < n → u ≡ turn v → after ≡ before ++ once v →
+      before ++ told (n - k) v ≡ all → after ++ told (n - (k + 1)) u ≡ all
+  next-turn n k v u before after all h done new so =
+      let rest = told (n - (k + 1)) u in
+      one-more before after (once v) rest (told (n - k) v) all new
+      (turns-left n k v h ∙ ap (λ (z : CableWorld). once v ++ told (n - (k + 1)) z) (sym done))
+      so
+
+  pub no-turn-left : (n k : ℕ) (v : CableWorld) → n ≤ k → told (n - k) v ≡ []
+  unfolding turns_told
+  no-turn-left n k v h =
+      let e : n - k ≡ 0 = omega (arith, h) in
+      ap (λ (m : ℕ). told m v) e
