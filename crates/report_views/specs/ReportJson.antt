@@ -1,11 +1,11 @@
 -- The value of a report: what a program is told of it.
-use Rattle.std.specs.Prelude.{◌≡◌, ℕ, zero, suc, ◌+◌, ◌==◌, Bool, true, false, List, [], ◌∷◌, codes}
+use Rattle.std.specs.Prelude.{◌≡◌, ℕ, zero, suc, ◌+◌, ◌==◌, Bool, true, false, Some, List, [], ◌∷◌, codes}
 use Rattle.std.specs.Int.{bit_at}
 use Rattle.self_id.specs.declared.standard.Standard.TheVariants.{Ieee2000}
 use Rattle.topology_stack.specs.Tree.{Tree, IsBusTreeOf, emits}
 use Rattle.cabling.specs.NodeSet.{Nodes}
-use Rattle.json.specs.Json.{Json, string, array, object, Items, no_items, item, Members, no_members, member}
-use Rattle.bus_json.specs.Text.{numeral, json_line}
+use Rattle.json.specs.Json.{Json, string, array, object, Items, no_items, item, Members, no_members, member, document}
+use Rattle.bus_json.specs.Text.{numeral, json_line, json_text}
 use Rattle.bus_json.specs.Bus.{with_schema, tree_members}
 use Rattle.settle.specs.declared.report.Outcome.{Outcome}
 use Rattle.settle.specs.declared.report.Outcome.TheVariants as reported
@@ -85,3 +85,11 @@ pub record IsReportLine (names : Names) (number : ℕ) (report : Report) (line :
   pub components : Items
   pub are : AreComponents names report.parts components
   pub is : line ≡ json_line (report_value number report.turn components)
+
+-- the line is that of the report, and its text is read back as the value of the report
+pub record IsReadLine (names : Names) (number : ℕ) (report : Report) (line : List ℕ)
+    : Type 0 where
+  pub line_is : IsReportLine names number report line
+  pub read_back :
+      document (json_text (report_value number report.turn line_is.components))
+      ≡ Some (report_value number report.turn line_is.components)

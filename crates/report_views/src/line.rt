@@ -5,7 +5,7 @@ ghost use Rattle.json.specs.Token.{string};
 ghost use Rattle.json.specs.Json.{array};
 ghost use Rattle.json.specs.Tree.{json_tokens, members_tokens};
 ghost use Rattle.script_text.specs.ReportText.{AreNamed, IsNamedTree, IsNamedOutcome, IsNamedPart, IsNamedReport, name_of};
-ghost use Rattle.report_views.specs.ReportJson.{set_names, IsTreeMember, contention_member, loop_member, IsOutcomeMember, component_value, AreComponents, report_value, IsReportLine};
+ghost use Rattle.report_views.specs.ReportJson.{set_names, IsTreeMember, contention_member, loop_member, IsOutcomeMember, component_value, AreComponents, report_value, IsReadLine};
 ghost use Rattle.report_views.specs.codings.Written.{held_tokens, IsWritten, IsComponent, AreWritten};
 
 use crate::names::names_in;
@@ -163,7 +163,8 @@ fn put_components(
 /// `{"schema":1,"report":K,"turn":T,"components":[COMPONENT,..]}`, where a component is
 /// `{"rounds":R,"changed":C,"names":["NAME",..],"tree":TREE}`, and in the place of `"tree"` it has
 /// `"contention":["NAME","NAME"]` or `"loop":["NAME",..]` where it came to none. TREE is what `bus_line`
-/// writes, without the schema, and with a `"name"` behind the ID of each node.
+/// writes, without the schema, and with a `"name"` behind the ID of each node. It is read back as the
+/// value that it is the text of.
 pub fn report_line(
     alloc: Global,
     names: &[Name],
@@ -171,7 +172,7 @@ pub fn report_line(
     report: &Report,
 ) -> Result<Vec<u8>, OutOfMemory>
     requires { IsNamedReport names.now report.now }
-    ensures { IfOk result (λ line. IsReportLine names.now number report.now line.items) }
+    ensures { IfOk result (λ line. IsReadLine names.now number report.now line.items) }
 {
     let mut out = JsonText::new(alloc);
     out.open_schema()?;

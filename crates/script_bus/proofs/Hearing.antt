@@ -12,30 +12,12 @@ use Rattle.script_lines.specs.declared.command.Command.TheVariants.{Plug, Pull, 
 use Rattle.script_text.specs.ReportText.{IsReportText}
 use Rattle.script_told.specs.Bus.{Notes, Bus}
 use Rattle.script_told.specs.Step.{LineAnswer, Reports, Settles, notes_after_report}
-use Rattle.script_trace.specs.Event.{Seen}
-use Rattle.script_trace.specs.Step.{seen_before_act}
 use Rattle.script_trace.specs.Voice.{Legend, legend_of, Voice}
 use Rattle.script_trace.specs.Trace.{act_trace, quiet_trace, Traces}
-use Rattle.script_bus.specs.Heard.{Hears, TellAlike}
-use Rattle.script_bus.specs.codings.Standing.{IsActCommand, IsHoldCommand, IsQuestion, IsReportedNow, IsPassed, IsPacketSent, IsSentHeard}
+use Rattle.script_bus.specs.Heard.{Hears}
+use Rattle.script_bus.specs.codings.Standing.{IsQuestion, IsReportedNow, IsPassed, IsPacketSent, IsSentHeard}
 
 -- ---- lines
-
-by-act :
-    (voice : Voice) (bus after : Bus) (command : Command) (lines : List ℕ) → IsActCommand command →
-    lines ≡ act_trace voice (legend_of after.notes) command bus.world after.world →
-    Traces voice bus command after lines
-by-act voice bus after (Plug a a_port b b_port) lines act is = is
-by-act voice bus after (Pull name port) lines act is = is
-by-act voice bus after (Reset name) lines act is = is
-by-act voice bus after (Config name root_id gap) lines act is = is
-by-act voice bus after command lines act is = absurd act
-
-by-hold :
-    (voice : Voice) (bus after : Bus) (command : Command) (lines : List ℕ) → IsHoldCommand command →
-    lines ≡ voice.command bus.world.turns command → Traces voice bus command after lines
-by-hold voice bus after (Hold name port turns) lines hold is = is
-by-hold voice bus after command lines hold is = absurd hold
 
 no-lines : (voice : Voice) (bus after : Bus) (command : Command) → IsQuestion command →
     Traces voice bus command after []
@@ -54,33 +36,6 @@ pub both-heard :
     (xs ys out mid new : List ℕ) → mid ≡ out ++ xs → new ≡ mid ++ ys → new ≡ out ++ (xs ++ ys)
 both-heard xs ys out mid new first next =
     next ∙ ap (λ (l : List ℕ). l ++ ys) first ∙ append_assoc out xs ys
-
--- what an act's line and what it does come to
-pub acted :
-    (voice : Voice) (legend : Legend) (w v : CableWorld) (turn : ℕ) (command : Command)
-    (out mid new : List ℕ) (seen : List Seen) (ns : Legend) → turn ≡ w.turns →
-    mid ≡ out ++ voice.command turn command →
-    TellAlike voice seen (seen_before_act w 0 w.nodes) → ns ≡ legend →
-    new ≡ mid ++ voice.since ns seen v →
-    new ≡ out ++ act_trace voice legend command w v
-acted voice legend w v turn command out mid new seen ns at said alike named is =
-    is
-    ∙ ap (λ (l : List ℕ). l ++ voice.since ns seen v) said
-    ∙ append_assoc out (voice.command turn command) (voice.since ns seen v)
-    ∙ ap (λ (l : List ℕ). out ++ (voice.command turn command ++ l)) (alike ns v)
-    ∙ ap (λ (ms : Legend). out ++ (voice.command turn command ++ voice.since ms (seen_before_act w 0 w.nodes) v)) named
-    ∙ ap (λ (t : ℕ). out ++ (voice.command t command ++ voice.since legend (seen_before_act w 0 w.nodes) v)) at
-
-pub act-hears :
-    (voice : Voice) (bus after : Bus) (command : Command) (out new : List ℕ) →
-    IsActCommand command →
-    new ≡ out ++ act_trace voice (legend_of after.notes) command bus.world after.world →
-    Hears voice bus command after out new
-act-hears voice bus after command out new act is = record {
-  lines = act_trace voice (legend_of after.notes) command bus.world after.world;
-  traces = by-act voice bus after command (act_trace voice (legend_of after.notes) command bus.world after.world) act refl;
-  written = is;
-}
 
 pub question-hears :
     (voice : Voice) (bus after : Bus) (command : Command) (out : List ℕ) → IsQuestion command →

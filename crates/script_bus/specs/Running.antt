@@ -7,8 +7,6 @@ use Rattle.script_lines.specs.declared.kind.LineStop.{LineStop}
 use Rattle.script_lines.specs.declared.kind.LineStop.TheVariants.{Fault, Memory}
 use Rattle.script_bus.specs.declared.bus.Notes as kept
 use Rattle.script_bus.specs.declared.bus.Reported as shown
-use Rattle.script_lines.specs.declared.command.Command.{Command}
-use Rattle.script_lines.specs.declared.command.Command.TheVariants.{CsrRead, CsrWrite, CsrLock, Look, Allocate, Release, Manager}
 use Rattle.script_text.specs.ReportText.{IsNamedReport}
 use Rattle.script_told.specs.Bus.{Notes, Bus, Reported, node_named, tree_with}
 use Rattle.script_bus.specs.codings.Standing.{StandsSince}
@@ -69,14 +67,3 @@ pub record IsAsked (bus : Bus) (name : List ℕ) (node id manager : ℕ) : Type 
 -- nothing comes of a command but a fault
 abbrev pub nothing : ℕ → ℕ → ℕ → LineAnswer → Type 0
 nothing node id manager answer = ⊥
-
--- the commands that ask the manager of a tree
-abbrev pub AsksManager : Command → Type 0
-AsksManager (CsrRead name offset) = Unit {0}
-AsksManager (CsrWrite name offset value) = Unit {0}
-AsksManager (CsrLock name offset kind arg value) = Unit {0}
-AsksManager (Look name) = Unit {0}
-AsksManager (Allocate name channel units) = Unit {0}
-AsksManager (Release name channel units) = Unit {0}
-AsksManager (Manager name) = Unit {0}
-AsksManager command = ⊥

@@ -3,7 +3,7 @@ use Rattle.std.specs.Prelude.{◌≡◌, ℕ, List, [], Option, None, Some}
 use Rattle.settle.specs.declared.report.Report.{Report}
 use Rattle.script_told.specs.Bus.{Bus}
 use Rattle.report_views.specs.ReportGraph.{IsReportGraph}
-use Rattle.report_views.specs.ReportJson.{IsReportLine}
+use Rattle.report_views.specs.ReportJson.{IsReportLine, IsReadLine}
 
 -- the graph of the last report, and nothing where an act came since
 abbrev pub IsGraphOf : Bus → List ℕ → Type 0
@@ -20,3 +20,11 @@ IsLineOf bus text = of_report bus.notes.report
     of_report : Option Report → Type 0
     of_report None = text ≡ []
     of_report (Some report) = IsReportLine bus.notes.names bus.notes.reports report text
+
+-- and where there is one, it is read back as the value of the report
+abbrev pub IsReadLineOf : Bus → List ℕ → Type 0
+IsReadLineOf bus text = of_report bus.notes.report
+  where
+    of_report : Option Report → Type 0
+    of_report None = text ≡ []
+    of_report (Some report) = IsReadLine bus.notes.names bus.notes.reports report text

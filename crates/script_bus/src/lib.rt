@@ -25,5 +25,6 @@ pub use laws::{
     each_config_comes_out, each_plan_comes_out, each_script_has_a_run, each_script_has_an_advice,
     each_waiting_node_becomes_root, entries_follow_on, maps_show_one_tree, plans_have_answers,
 };
-pub use listener::{Listener, Silent};
+pub use listener::Silent;
+pub use script_trace::Listener;
 pub use table::NameTable;

@@ -1,5 +1,5 @@
 //! The plan of a bus manager, and how it is carried out.
-ghost use Rattle.std.specs.Prelude.{◌≡◌, ◌<◌, ◌+◌, ◌++◌, ◌==◌, ℕ, [], All, nat_lt, true, false, Some, None, Ok, IfOk, IfErr, OnOk, IsFalse, length};
+ghost use Rattle.std.specs.Prelude.{◌≡◌, ◌<◌, ◌+◌, ◌++◌, ◌==◌, ℕ, [], All, nat_lt, true, false, Some, None, Ok, IfOk, IfErr, OnOk, IsTrue, IsFalse, length};
 ghost use Rattle.topology_stack.specs.Elect.{elected};
 ghost use Rattle.cabling.specs.Walk.{IsWalk};
 ghost use Rattle.cable_world.specs.Unchanged.{TurnsPass};
@@ -11,13 +11,13 @@ ghost use Rattle.script_text.specs.ReportText.{IsNamedTree};
 ghost use Rattle.script_told.specs.Step.{Acts, Does, HasManager, config_of, node_with};
 ghost use Rattle.script_trace.specs.Step.{seen_before_act};
 ghost use Rattle.script_bus.specs.Running.{Stops, reported};
-ghost use Rattle.script_bus.specs.Heard.{Hears, TellAlike};
+ghost use Rattle.script_trace.specs.News.{picked};
+ghost use Rattle.script_bus.specs.Heard.{Hears};
 ghost use Rattle.script_bus.specs.codings.Standing.{StandsAs, IsPlanned, IsPacketSent, IsSentHeard};
 ghost use Rattle.script_bus.specs.codings.Doing.{IsReady};
 ghost use Rattle.script_lines.specs.declared.command.Command.TheVariants as command;
 
 use crate::bus::{Bus, Reported};
-use crate::listener::Listener;
 use crate::managed::Asked;
 use cable_world::{Act, acts_keep};
 use cabling::{Walk, components_exist};
@@ -26,11 +26,12 @@ use resource_manager::Register;
 use root_plan::{RootPlan, choose, expect};
 use script_lines::{Command, Kind, LineStop};
 use script_text::{plan_line, tree_of};
-use script_trace::Seen;
+use script_trace::{Listener, Seen};
 use settle::quiet_turns_settle;
 use settle_plan::plans_suit;
 use std::alloc::Global;
 use topology_stack::{BusTree, Name, OutOfMemory, one_tree};
+use world_agenda::NodeMask;
 
 /// A plan and its line.
 #[derive(Drop)]
@@ -150,16 +151,17 @@ impl Bus {
         alloc: Global,
         name: &Name,
         plan: &RootPlan,
+        touched: NodeMask,
         listener: &mut L,
     ) -> Result<Vec<Seen>, OutOfMemory>
-        ensures alike { IfOk result (λ seen. TellAlike L.voice seen.items
-            (seen_before_act self.now.world 0 self.now.world.nodes)) }
+        ensures seen { IfOk result (λ seen. IsTrue L.looks → seen.items
+            ≡ picked touched 0 (seen_before_act self.now.world 0 self.now.world.nodes)) }
         ensures written { OnOk result (L.written listener.new ≡ L.written listener.old
             ++ L.voice.command self.now.world.turns
             (command.Config name.now (Some plan.now.root_id) (Some plan.now.gap))) }
     {
         let packet = packet_of(name, plan)?;
-        let seen = self.tell_before(alloc, &packet, listener)?;
+        let seen = self.tell_before(alloc, &packet, touched, listener)?;
         Ok(seen)
     }
 
@@ -194,9 +196,11 @@ impl Bus {
             (L.written listener.old) (L.written listener.new)) }
         ensures passed { IfOk result (λ bus. TurnsPass 0 self.world bus.world) }
     {
-        let seen = self.tell_packet(alloc, name, plan, listener)?;
+        self.is_sound();
+        let touched = NodeMask::first(self.cabling().nodes());
+        let seen = self.tell_packet(alloc, name, plan, touched, listener)?;
         let bus = self.send_packet(node, plan)?;
-        bus.tell_after(&seen, listener)?;
+        bus.tell_after(touched, &seen, listener)?;
         Ok(bus)
     }
 

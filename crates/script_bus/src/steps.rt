@@ -1,20 +1,22 @@
 //! What the commands of a script do to its bus.
-ghost use Rattle.std.specs.Prelude.{◌≡◌, ◌≤◌, ◌<◌, ◌⊎◌, [], Ok, IfOk, IfErr, IfSome, IsSome, OnOk};
-ghost use Rattle.script_told.specs.Step.{Does, after_maps, config_of};
+ghost use Rattle.std.specs.Prelude.{◌≡◌, ◌≤◌, ◌<◌, ◌⊎◌, ◌++◌, [], Ok, IfOk, IfErr, IfSome, IsSome, OnOk};
+ghost use Rattle.cable_world.specs.Act.{IsAct};
+ghost use Rattle.script_told.specs.Step.{Acts, Does, after_maps, config_of};
+ghost use Rattle.script_trace.specs.Trace.{act_trace};
+ghost use Rattle.script_trace.specs.Voice.{legend_of};
 ghost use Rattle.script_lines.specs.Range.{IsInRange};
-ghost use Rattle.script_bus.specs.Running.{AsksManager, Stops};
+ghost use Rattle.script_bus.specs.Running.{Stops};
 ghost use Rattle.script_bus.specs.Heard.{Hears};
-ghost use Rattle.script_bus.specs.codings.Standing.{IsActCommand, IsHoldCommand, IsQuestion};
+ghost use Rattle.script_bus.specs.codings.Standing.{IsQuestion};
 ghost use Rattle.script_bus.specs.codings.Doing.{IsActOf};
 ghost use Rattle.script_lines.specs.declared.command.Command.TheVariants as command;
 
 use crate::bus::{Bus, end_of};
-use crate::listener::Listener;
 use cable_world::Act;
-use port_state::TimeRanges;
 use resource_manager::Access;
 use script_lines::{Command, Kind, LineStop};
 use script_text::{maps_text, tree_of};
+use script_trace::{Listener, touched_by};
 use std::alloc::Global;
 use topology_stack::Name;
 
@@ -83,57 +85,44 @@ impl Bus {
         Ok(config_of(from, root_id, gap))
     }
 
-    /// The act that a command says.
-    fn act_of(&self, times: TimeRanges, command: &Command) -> Result<Act, LineStop>
-        requires range { IsInRange times command.now }
-        requires act { IsActCommand command.now }
-        ensures is { IfOk result (λ act. IsActOf self.now command.now act) }
-        ensures stop { IfErr result (Stops (Does self.now command.now)) }
-    {
-        match command {
-            Command::Plug {
-                a,
-                a_port,
-                b,
-                b_port,
-            } => self.plug(a, *a_port, b, *b_port),
-            Command::Pull { name, port } => self.pull(name, *port),
-            Command::Reset { name } => self.reset(name),
-            Command::Config { name, root_id, gap } => self.config(name, *root_id, *gap),
-            _ => unreachable!(),
-        }
-    }
-
-    /// An act in a script's words.
-    fn act_said(self, times: TimeRanges, command: &Command) -> Result<Bus, LineStop>
-        requires range { IsInRange times command.now }
-        requires act { IsActCommand command.now }
-        ensures done { IfOk result (λ bus. Does self command.now (Ok (bus, []))) }
-        ensures stop { IfErr result (Stops (Does self command.now)) }
-    {
-        let act = self.act_of(times, command)?;
-        self.act(&act)
-    }
-
-    /// An act, which a listener hears.
-    fn act_heard<L: Listener>(
+    /// An act, which a listener hears as this command.
+    fn act_told<L: Listener>(
         self,
         alloc: Global,
-        times: TimeRanges,
+        act: &Act,
         command: &Command,
         listener: &mut L,
     ) -> Result<Bus, LineStop>
-        requires range { IsInRange times command.now }
-        requires act { IsActCommand command.now }
-        ensures done { IfOk result (λ bus. Does self command.now (Ok (bus, []))) }
-        ensures heard { IfOk result (λ bus. Hears L.voice self command.now bus
+        requires { IsAct act.now }
+        ensures done { IfOk result (λ bus. Acts self act.now (Ok (bus, []))) }
+        ensures heard { IfOk result (λ bus. L.written listener.new ≡ L.written listener.old
+            ++ act_trace L.voice (legend_of bus.notes) command.now self.world bus.world) }
+        ensures stop { IfErr result (Stops (Acts self act.now)) }
+    {
+        self.is_sound();
+        let touched = touched_by(self.cabling(), act);
+        let seen = self.tell_before(alloc, command, touched, listener)?;
+        let bus = self.act(act)?;
+        bus.tell_after(touched, &seen, listener)?;
+        Ok(bus)
+    }
+
+    /// Does the act that a command says, which a listener hears.
+    fn act_heard<L: Listener>(
+        self,
+        alloc: Global,
+        command: &Command,
+        act: Act,
+        listener: &mut L,
+    ) -> Result<(Bus, Vec<u8>), LineStop>
+        requires { IsActOf self command.now act }
+        ensures done { IfOk result (λ r. Does self command.now (Ok (r.0, r.1.items))) }
+        ensures heard { IfOk result (λ r. Hears L.voice self command.now r.0
             (L.written listener.old) (L.written listener.new)) }
         ensures stop { IfErr result (Stops (Does self command.now)) }
     {
-        let seen = self.tell_before(alloc, command, listener)?;
-        let bus = self.act_said(times, command)?;
-        bus.tell_after(&seen, listener)?;
-        Ok(bus)
+        let bus = self.act_told(alloc, &act, command, listener)?;
+        Ok((bus, Vec::new(alloc)))
     }
 
     /// `hold NAME PORT K`
@@ -176,20 +165,16 @@ impl Bus {
         Ok(text)
     }
 
-    /// A command that asks the manager of a tree.
-    fn question(
-        &mut self,
-        alloc: Global,
-        times: TimeRanges,
-        command: &Command,
-    ) -> Result<Vec<u8>, LineStop>
-        requires range { IsInRange times command.now }
-        requires asks { AsksManager command.now }
+    /// A command in which nothing happens to the world.
+    fn ask(&mut self, alloc: Global, command: &Command) -> Result<Vec<u8>, LineStop>
+        requires range { IsInRange self.old.notes.times.ranges command.now }
+        requires asks { IsQuestion command.now }
         ensures done { IfOk result (λ text. Does self.old command.now
             (Ok (self.new, text.items))) }
         ensures stop { IfErr result (Stops (Does self.old command.now)) }
     {
         match command {
+            Command::Maps { name } => self.maps(alloc, name),
             Command::CsrRead { name, offset } => {
                 self.csr(alloc, name, Access::Read { offset: *offset })
             }
@@ -231,97 +216,57 @@ impl Bus {
                 units,
             } => self.release(alloc, name, *channel, *units),
             Command::Manager { name } => self.bid(alloc, name),
-            _ => unreachable!(),
+            _ => Err(LineStop::Fault(Kind::Late)),
         }
     }
 
-    /// A command in which nothing happens to the world.
-    fn ask(
-        &mut self,
-        alloc: Global,
-        times: TimeRanges,
-        command: &Command,
-    ) -> Result<Vec<u8>, LineStop>
-        requires range { IsInRange times command.now }
-        requires asks { IsQuestion command.now }
-        ensures done { IfOk result (λ text. Does self.old command.now
-            (Ok (self.new, text.items))) }
-        ensures stop { IfErr result (Stops (Does self.old command.now)) }
-    {
-        match command {
-            Command::Node { .. } | Command::Delay { .. } | Command::Times { .. } => {
-                Err(LineStop::Fault(Kind::Late))
-            }
-            Command::Maps { name } => self.maps(alloc, name),
-            Command::CsrRead { .. }
-            | Command::CsrWrite { .. }
-            | Command::CsrLock { .. }
-            | Command::Look { .. }
-            | Command::Allocate { .. }
-            | Command::Release { .. }
-            | Command::Manager { .. } => self.question(alloc, times, command),
-            _ => unreachable!(),
-        }
-    }
-
-    /// A hold, which a listener hears.
-    fn hold_heard<L: Listener>(self, command: &Command, listener: &mut L) -> Result<Bus, LineStop>
-        requires { IsHoldCommand command.now }
-        ensures done { IfOk result (λ bus. Does self command.now (Ok (bus, []))) }
-        ensures heard { IfOk result (λ bus. Hears L.voice self command.now bus
-            (L.written listener.old) (L.written listener.new)) }
-        ensures stop { IfErr result (Stops (Does self command.now)) }
-    {
-        listener.command(self.turns(), command)?;
-        match command {
-            Command::Hold { name, port, turns } => self.hold_wire(name, *port, *turns),
-            _ => unreachable!(),
-        }
-    }
-
-    /// Does a command, whose numbers are in range where the times of nodes are in these ranges, and
+    /// Does a command, whose numbers are in range where the times of nodes are in the bus's ranges, and
     /// answers the bus then and what it prints. The listener hears what happens in it. A command that
     /// is at fault leaves no bus to go on with; `node`, `delay` and `times` are `Late`.
     pub fn command<L: Listener>(
         self,
         alloc: Global,
-        times: TimeRanges,
         command: &Command,
         listener: &mut L,
     ) -> Result<(Bus, Vec<u8>), LineStop>
-        requires { IsInRange times command.now }
+        requires { IsInRange self.notes.times.ranges command.now }
         ensures done { IfOk result (λ r. Does self command.now (Ok (r.0, r.1.items))) }
         ensures heard { IfOk result (λ r. Hears L.voice self command.now r.0
             (L.written listener.old) (L.written listener.new)) }
         ensures stop { IfErr result (Stops (Does self command.now)) }
     {
         match command {
-            Command::Plug { .. }
-            | Command::Pull { .. }
-            | Command::Reset { .. }
-            | Command::Config { .. } => {
-                Ok((
-                    self.act_heard(alloc, times, command, listener)?,
-                    Vec::new(alloc),
-                ))
+            Command::Plug {
+                a,
+                a_port,
+                b,
+                b_port,
+            } => {
+                let act = self.plug(a, *a_port, b, *b_port)?;
+                self.act_heard(alloc, command, act, listener)
             }
-            Command::Hold { .. } => Ok((self.hold_heard(command, listener)?, Vec::new(alloc))),
+            Command::Pull { name, port } => {
+                let act = self.pull(name, *port)?;
+                self.act_heard(alloc, command, act, listener)
+            }
+            Command::Reset { name } => {
+                let act = self.reset(name)?;
+                self.act_heard(alloc, command, act, listener)
+            }
+            Command::Config { name, root_id, gap } => {
+                let act = self.config(name, *root_id, *gap)?;
+                self.act_heard(alloc, command, act, listener)
+            }
+            Command::Hold { name, port, turns } => {
+                listener.command(self.turns(), command)?;
+                Ok((self.hold_wire(name, *port, *turns)?, Vec::new(alloc)))
+            }
             Command::Turn { count } => Ok((self.turn(alloc, *count, listener)?, Vec::new(alloc))),
             Command::Settle => self.settle(alloc, listener),
             Command::Plan { name } => self.plan(alloc, name, listener),
-            Command::Node { .. }
-            | Command::Delay { .. }
-            | Command::Times { .. }
-            | Command::Maps { .. }
-            | Command::CsrRead { .. }
-            | Command::CsrWrite { .. }
-            | Command::CsrLock { .. }
-            | Command::Look { .. }
-            | Command::Allocate { .. }
-            | Command::Release { .. }
-            | Command::Manager { .. } => {
+            _ => {
                 let mut bus = self;
-                let text = bus.ask(alloc, times, command)?;
+                let text = bus.ask(alloc, command)?;
                 Ok((bus, text))
             }
         }

@@ -1,46 +1,52 @@
 //! What a listener is told of an act.
-ghost use Rattle.std.specs.Prelude.{◌≡◌, ◌++◌, IfOk, OnOk};
+ghost use Rattle.std.specs.Prelude.{◌≡◌, ◌++◌, List, IfOk, OnOk, IsTrue};
 ghost use Rattle.script_trace.specs.Voice.{legend_of};
 ghost use Rattle.script_trace.specs.Step.{seen_before_act};
-ghost use Rattle.script_bus.specs.Heard.{TellAlike};
+ghost use Rattle.script_trace.specs.Event.{Seen};
+ghost use Rattle.script_trace.specs.News.{picked, IsEnough};
 
 use crate::bus::Bus;
-use crate::listener::Listener;
 use script_lines::Command;
-use script_trace::Seen;
+use script_trace::{Listener, Seen, see_before_act};
 use std::alloc::Global;
 use topology_stack::OutOfMemory;
+use world_agenda::NodeMask;
 
 impl Bus {
-    /// An act comes. Answers what the nodes show before it, or as much of it as the listener needs.
+    /// An act comes. Answers what the nodes of a set show before it, where the listener looks at it.
     pub(crate) fn tell_before<L: Listener>(
         &self,
         alloc: Global,
         command: &Command,
+        touched: NodeMask,
         listener: &mut L,
     ) -> Result<Vec<Seen>, OutOfMemory>
-        ensures alike { IfOk result (λ seen. TellAlike L.voice seen.items
-            (seen_before_act self.now.world 0 self.now.world.nodes)) }
+        ensures seen { IfOk result (λ seen. IsTrue L.looks → seen.items
+            ≡ picked touched 0 (seen_before_act self.now.world 0 self.now.world.nodes)) }
         ensures written { OnOk result (L.written listener.new ≡ L.written listener.old
             ++ L.voice.command self.now.world.turns command.now) }
     {
         self.is_sound();
         listener.command(self.turns(), command)?;
-        let seen = listener.before_act(alloc, self.world(), self.names().len())?;
+        let nodes = self.names().len();
+        let seen = see_before_act(alloc, self.world(), nodes, touched, &*listener)?;
         Ok(seen)
     }
 
-    /// An act was done, before which the nodes showed `seen`.
+    /// An act was done, before which the nodes of a set showed `seen`; the others show nothing new.
     pub(crate) fn tell_after<L: Listener>(
         &self,
+        touched: NodeMask,
         seen: &[Seen],
         listener: &mut L,
     ) -> Result<(), OutOfMemory>
-        ensures { OnOk result (L.written listener.new ≡ L.written listener.old
-            ++ L.voice.since (legend_of self.now.notes) seen.now self.now.world) }
+        ensures { OnOk result ((all : List Seen) →
+            IsEnough L.looks touched seen.now all self.now.world →
+            L.written listener.new ≡ L.written listener.old
+            ++ L.voice.since (legend_of self.now.notes) all self.now.world) }
     {
         self.is_sound();
-        listener.after_act(&self.legend(), seen, self.world())?;
+        listener.since(&self.legend(), touched, seen, self.world())?;
         Ok(())
     }
 }

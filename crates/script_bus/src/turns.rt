@@ -6,17 +6,16 @@ ghost use Rattle.cable_world.specs.Turn.{turns_after};
 ghost use Rattle.cable_world.specs.Unchanged.{TurnsPass};
 ghost use Rattle.script_told.specs.Step.{Reports, Turns, Settles};
 ghost use Rattle.script_lines.specs.declared.command.Command.TheVariants as command;
-ghost use Rattle.script_trace.specs.Voice.{legend_of};
+ghost use Rattle.script_trace.specs.Voice.{legend_of, turns_told};
 ghost use Rattle.script_bus.specs.Running.{Stops};
 ghost use Rattle.script_bus.specs.Heard.{Hears};
 ghost use Rattle.script_bus.specs.codings.Standing.{IsReportedNow, IsPassed};
 
 use crate::bus::{Bus, is_reached};
-use crate::listener::Listener;
 use cable_world::WorldRun;
 use script_lines::{Kind, LineStop};
 use script_text::{report_text, reports_can_be_shown};
-use script_trace::Legend;
+use script_trace::{Legend, Listener, hear_turns};
 use settle::{quiet_turns_for, quiet_turns_settle, report_of};
 use std::alloc::Global;
 use topology_stack::OutOfMemory;
@@ -37,13 +36,13 @@ fn turns_heard<W: TellsStillTurns, L: Listener>(
     ensures done { OnOk result
         (W.world world.new.value ≡ turns_after count (W.world world.old.value)) }
     ensures heard { OnOk result (L.written listener.new ≡ L.written listener.old
-        ++ L.voice.turns legend.now count (W.world world.old.value)) }
+        ++ turns_told L.voice legend.now count (W.world world.old.value)) }
     ensures passed { OnOk result
         (TurnsPass count (W.world world.old.value) (W.world world.new.value)) }
     ensures fine { OnOk result (IsFalse (W.is_spent world.new.value)) }
     ensures reached { OnOk result (∥ IsReached (W.world world.new.value) ∥₁) }
 {
-    listener.turns(alloc, &mut **world, count, legend)?;
+    hear_turns(alloc, &mut **world, count, legend, listener)?;
     is_reached(&**world);
     Ok(())
 }
@@ -61,7 +60,7 @@ impl Bus {
             ≡ record self { world = turns_after count self.world }) }
         ensures passed { IfOk result (λ bus. TurnsPass count self.world bus.world) }
         ensures heard { OnOk result (L.written listener.new ≡ L.written listener.old
-            ++ L.voice.turns (legend_of self.notes) count self.world) }
+            ++ turns_told L.voice (legend_of self.notes) count self.world) }
     {
         let Bus { mut world, notes } = self;
         let legend = notes.legend();

@@ -1,6 +1,6 @@
 //! The last report of a bus as a picture and as data.
 ghost use Rattle.std.specs.Prelude.{IfOk};
-ghost use Rattle.script_bus.specs.Viewed.{IsGraphOf, IsLineOf};
+ghost use Rattle.script_bus.specs.Viewed.{IsGraphOf, IsReadLineOf};
 
 use crate::bus::Bus;
 use report_views::{report_graph, report_line};
@@ -21,7 +21,7 @@ impl Bus {
 
     /// The line of the last report, as `report_line` has it. It is empty where an act came since.
     pub fn line(&self, alloc: Global) -> Result<Vec<u8>, OutOfMemory>
-        ensures { IfOk result (λ text. IsLineOf self.now text.items) }
+        ensures { IfOk result (λ text. IsReadLineOf self.now text.items) }
     {
         self.is_sound();
         match &self.notes.report {

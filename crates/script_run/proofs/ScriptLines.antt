@@ -5,7 +5,7 @@ use Rattle.std.specs.List.{slice_split, position_or_len, onto_first}
 use Rattle.std.proofs.lemmas.Bool.Decides.{nat_tests}
 use Rattle.script_text.specs.Summary.{is_feed}
 use Rattle.script_told.specs.Script.{without_last_if_empty, script_lines}
-use Rattle.script_lines.proofs.Lemmas.{cut, uncut}
+use Rattle.line_words.proofs.Lemmas.{cut, uncut}
 
 -- there is always a part, so a line stands before it
 stands : (line text : List ℕ) →

@@ -5,7 +5,7 @@ use Rattle.script_told.specs.Script.{Stage, Told, bus_of}
 use Rattle.script_told.specs.Run.{Entry, ScriptRun, IsRun}
 use Rattle.script_lines.specs.declared.command.Command.{Command}
 use Rattle.script_lines.specs.declared.command.Command.TheVariants.{Settle, Plan}
-use Rattle.script_bus.specs.Viewed.{IsGraphOf, IsLineOf}
+use Rattle.script_bus.specs.Viewed.{IsGraphOf, IsLineOf, IsReadLineOf}
 
 -- the graph of the report at the end of a run, or the run's fault
 abbrev pub IsPictureOf : ScriptRun → Told → Type 0
@@ -42,3 +42,25 @@ AreLinesOf run (Err fault) = run.end ≡ Err fault
 -- The reports of a script as JSON: a line for each that it prints.
 abbrev pub AreReported : List ℕ → Told → Type 0
 AreReported bytes told = (run : ScriptRun) × IsRun bytes run × AreLinesOf run told
+
+-- ---- lines that are read back
+
+-- the line behind a command, which is read back as the value of its report
+abbrev pub IsReadAfter : Command → Stage → List ℕ → Type 0
+IsReadAfter command after line =
+    MatchBool (prints_report command) (IsReadLineOf (bus_of after) line) (line ≡ [])
+
+-- the lines of commands, each of which is read back
+abbrev pub AreReadLines : List Entry → List ℕ → Type 0
+AreReadLines [] text = text ≡ []
+AreReadLines (entry ∷ entries) text =
+    (one : List ℕ) × (more : List ℕ) × IsReadAfter entry.command entry.after one
+    × AreReadLines entries more × (text ≡ one ++ more)
+
+-- the lines are those of the reports of a script, and each is read back as the value of its report
+pub record AreReadBack (bytes text : List ℕ) : Type 0 where
+  pub run : ScriptRun
+  pub is : IsRun bytes run
+  pub bus : Bus
+  pub end : run.end ≡ Ok bus
+  pub lines : AreReadLines run.entries text

@@ -17,6 +17,7 @@ use script_bus::{Bus, NameTable};
 use script_lines::{Kind, LineStop, ScriptTimes};
 use self_id::{Attrs, Standard};
 use std::alloc::Global;
+use std::mem;
 use topology_stack::{Name, OutOfMemory};
 
 /// The number of nodes of a script, at most.
@@ -170,42 +171,34 @@ impl Draft {
         Ok(())
     }
 
-    /// The draft with one node more, which gets the next number.
-    fn with(self, node: NodeLine) -> Result<Draft, OutOfMemory>
-        requires sound { IsDraft self }
-        requires line { IsLine self.times.ranges node }
-        requires few { length self.machines.items ≤ 62 }
-        requires new { is_declared self.names node.name ≡ false }
-        ensures value { IfOk result (λ after. draft_now after ≡ with_node (draft_now self)
-            node.name (node_said node self.times.ranges (length self.names))) }
-        ensures sound { IfOk result IsDraft }
+    /// Appends a node, which gets the next number. Where there is no memory the names are gone.
+    fn push(&mut self, alloc: Global, node: NodeLine) -> Result<(), OutOfMemory>
+        requires sound { IsDraft self.old }
+        requires line { IsLine self.old.times.ranges node }
+        requires few { length self.old.machines.items ≤ 62 }
+        requires new { is_declared self.old.names node.name ≡ false }
+        ensures value { OnOk result (draft_now self.new ≡ with_node (draft_now self.old)
+            node.name (node_said node self.old.times.ranges (length self.old.names))) }
+        ensures sound { OnOk result (IsDraft self.new) }
     {
-        let Draft {
-            delay,
-            times,
-            names,
-            mut machines,
-        } = self;
-        let number = machines.len() as u32;
-        machines.push(powered_on(&node, times.ranges, number))?;
-        Ok(Draft {
-            delay,
-            times,
-            names: names.with(node.name)?,
-            machines,
-        })
+        let number = self.machines.len() as u32;
+        self.machines
+            .push(powered_on(&node, self.times.ranges, number))?;
+        let names = mem::replace(&mut self.names, NameTable::new(alloc));
+        self.names = names.with(node.name)?;
+        Ok(())
     }
 
     /// Declares a node, where it isn't the 64th and its name is new.
-    pub fn declare(self, node: NodeLine) -> Result<Draft, LineStop>
-        requires sound { IsDraft self }
-        requires line { IsLine self.times.ranges node }
-        ensures done { IfOk result (IsDeclared self node) }
-        ensures stop { IfErr result (Stops (DeclaresNode self node)) }
-        ensures sound { IfOk result IsDraft }
+    pub fn declare(&mut self, alloc: Global, node: NodeLine) -> Result<(), LineStop>
+        requires sound { IsDraft self.old }
+        requires line { IsLine self.old.times.ranges node }
+        ensures done { OnOk result (IsDeclared self.old node self.new) }
+        ensures stop { IfErr result (Stops (DeclaresNode self.old node)) }
+        ensures sound { OnOk result (IsDraft self.new) }
     {
         self.check(&node.name)?;
-        Ok(self.with(node)?)
+        Ok(self.push(alloc, node)?)
     }
 
     /// Whether the times of nodes can still be said: no node is declared, and nothing was said of them.
@@ -218,20 +211,20 @@ impl Draft {
 
     /// The times of nodes are a standard's, of which the delay of a cable is so many nanoseconds, at
     /// least one.
-    pub fn say_times(self, standard: Standard, nanoseconds: u32) -> Result<Draft, LineStop>
-        requires sound { IsDraft self }
+    pub fn say_times(&mut self, standard: Standard, nanoseconds: u32) -> Result<(), LineStop>
+        requires sound { IsDraft self.old }
         requires some { 1 ≤ nanoseconds }
-        ensures done { IfOk result (λ after. SaysTimes (Some (draft_now self)) standard nanoseconds
-            (Ok (declaring (draft_now after), []))) }
+        ensures done { OnOk result (SaysTimes (Some (draft_now self.old)) standard nanoseconds
+            (Ok (declaring (draft_now self.new), []))) }
         ensures stop { IfErr result
-            (Stops (SaysTimes (Some (draft_now self)) standard nanoseconds)) }
-        ensures sound { IfOk result IsDraft }
+            (Stops (SaysTimes (Some (draft_now self.old)) standard nanoseconds)) }
+        ensures sound { OnOk result (IsDraft self.new) }
     {
         if !self.takes_times() {
             return Err(LineStop::Fault(Kind::Late));
         }
-        let times = ScriptTimes::of_standard(standard, self.delay, nanoseconds)?;
-        Ok(Draft { times, ..self })
+        self.times = ScriptTimes::of_standard(standard, self.delay, nanoseconds)?;
+        Ok(())
     }
 
     /// The bus of these nodes, without cables.

@@ -2,7 +2,7 @@
 ghost use Rattle.std.specs.Prelude.{◌≡◌, ◌≤◌, ◌<◌, ◌∷◌, ◌++◌, [], ℕ, List, Some, None, Ok, Err, IfOk, IfErr, OnOk, length};
 ghost use Rattle.script_lines.specs.Range.{IsInRange};
 ghost use Rattle.script_told.specs.Script.{Declares, Delays, SaysTimes, Follows, Runs, bus_of, draft_of, ranges_of};
-ghost use Rattle.script_bus.specs.Running.{Stops};
+ghost use Rattle.script_bus.specs.Running.{IfFault, Stops};
 ghost use Rattle.script_run.specs.codings.Declaring.{IsDraft, IsLine, draft_now, node_said};
 ghost use Rattle.script_run.specs.codings.Going.{HearsAt};
 ghost use Rattle.script_lines.specs.declared.command.Command.TheVariants as command;
@@ -44,16 +44,15 @@ impl Stage {
     }
 
     /// What is declared so far, where declarations are taken.
-    fn draft(self, alloc: Global) -> Result<Draft, LineStop>
-        ensures value { IfOk result (λ draft. draft_of self ≡ Some (draft_now draft)) }
-        ensures sound { IfOk result IsDraft }
-        ensures ranges { IfOk result (λ draft. draft.times.ranges ≡ ranges_of self) }
-        ensures late { IfErr result (λ stop. (stop ≡ LineStop.Fault Kind.Late)
-            × (draft_of self ≡ None)) }
+    fn draft(self, alloc: Global) -> Result<Box<Draft>, LineStop>
+        ensures value { IfOk result (λ draft. draft_of self ≡ Some (draft_now draft.value)) }
+        ensures sound { IfOk result (λ draft. IsDraft draft.value) }
+        ensures ranges { IfOk result (λ draft. draft.value.times.ranges ≡ ranges_of self) }
+        ensures late { IfErr result (IfFault (λ kind. (kind ≡ Kind.Late) × (draft_of self ≡ None))) }
     {
         match self.phase {
-            Phase::Fresh => Ok(Draft::new(alloc, USUAL_DELAY)),
-            Phase::Declaring(draft) => Ok(Box::into_inner(draft)),
+            Phase::Fresh => Ok(Box::new(alloc, Draft::new(alloc, USUAL_DELAY))?),
+            Phase::Declaring(draft) => Ok(draft),
             Phase::Running(_) => Err(LineStop::Fault(Kind::Late)),
         }
     }
@@ -66,9 +65,9 @@ impl Stage {
         ensures stop { IfErr result
             (Stops (Declares (draft_of self.old) line.name (node_said line))) }
     {
-        let stage = mem::replace(self, Stage::new());
-        let draft = stage.draft(alloc)?.declare(line)?;
-        self.phase = Phase::Declaring(Box::new(alloc, draft)?);
+        let mut draft = mem::replace(self, Stage::new()).draft(alloc)?;
+        draft.declare(alloc, line)?;
+        self.phase = Phase::Declaring(draft);
         Ok(Vec::new(alloc))
     }
 
@@ -76,11 +75,10 @@ impl Stage {
     fn run<L: Listener>(
         &mut self,
         alloc: Global,
-        times: TimeRanges,
         command: &Command,
         listener: &mut L,
     ) -> Result<Vec<u8>, LineStop>
-        requires range { IsInRange times command.now }
+        requires { IsInRange (ranges_of self.old) command.now }
         ensures done { IfOk result (λ text.
             Runs self.old command.now (Ok (self.new, text.items))) }
         ensures heard { OnOk result (HearsAt L.voice self.old command.now self.new
@@ -88,7 +86,7 @@ impl Stage {
         ensures stop { IfErr result (Stops (Runs self.old command.now)) }
     {
         let bus = mem::replace(self, Stage::new()).bus(alloc)?;
-        let (bus, text) = bus.command(alloc, times, command, listener)?;
+        let (bus, text) = bus.command(alloc, command, listener)?;
         self.phase = Phase::Running(bus);
         Ok(text)
     }
@@ -137,9 +135,9 @@ impl Stage {
             (Ok (self.new, text.items))) }
         ensures stop { IfErr result (Stops (SaysTimes (draft_of self.old) standard nanoseconds)) }
     {
-        let stage = mem::replace(self, Stage::new());
-        let draft = stage.draft(alloc)?.say_times(standard, nanoseconds)?;
-        self.phase = Phase::Declaring(Box::new(alloc, draft)?);
+        let mut draft = mem::replace(self, Stage::new()).draft(alloc)?;
+        draft.say_times(standard, nanoseconds)?;
+        self.phase = Phase::Declaring(draft);
         Ok(Vec::new(alloc))
     }
 
@@ -148,12 +146,10 @@ impl Stage {
     pub fn follow<L: Listener>(
         &mut self,
         alloc: Global,
-        times: TimeRanges,
         command: Command,
         listener: &mut L,
     ) -> Result<Vec<u8>, LineStop>
-        requires times { times ≡ ranges_of self.old }
-        requires range { IsInRange times command }
+        requires { IsInRange (ranges_of self.old) command }
         ensures done { IfOk result (λ text. Follows self.old command (Ok (self.new, text.items))) }
         ensures heard { OnOk result (HearsAt L.voice self.old command self.new
             (L.written listener.old) (L.written listener.new)) }
@@ -206,7 +202,7 @@ impl Stage {
                 standard,
                 nanoseconds,
             } => self.say_times(alloc, standard, nanoseconds),
-            _ => self.run(alloc, times, &command, listener),
+            _ => self.run(alloc, &command, listener),
         }
     }
 }

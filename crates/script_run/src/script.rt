@@ -1,5 +1,5 @@
 //! A whole script.
-ghost use Rattle.std.specs.Prelude.{◌≡◌, ◌≤◌, ◌<◌, ◌+◌, ◌∷◌, [], Ok, IfOk, IfErr, length};
+ghost use Rattle.std.specs.Prelude.{◌≡◌, ◌≤◌, ◌<◌, ◌+◌, ◌∷◌, ◌++◌, [], Ok, IfOk, IfErr, length};
 ghost use Rattle.script_told.specs.Script.{Told, script_lines};
 ghost use Rattle.script_told.specs.Run.{IsTold};
 ghost use Rattle.script_run.specs.Answered.{IsRefused, IsOnlyFault};
@@ -11,6 +11,7 @@ use script_lines::{LineStop, ScriptFault, ScriptStop};
 use script_text::first_feed;
 use script_told::scripts_tell_one_thing;
 use std::alloc::Global;
+use topology_stack::OutOfMemory;
 
 /// The first line of what is left of a script, without its line feed, and what stands behind it.
 pub(crate) fn cut_line(rest: &[u8]) -> (&[u8], &[u8])
@@ -78,6 +79,17 @@ pub(crate) fn take_lines<L: Listener>(
     })
 }
 
+/// A text, and a report behind it.
+fn with_report(mut text: Vec<u8>, report: Vec<u8>) -> Result<Vec<u8>, OutOfMemory>
+    ensures { IfOk result (λ whole. whole.items ≡ text.items ++ report.items) }
+{
+    if text.is_empty() {
+        return Ok(report);
+    }
+    text.extend_from_slice(report.as_slice())?;
+    Ok(text)
+}
+
 /// The text of a script, of 1,048,576 bytes at most: what its lines print, in order, and the report
 /// of the `settle` that stands behind its last line.
 ///
@@ -96,11 +108,10 @@ pub fn run_script(alloc: Global, bytes: &[u8]) -> Result<Vec<u8>, ScriptStop>
     let Taken {
         stage,
         number,
-        mut text,
+        text,
     } = take_lines(alloc, bytes, &mut Silent)?;
     match stage.last_report(alloc, &mut Silent) {
-        Ok(report) => text.extend_from_slice(report.as_slice())?,
-        Err(stop) => return Err(at_line(number, stop)),
+        Ok(report) => Ok(with_report(text, report)?),
+        Err(stop) => Err(at_line(number, stop)),
     }
-    Ok(text)
 }

@@ -11,12 +11,11 @@ ghost use Rattle.script_run.specs.codings.Going.{LineLeads, LineFails};
 ghost use Rattle.script_run.specs.codings.Listing.{ListsAt, ListFails};
 ghost use Rattle.script_run.specs.Viewed.{prints_report};
 ghost use Rattle.script_run.specs.codings.Viewing.{CommandShows, LineShows};
-ghost use Rattle.script_bus.specs.Viewed.{IsLineOf};
+ghost use Rattle.script_bus.specs.Viewed.{IsReadLineOf};
 ghost use Rattle.script_lines.specs.Range.{IsInRange};
 ghost use Rattle.script_advice.specs.Advising.{IsAdvised};
 
 use crate::draft::Draft;
-use port_state::TimeRanges;
 use script_bus::{Bus, Listener, Silent};
 use script_lines::{Command, LineStop, parse_line_with, says_nothing, turn_line};
 use std::alloc::Global;
@@ -105,11 +104,10 @@ impl Stage {
             × (out.new.items ≡ out.old.items ++ text)) }
         ensures stop { IfErr result (IfFault (LineFails self.old line.now)) }
     {
-        let times = self.ranges();
-        let Some(command) = parse_line_with(alloc, line, times)? else {
+        let Some(command) = parse_line_with(alloc, line, self.ranges())? else {
             return Ok(());
         };
-        let text = self.follow(alloc, times, command, listener)?;
+        let text = self.follow(alloc, command, listener)?;
         out.extend_from_slice(text.as_slice())?;
         Ok(())
     }
@@ -144,7 +142,7 @@ impl Stage {
 
     /// Appends the line of the last report, where the bus runs and has one.
     fn put_line(&self, alloc: Global, out: &mut Vec<u8>) -> Result<(), OutOfMemory>
-        ensures { OnOk result ((line : List ℕ) × IsLineOf (bus_of self.now) line
+        ensures { OnOk result ((line : List ℕ) × IsReadLineOf (bus_of self.now) line
             × (out.new.items ≡ out.old.items ++ line)) }
     {
         if let Phase::Running(bus) = &self.phase {
@@ -158,18 +156,16 @@ impl Stage {
     fn show_command(
         &mut self,
         alloc: Global,
-        times: TimeRanges,
         command: Command,
         out: &mut Vec<u8>,
     ) -> Result<(), LineStop>
-        requires times { times ≡ ranges_of self.old }
-        requires range { IsInRange times command }
+        requires { IsInRange (ranges_of self.old) command }
         ensures done { OnOk result (CommandShows self.old command self.new out.old.items
             out.new.items) }
         ensures stop { IfErr result (Stops (Follows self.old command)) }
     {
         let prints = prints_report(&command);
-        let _text = self.follow(alloc, times, command, &mut Silent)?;
+        let _text = self.follow(alloc, command, &mut Silent)?;
         if prints {
             self.put_line(alloc, out)?;
         }
@@ -182,11 +178,10 @@ impl Stage {
             out.new.items) }
         ensures stop { IfErr result (IfFault (LineFails self.old line.now)) }
     {
-        let times = self.ranges();
-        let Some(command) = parse_line_with(alloc, line, times)? else {
+        let Some(command) = parse_line_with(alloc, line, self.ranges())? else {
             return Ok(());
         };
-        self.show_command(alloc, times, command, out)
+        self.show_command(alloc, command, out)
     }
 
     /// The bus after the `settle` behind the last line.

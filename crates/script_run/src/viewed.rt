@@ -3,7 +3,7 @@ ghost use Rattle.std.specs.Prelude.{◌≡◌, ◌≤◌, ◌+◌, [], Ok, IfOk,
 ghost use Rattle.script_told.specs.Script.{Told, script_lines};
 ghost use Rattle.script_bus.specs.Running.{IfFault};
 ghost use Rattle.script_run.specs.Answered.{IsRefused, IsOnlyFault};
-ghost use Rattle.script_run.specs.Viewed.{IsPictured, AreReported};
+ghost use Rattle.script_run.specs.Viewed.{IsPictured, AreReported, AreReadBack};
 ghost use Rattle.script_run.specs.codings.Going.{LineFails};
 ghost use Rattle.script_run.specs.codings.Viewing.{LineShows, HaveShown};
 
@@ -89,7 +89,7 @@ fn show_lines(alloc: Global, bytes: &[u8]) -> Result<Shown, ScriptStop>
 /// The lines of the reports of a script.
 fn lines_of(alloc: Global, bytes: &[u8]) -> Result<Vec<u8>, ScriptStop>
     requires { length bytes.now ≤ 1048576 }
-    ensures reported { IfOk result (λ text. AreReported bytes.now (Ok text.items)) }
+    ensures lines { IfOk result (λ text. AreReadBack bytes.now text.items) }
     ensures refused { IfErr result (IsRefused bytes.now) }
 {
     let Shown {
@@ -107,12 +107,13 @@ fn lines_of(alloc: Global, bytes: &[u8]) -> Result<Vec<u8>, ScriptStop>
 }
 
 /// The reports of a script as JSON, of 1,048,576 bytes at most: a line for each that `run_script` prints,
-/// as `report_line` has it.
+/// as `report_line` has it, which is read back as the value of its report.
 ///
 /// The faults are those of `run_script`.
 pub fn json_script(alloc: Global, bytes: &[u8]) -> Result<Vec<u8>, ScriptStop>
     requires { length bytes.now ≤ 1048576 }
     ensures reported { IfOk result (λ text. AreReported bytes.now (Ok text.items)) }
+    ensures reads_back { IfOk result (λ text. AreReadBack bytes.now text.items) }
     ensures refused { IfErr result (IsRefused bytes.now) }
     ensures only { IfOk result (λ text. (told : Told) → AreReported bytes.now told
         → told ≡ Ok text.items) }

@@ -10,13 +10,19 @@ use Rattle.settle_plan.specs.Planned.{SuitsTree}
 use Rattle.script_lines.specs.declared.command.Command.{Command}
 use Rattle.script_told.specs.Bus.{Bus, Reported, tree_with, values_at}
 use Rattle.script_told.specs.Step.{LineAnswer, Acts, Does}
+use Rattle.script_trace.specs.Voice.{Voice, legend_of}
+use Rattle.script_trace.specs.Trace.{act_trace, Traces}
 use Rattle.script_bus.specs.Running.{IsAsked}
 use Rattle.script_bus.specs.codings.Standing.{IsPlanned}
 
--- a command says this act: what comes of the act comes of the command
+-- a command says this act: what comes of the act comes of the command, and what it does is told
 pub record IsActOf (bus : Bus) (command : Command) (a : Act) : Type 0 where
   pub is : IsAct a
   pub comes : (answer : LineAnswer) → Acts bus a answer → Does bus command answer
+  pub told :
+      (voice : Voice) (after : Bus) →
+      Traces voice bus command after
+      (act_trace voice (legend_of after.notes) command bus.world after.world)
 
 -- the node with a name is the bus manager of its tree, the quiet turns are within the limit, and
 -- this is the plan for the tree, and its line

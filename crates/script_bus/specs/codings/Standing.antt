@@ -56,17 +56,7 @@ pub record IsSent (bus : Bus) (node : NodeNumber) (plan : RootPlan) (after : Bus
 
 -- ---- what is heard of a command
 
-abbrev pub IsActCommand : Command → Type 0
-IsActCommand (Plug a a_port b b_port) = Unit {0}
-IsActCommand (Pull name port) = Unit {0}
-IsActCommand (Reset name) = Unit {0}
-IsActCommand (Config name root_id gap) = Unit {0}
-IsActCommand command = ⊥
-
-abbrev pub IsHoldCommand : Command → Type 0
-IsHoldCommand (Hold name port turns) = Unit {0}
-IsHoldCommand command = ⊥
-
+-- the commands in which nothing happens
 abbrev pub IsQuestion : Command → Type 0
 IsQuestion (Plug a a_port b b_port) = ⊥
 IsQuestion (Pull name port) = ⊥

@@ -4,7 +4,7 @@ use Rattle.script_lines.specs.declared.command.Command.{Command}
 use Rattle.script_lines.specs.Line.{Reads}
 use Rattle.script_told.specs.Script.{Stage, ranges_of, Follows}
 use Rattle.script_told.specs.Run.{Entry}
-use Rattle.script_run.specs.Viewed.{IsLineAfter, AreLines}
+use Rattle.script_run.specs.Viewed.{IsReadAfter, AreReadLines}
 use Rattle.script_run.specs.codings.Going.{Went}
 
 -- a command led from a stage to the next, and the line of the report that it printed was added
@@ -13,7 +13,7 @@ pub record CommandShows (stage : Stage) (command : Command) (next : Stage) (out 
   pub text : List ℕ
   pub follows : Follows stage command (Ok (next, text))
   pub added : List ℕ
-  pub shown : IsLineAfter command next added
+  pub shown : IsReadAfter command next added
   pub written : new ≡ out ++ added
 
 -- a line leads from a stage to the next, and what it shows was added
@@ -28,4 +28,4 @@ pub record HaveShown
     (bytes new : List ℕ) (number : ℕ) (lines : List (List ℕ)) (stage : Stage) : Type 0 where
   pub entries : List Entry
   pub went : Went bytes entries number lines stage
-  pub shown : AreLines entries new
+  pub shown : AreReadLines entries new

@@ -15,13 +15,13 @@ returns-in-Err-clause-exact c =
     (λ one other. c.scripts_tell_one_thing.ensures.told c.args.bytes.now one other)
     (returns-in-Err-clause-refused c)
 
-pub returns-clause-told : goal.returns-clause-told
-returns-clause-told c =
+pub returns-in_ok-with_report-in-Ok-clause-told : goal.returns-in_ok-with_report-in-Ok-clause-told
+returns-in_ok-with_report-in-Ok-clause-told c =
     let taken = c.in_ok-stage.field-0 in
     let done = c.in-Ok.ensures.done in
-    subst (λ (l : List ℕ). IsTold c.args.bytes.now (Ok l)) (sym (c.in_ok-extend_from_slice-in-Ok.ensures.items ∙ ap (λ (l : List ℕ). taken.text.items ++ l) c.as_slice.ensures.value))
+    subst (λ (l : List ℕ). IsTold c.args.bytes.now (Ok l)) (sym c.in_ok-with_report-in-Ok.ensures)
     (script-ends _ c.args.bytes.now taken.text.items c.in-Ok.report.items _ _ taken.number taken.stage done.0 c.in_ok-stage.ensures.lines done.1)
 
-pub returns-clause-only : goal.returns-clause-only
-returns-clause-only c = λ told is.
-    c.scripts_tell_one_thing.ensures.told c.args.bytes.now told _ is (returns-clause-told c)
+pub returns-in_ok-with_report-in-Ok-clause-only : goal.returns-in_ok-with_report-in-Ok-clause-only
+returns-in_ok-with_report-in-Ok-clause-only c = λ told is.
+    c.scripts_tell_one_thing.ensures.told c.args.bytes.now told _ is (returns-in_ok-with_report-in-Ok-clause-told c)

@@ -1,4 +1,4 @@
-use Rattle.std.proofs.Common.{sym, subst}
+use Rattle.std.proofs.Common.{refl, sym, subst}
 use Rattle.cable_world.specs.Act.{IsAct}
 use Rattle.cable_world.specs.declared.act.Act.{Act}
 use Rattle.script_told.specs.Step.{Acts, Settled, config_of}
@@ -16,4 +16,5 @@ returns-clause-is c =
       comes = λ r h. named bus c.args.name.now from (λ node. Settled bus node (λ tree. Acts bus (config_of node root_id gap))) r c.in_ok-from.ensures.value
           (settled bus from _ (λ tree. Acts bus (config_of from root_id gap)) r c.in_ok-tree.ensures.found
           (subst (λ (a : Act). Acts bus a r) c.config_of.ensures h));
+      told = λ voice after. refl;
     }

@@ -6,7 +6,7 @@ use Rattle.cable_world.proofs.Lemmas.{lawful-now}
 use Rattle.settle.specs.Report.{quiet_turns_of}
 use Rattle.script_told.specs.Bus.{Bus}
 use Rattle.script_told.proofs.Lemmas.{some-quiet}
-use Rattle.script_trace.specs.Voice.{legend_of}
+use Rattle.script_trace.specs.Voice.{legend_of, turns_told}
 use Rattle.script_bus.proofs.Hearing.{reports-now}
 use Rattle.script_bus.proofs.bus.Bus.pass.Goals as goal
 
@@ -41,4 +41,4 @@ pub returns-clause-heard : goal.returns-clause-heard
 returns-clause-heard g c =
     let w = c.args.self.world in
     c.in_ok-bus.ensures.heard
-    ∙ ap (λ (n : ℕ). g.L.Listener.written c.args.listener.now ++ g.L.Listener.voice.turns (legend_of c.args.self.notes) n w) c.quiet_turns-quiet.ensures
+    ∙ ap (λ (n : ℕ). g.L.Listener.written c.args.listener.now ++ turns_told g.L.Listener.voice (legend_of c.args.self.notes) n w) c.quiet_turns-quiet.ensures

@@ -1,4 +1,4 @@
-use Rattle.std.proofs.Common.{subst}
+use Rattle.std.proofs.Common.{refl, subst}
 use Rattle.cabling.specs.declared.cable.End.{End}
 use Rattle.cable_world.specs.declared.act.Act.TheVariants as act
 use Rattle.script_told.specs.Step.{Acts, end_of}
@@ -12,4 +12,5 @@ returns-clause-is c =
       is = tt;
       comes = λ r h. named bus c.args.name.now c.in_ok-node.node (λ node. Acts bus (act.Pull (end_of node c.args.port))) r c.in_ok-node.ensures.value
           (subst (λ (e : End). Acts bus (act.Pull e) r) c.end_of.ensures h);
+      told = λ voice after. refl;
     }

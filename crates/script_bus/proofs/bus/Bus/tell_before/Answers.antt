@@ -1,12 +1,13 @@
 use Rattle.std.proofs.Common.{◌++◌, ◌∙◌, ℕ, ap}
 use Rattle.cable_world.specs.World.{CableWorld}
+use Rattle.script_trace.specs.News.{picked}
 use Rattle.script_trace.specs.Step.{seen_before_act}
 use Rattle.script_bus.proofs.bus.Bus.tell_before.Goals as goal
 
-pub returns-clause-alike : goal.returns-clause-alike
-returns-clause-alike g c = λ legend w.
-    c.in_ok-seen.ensures legend w
-    ∙ ap (λ (z : CableWorld). g.L.Listener.voice.since legend (seen_before_act z 0 z.nodes) w) c.world.ensures.is
+pub returns-clause-seen : goal.returns-clause-seen
+returns-clause-seen g c = λ looks.
+    c.in_ok-seen.ensures looks
+    ∙ ap (λ (z : CableWorld). picked c.args.touched 0 (seen_before_act z 0 z.nodes)) c.world.ensures.is
 
 pub returns-clause-written : goal.returns-clause-written
 returns-clause-written g c =

@@ -13,14 +13,14 @@ nothing n h = grind (arith, nat_tests)
 pub returns-clause-sound : goal.returns-clause-sound
 returns-clause-sound c =
     let old = c.requires.sound in
-    let self = c.args.self in
+    let self = c.args.self.now in
     let may : takes_times (draft_now self) ≡ true = sym c.takes_times.ensures ∙ c.if-not-takes_times.false in
     let new = and_parts (length self.names == 0) (not (is_some self.times.nanoseconds)) may in
     let none : length self.names ≡ 0 = nothing (length self.names) new.0 in
     record {
       some_delay = old.some_delay;
       short_delay = old.short_delay;
-      ranges = standard-fits c.args.standard self.delay c.args.nanoseconds c.in_ok-times.times c.requires.some (sym c.in_ok-times.ensures);
+      ranges = standard-fits c.args.standard self.delay c.args.nanoseconds c.in_ok-self.field-0 c.requires.some (sym c.in_ok-self.ensures);
       few = old.few;
       named = old.named;
       nodes = λ i m inside. absurd (omega (arith, inside, old.named, none));

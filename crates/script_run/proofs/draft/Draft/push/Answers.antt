@@ -1,21 +1,24 @@
-use Rattle.std.proofs.Common.{◌≡◌, ◌+◌, ◌∷◌, [], All, length, length-append, arith, sym, subst, ap, ◌∙◌}
+use Rattle.std.proofs.Common.{◌≡◌, ◌+◌, ◌∷◌, ◌++◌, [], All, length, length-append, arith, sym, subst, ap, ◌∙◌}
 use Rattle.std.proofs.lemmas.List.Elements.{All-append, All-cons, All-nil}
 use Rattle.phy_machine.specs.declared.any.AnyMachine.{AnyMachine}
 use Rattle.phy_machine.specs.Any.{any_node}
+use Rattle.script_text.specs.ReportText.{Names}
 use Rattle.script_told.specs.Fitting.{IsFitting}
-use Rattle.script_run.proofs.draft.Draft.with.Goals as goal
+use Rattle.script_run.proofs.draft.Draft.push.Goals as goal
 
 pub returns-clause-sound : goal.returns-clause-sound
 returns-clause-sound c =
     let old = c.requires.sound in
-    let machines = c.args.self.machines.items in
+    let draft = c.args.self.now in
+    let machines = draft.machines.items in
     let one = c.powered_on.result ∷ [] in
     let e = c.in_ok-push.ensures.items in
-    let On : AnyMachine → Type 0 = λ m. IsFitting c.args.self.delay c.args.self.times.ranges (any_node m) in
+    let On : AnyMachine → Type 0 = λ m. IsFitting draft.delay draft.times.ranges (any_node m) in
     let longer : length c.push.new.self.items ≡ length machines + 1 =
     ap length e ∙ length-append machines one in
-    let more : length c.in_ok-with.field-0 ≡ length c.args.self.names + 1 =
-    ap length c.in_ok-with.ensures ∙ length-append c.args.self.names (c.args.node.name ∷ []) in
+    let more : length c.in_ok-self.field-0 ≡ length draft.names + 1 =
+    ap length (c.in_ok-self.ensures ∙ ap (λ (names : Names). names ++ c.args.node.name ∷ []) c.replace-names.ensures.value)
+    ∙ length-append draft.names (c.args.node.name ∷ []) in
     record {
       some_delay = old.some_delay;
       short_delay = old.short_delay;
@@ -23,5 +26,5 @@ returns-clause-sound c =
       few = omega (arith, longer, c.requires.few);
       named = omega (arith, longer, more, old.named);
       nodes = subst (All On) (sym e) (All-append On machines one old.nodes
-          (All-cons On c.powered_on.result [] (c.powered_on.ensures.power_on c.args.self.delay old.ranges) (All-nil On)));
+          (All-cons On c.powered_on.result [] (c.powered_on.ensures.power_on draft.delay old.ranges) (All-nil On)));
     }
