@@ -5,7 +5,7 @@ use Rattle.std.specs.List.{position_or_len}
 use Rattle.std.proofs.lemmas.Bool.Decides.{nat_tests}
 use Rattle.reset_log.specs.Number.{number_of}
 use Rattle.reset_log.specs.Lists.{is_comma, before, bare, behind_all, numbers_of, between_commas}
-use Rattle.reset_log.proofs.Parts.{cut, uncut}
+use Rattle.line_words.proofs.Lemmas.{cut, uncut}
 
 pub commas_of_cut : (text : List ℕ) (end : ℕ) → position is_comma text ≡ Some end
     → between_commas text ≡ before (number_of (bare (take end text))) (between_commas (drop (end + 1) text))

@@ -21,7 +21,7 @@ use Rattle.reset_log.specs.declared.hear.ListFault.{ListFault}
 use Rattle.reset_log.specs.Device.{device_text}
 use Rattle.reset_log.specs.Noted.{Noted, since, missing, most_of}
 use Rattle.reset_log.specs.Texts.{place, kind, known_counts}
-use Rattle.reset_log.specs.Json.{IsJsonLine, list_fault, IsListTold, told_refused, told_heard, card_value, name_members, micros_member, head_members, reset_value, most_members, totals_value}
+use Rattle.reset_log.specs.Json.{IsJsonLine, list_fault, IsListTold, told_refused, told_heard, card_value, name_members, known_member, head_members, reset_value, most_members, totals_value}
 
 -- what was written as the tokens of a value is a line of it
 pub json_line_of : (v : Json) (out : List Token) (line : List ℕ) → out ≡ json_tokens v → tokens (print out) ≡ out →
@@ -42,17 +42,18 @@ card_shallow card = go (nat_lt card 4294967296)
 pub name_shallow : (n : ℕ) (r : Reset) (rest : Members) → members_depth (name_members n r rest) ≤ members_depth rest
 name_shallow n r rest = omega (arith, card_shallow r.card)
 
-micros_shallow : (name : List ℕ) (micros : Option ℕ) (rest : Members) →
-    members_depth (micros_member name micros rest) ≤ members_depth rest
-micros_shallow name None rest = omega arith
-micros_shallow name (Some micros) rest = omega arith
+known_shallow : (name : List ℕ) (value : Option ℕ) (rest : Members) →
+    members_depth (known_member name value rest) ≤ members_depth rest
+known_shallow name None rest = omega arith
+known_shallow name (Some n) rest = omega arith
 
 pub head_shallow : (n : ℕ) (before : Option Known) (r : Reset) (rest : Members) →
     members_depth (head_members n before r rest) ≤ members_depth rest
 head_shallow n before r rest =
-    let last = member (codes "missing") (numeral (missing before r)) rest in
-    let after = micros_member (codes "after") (since before r) last in
-    omega (arith, name_shallow n r (micros_member (codes "time") r.time after), micros_shallow (codes "time") r.time after, micros_shallow (codes "after") (since before r) last)
+    let local = known_member (codes "local") r.local rest in
+    let last = member (codes "missing") (numeral (missing before r)) local in
+    let after = known_member (codes "after") (since before r) last in
+    omega (arith, name_shallow n r (known_member (codes "time") r.time after), known_shallow (codes "time") r.time after, known_shallow (codes "after") (since before r) last, known_shallow (codes "local") r.local rest)
 
 fault_shallow : (pair : ℕ) (word : List ℕ) (known : Option Counts) →
     members_depth (refused_members (fault_members pair word known)) ≤ 1

@@ -25,14 +25,16 @@ use Rattle.reset_log.specs.declared.hear.ListFault.{ListFault}
 use Rattle.reset_log.specs.declared.hear.ListFault.TheVariants.{Cut, BadInverse, OfTree}
 use Rattle.reset_log.specs.Noted.{Noted, nothing, is_repeated, last_of, compared, after, behind_loss, waiting, begun_at, with_packet, taken_by}
 use Rattle.reset_log.specs.declared.cards.Known.{Known}
-use Rattle.reset_log.specs.Number.{are_digits, of_digits, value, number_of}
+use Rattle.line_words.specs.Digits.{of_digits}
+use Rattle.line_words.proofs.Lemmas.{small_digits}
+use Rattle.reset_log.specs.Number.{number_of}
 use Rattle.reset_log.specs.Lists.{is_comma, before, numbers_of, between_commas, between_blanks, unclosed, within, spaced, list_in, bare}
 use Rattle.reset_log.specs.Words.{behind, to_field, words_of, value_of}
 use Rattle.reset_log.specs.Line.{named, is_lost, said_or, list_field, reset_of, event, of_words, line_of}
 use Rattle.reset_log.specs.Said.{said, is_driver}
 use Rattle.reset_log.specs.Device.{device_of}
 use Rattle.reset_log.specs.Time.{or_time, bracket_time}
-use Rattle.reset_log.specs.Listing.{before_comma, digits_in, is_of_packet, is_of_reset, begins, packet, listed, listing}
+use Rattle.reset_log.specs.Listing.{before_comma, digits_in, is_of_packet, is_of_reset, local_in, begins, packet, listed, listing}
 use Rattle.reset_log.specs.declared.line.Begun.{Begun}
 use Rattle.reset_log.specs.declared.notes.Pending.{Pending}
 use Rattle.reset_log.specs.Hear.{IsHeard, IsUnheard}
@@ -55,22 +57,6 @@ fit_at [] i f lt = absurd (omega (arith, lt))
 fit_at (q ∷ quads) zero f lt = f.0
 fit_at (q ∷ quads) (suc i) f lt = fit_at quads i f.1 (omega (arith, lt))
 
-picked : (a b c d : Bool) (v n : ℕ) →
-    (if a && b && (c && d) then Some v else None) ≡ Some n → (d ≡ true) × (v ≡ n)
-picked false b c d v n e = absurd cc
-picked true false c d v n e = absurd cc
-picked true true false d v n e = absurd cc
-picked true true true false v n e = absurd cc
-picked true true true true v n e = (refl, cc)
-
-digits_fit : (base most : ℕ) (digits : List ℕ) (n : ℕ) → of_digits base most digits ≡ Some n →
-    n < 2 ^ 32
-unfolding of_digits
-digits_fit base most digits n e =
-    let p = picked (nat_lt 0 (length digits)) (nat_le (length digits) most) (are_digits base digits) (nat_lt (value base digits) (2 ^ 32)) (value base digits) n e in
-    let small : value base digits < 2 ^ 32 = grind (arith, nat_tests, p.0) in
-    omega (arith, small, p.1)
-
 either : (t : Bool) (x y : Option ℕ) (n : ℕ) → (x ≡ Some n → n < 2 ^ 32) →
     (y ≡ Some n → n < 2 ^ 32) → (if t then x else y) ≡ Some n → n < 2 ^ 32
 either true x y n f g e = f e
@@ -78,7 +64,7 @@ either false x y n f g e = g e
 
 number_fits : (word : List ℕ) (n : ℕ) → number_of word ≡ Some n → n < 2 ^ 32
 unfolding number_of
-number_fits word n e = either _ _ _ n (digits_fit 16 8 _ n) (digits_fit 10 10 word n) e
+number_fits word n e = either _ _ _ n (small_digits 16 8 n _) (small_digits 10 10 n word) e
 
 numbers_fit : (words : List (List ℕ)) (ns : List ℕ) → numbers_of words ≡ Some ns → Fit ns
 numbers_fit [] ns e = let same : [] ≡ ns = cc in subst Fit same tt
@@ -110,27 +96,27 @@ field_fits : (value : Option (List ℕ × List (List ℕ))) (ns : List ℕ) → 
 field_fits None ns e = absurd cc
 field_fits (Some value) ns e = list_fits value.0 (to_field value.1) (behind (codes "{") value.0) ns e
 
-list_is : (origin : Origin) (time card generation : Option ℕ) (bad : Option Bool) (list : Option (List ℕ)) (r : Reset) →
-    reset_of origin time card generation bad list ≡ OfReset r → list ≡ Some r.list
-list_is origin time None generation bad list r e = absurd cc
-list_is origin time (Some c) None bad list r e = absurd cc
-list_is origin time (Some c) (Some g) None list r e = absurd cc
-list_is origin time (Some c) (Some g) (Some b) None r e = absurd cc
-list_is origin time (Some c) (Some g) (Some b) (Some l) r e =
-    let same : record { origin = origin; time = time; card = c; generation = g; is_error = b; list = l } ≡ r = cc in
+list_is : (origin : Origin) (time local card generation : Option ℕ) (bad : Option Bool) (list : Option (List ℕ)) (r : Reset) →
+    reset_of origin time local card generation bad list ≡ OfReset r → list ≡ Some r.list
+list_is origin time local None generation bad list r e = absurd cc
+list_is origin time local (Some c) None bad list r e = absurd cc
+list_is origin time local (Some c) (Some g) None list r e = absurd cc
+list_is origin time local (Some c) (Some g) (Some b) None r e = absurd cc
+list_is origin time local (Some c) (Some g) (Some b) (Some l) r e =
+    let same : record { origin = origin; time = time; card = c; generation = g; local = local; is_error = b; list = l } ≡ r = cc in
     ap (λ (x : Reset). Some x.list) same
 
 event_fits : (origin : Origin) (time : Option ℕ) (words : List (List ℕ)) (r : Reset) → event origin time words ≡ OfReset r →
     Fit r.list
-event_fits Controller time words r e = field_fits (value_of (codes "packet_data=") words) r.list (list_is Controller time _ _ _ _ r e)
-event_fits Core time words r e = field_fits (value_of (codes "self_ids=") words) r.list (list_is Core time _ _ _ _ r e)
+event_fits Controller time words r e = field_fits (value_of (codes "packet_data=") words) r.list (list_is Controller time _ _ _ _ _ r e)
+event_fits Core time words r e = field_fits (value_of (codes "self_ids=") words) r.list (list_is Core time _ _ _ _ _ r e)
 
 -- no line of the driver's own is a reset
-begins_apart : (time a b c : Option ℕ) (r : Reset) → begins time a b c ≡ OfReset r → ⊥
-begins_apart time None b c r e = absurd cc
-begins_apart time (Some x) None c r e = absurd cc
-begins_apart time (Some x) (Some y) None r e = absurd cc
-begins_apart time (Some x) (Some y) (Some z) r e = absurd cc
+begins_apart : (time n a b c : Option ℕ) (r : Reset) → begins time n a b c ≡ OfReset r → ⊥
+begins_apart time n None b c r e = absurd cc
+begins_apart time n (Some x) None c r e = absurd cc
+begins_apart time n (Some x) (Some y) None r e = absurd cc
+begins_apart time n (Some x) (Some y) (Some z) r e = absurd cc
 
 packet_apart : (a b : Option ℕ) (r : Reset) → packet a b ≡ OfReset r → ⊥
 packet_apart None b r e = absurd cc
@@ -150,8 +136,8 @@ listed_apart time (v ∷ a ∷ []) r e = absurd cc
 listed_apart time (v ∷ a ∷ b ∷ []) r e = absurd cc
 listed_apart time (v ∷ a ∷ b ∷ c ∷ []) r e = absurd cc
 listed_apart time (v ∷ a ∷ b ∷ c ∷ d ∷ words) r e =
-    two_apart (is_of_packet a b) (is_of_reset b c) (packet (device_of v) (digits_in 16 8 (before_comma c))) (begins time (device_of v) (of_digits 10 10 a) (digits_in 10 10 (before_comma d))) r
-    (packet_apart (device_of v) (digits_in 16 8 (before_comma c)) r) (begins_apart time (device_of v) (of_digits 10 10 a) (digits_in 10 10 (before_comma d)) r) e
+    two_apart (is_of_packet a b) (is_of_reset b c) (packet (device_of v) (digits_in 16 8 (before_comma c))) (begins time (local_in words) (device_of v) (of_digits 10 10 a) (digits_in 10 10 (before_comma d))) r
+    (packet_apart (device_of v) (digits_in 16 8 (before_comma c)) r) (begins_apart time (local_in words) (device_of v) (of_digits 10 10 a) (digits_in 10 10 (before_comma d)) r) e
 
 listing_apart : (time : Option ℕ) (words : List (List ℕ)) (r : Reset) → listing time words ≡ OfReset r → ⊥
 listing_apart time [] r e = absurd cc
@@ -180,18 +166,18 @@ line_fits line r e = words_fit (words_of (take 65536 line)) (named None (words_o
 
 in_text_fits : (base most : ℕ) (text : Option (List ℕ)) (n : ℕ) → digits_in base most text ≡ Some n → n < 2 ^ 32
 in_text_fits base most None n e = absurd cc
-in_text_fits base most (Some text) n e = digits_fit base most text n e
+in_text_fits base most (Some text) n e = small_digits base most n text e
 
 quad_is : (a b : Option ℕ) (card quad : ℕ) → packet a b ≡ Packet card quad → b ≡ Some quad
 quad_is None b card quad e = absurd cc
 quad_is (Some x) None card quad e = absurd cc
 quad_is (Some x) (Some y) card quad e = let same : y ≡ quad = cc in ap (λ (z : ℕ). Some z) same
 
-begins_none : (time a b c : Option ℕ) (card quad : ℕ) → begins time a b c ≡ Packet card quad → ⊥
-begins_none time None b c card quad e = absurd cc
-begins_none time (Some x) None c card quad e = absurd cc
-begins_none time (Some x) (Some y) None card quad e = absurd cc
-begins_none time (Some x) (Some y) (Some z) card quad e = absurd cc
+begins_none : (time n a b c : Option ℕ) (card quad : ℕ) → begins time n a b c ≡ Packet card quad → ⊥
+begins_none time n None b c card quad e = absurd cc
+begins_none time n (Some x) None c card quad e = absurd cc
+begins_none time n (Some x) (Some y) None card quad e = absurd cc
+begins_none time n (Some x) (Some y) (Some z) card quad e = absurd cc
 
 either_packet : (t u : Bool) (x y : LogLine) (card quad : ℕ) → (x ≡ Packet card quad → quad < 2 ^ 32) →
     (y ≡ Packet card quad → ⊥) → (if t then x else (if u then y else Other)) ≡ Packet card quad → quad < 2 ^ 32
@@ -206,8 +192,8 @@ listed_fits time (v ∷ a ∷ []) card quad e = absurd cc
 listed_fits time (v ∷ a ∷ b ∷ []) card quad e = absurd cc
 listed_fits time (v ∷ a ∷ b ∷ c ∷ []) card quad e = absurd cc
 listed_fits time (v ∷ a ∷ b ∷ c ∷ d ∷ words) card quad e =
-    either_packet (is_of_packet a b) (is_of_reset b c) (packet (device_of v) (digits_in 16 8 (before_comma c))) (begins time (device_of v) (of_digits 10 10 a) (digits_in 10 10 (before_comma d))) card quad
-    (λ f. in_text_fits 16 8 (before_comma c) quad (quad_is (device_of v) (digits_in 16 8 (before_comma c)) card quad f)) (begins_none time (device_of v) (of_digits 10 10 a) (digits_in 10 10 (before_comma d)) card quad) e
+    either_packet (is_of_packet a b) (is_of_reset b c) (packet (device_of v) (digits_in 16 8 (before_comma c))) (begins time (local_in words) (device_of v) (of_digits 10 10 a) (digits_in 10 10 (before_comma d))) card quad
+    (λ f. in_text_fits 16 8 (before_comma c) quad (quad_is (device_of v) (digits_in 16 8 (before_comma c)) card quad f)) (begins_none time (local_in words) (device_of v) (of_digits 10 10 a) (digits_in 10 10 (before_comma d)) card quad) e
 
 listing_fits : (time : Option ℕ) (words : List (List ℕ)) (card quad : ℕ) → listing time words ≡ Packet card quad → quad < 2 ^ 32
 listing_fits time [] card quad e = absurd cc
@@ -218,18 +204,18 @@ listing_fits time (w ∷ ws) card quad e = go (is_driver w) e (λ t f. listing_f
     go true e more = listed_fits time ws card quad e
     go false e more = more (or_time (bracket_time w) time) e
 
-no_packet : (origin : Origin) (time a b : Option ℕ) (c : Option Bool) (d : Option (List ℕ)) (card quad : ℕ) →
-    reset_of origin time a b c d ≡ Packet card quad → ⊥
-no_packet origin time None b c d card quad e = absurd cc
-no_packet origin time (Some x) None c d card quad e = absurd cc
-no_packet origin time (Some x) (Some y) None d card quad e = absurd cc
-no_packet origin time (Some x) (Some y) (Some z) None card quad e = absurd cc
-no_packet origin time (Some x) (Some y) (Some z) (Some l) card quad e = absurd cc
+no_packet : (origin : Origin) (time n a b : Option ℕ) (c : Option Bool) (d : Option (List ℕ)) (card quad : ℕ) →
+    reset_of origin time n a b c d ≡ Packet card quad → ⊥
+no_packet origin time n None b c d card quad e = absurd cc
+no_packet origin time n (Some x) None c d card quad e = absurd cc
+no_packet origin time n (Some x) (Some y) None d card quad e = absurd cc
+no_packet origin time n (Some x) (Some y) (Some z) None card quad e = absurd cc
+no_packet origin time n (Some x) (Some y) (Some z) (Some l) card quad e = absurd cc
 
 event_apart : (origin : Origin) (time : Option ℕ) (words : List (List ℕ)) (card quad : ℕ) →
     event origin time words ≡ Packet card quad → ⊥
-event_apart Controller time words card quad e = no_packet Controller time _ _ _ _ card quad e
-event_apart Core time words card quad e = no_packet Core time _ _ _ _ card quad e
+event_apart Controller time words card quad e = no_packet Controller time _ _ _ _ _ card quad e
+event_apart Core time words card quad e = no_packet Core time _ _ _ _ _ card quad e
 
 packet_fits : (words : List (List ℕ)) (found : Option (Origin × Option ℕ × List (List ℕ))) (card quad : ℕ) →
     of_words words found ≡ Packet card quad → quad < 2 ^ 32

@@ -8,7 +8,9 @@ use Rattle.std.specs.Str.{bytes_eq}
 use Rattle.std.proofs.lemmas.Bool.Decides.{nat_tests}
 use Rattle.std.proofs.lemmas.Slice.Eq.{bytes_eq-Decides}
 use Rattle.std.proofs.lemmas.List.Elements.{All-nil, All-cons, All-head, All-tail, All-filter}
-use Rattle.reset_log.specs.Words.{is_blank, is_some_text, words_of, behind}
+use Rattle.line_words.specs.Words.{is_some_text, words_by}
+use Rattle.line_words.proofs.Lemmas.{some_text}
+use Rattle.reset_log.specs.Words.{is_blank, words_of, behind}
 use Rattle.reset_log.specs.declared.line.LogLine.TheVariants.{Other}
 use Rattle.reset_log.specs.Time.{time_of, or_time, bracket_time}
 use Rattle.reset_log.specs.Said.{is_driver, said}
@@ -101,7 +103,7 @@ parts_of (c ∷ cs) h = go (is_blank c) (parts_of cs (unmarked_tail c cs h))
     go false p = (suc p.0, p.1, ap (onto_first c) p.2, p.3)
 
 pub unmarked_words : (line : List ℕ) → Unmarked line → All Unmarked (words_of line)
-unfolding words_of
+unfolding words_by
 unmarked_words line h =
     let p = parts_of line h in
     All-filter is_some_text Unmarked (slice_split is_blank line)
@@ -158,15 +160,6 @@ apart : (t : Bool) → (t ≡ true → ⊥) → t ≡ false
 apart true ne = absurd (ne refl)
 apart false ne = refl
 
-kept_first : (c : ℕ) (p : List ℕ) (ps : List (List ℕ)) →
-    filter is_some_text ((c ∷ p) ∷ ps) ≡ (c ∷ p) ∷ filter is_some_text ps
-kept_first c p ps =
-    ap (λ (b : Bool). cond (not b) ((c ∷ p) ∷ filter is_some_text ps) (filter is_some_text ps))
-    (apart (suc (length p) == 0) some)
-  where
-    some : (suc (length p) == 0) ≡ true → ⊥
-    some is = let none : suc (length p) ≡ 0 = grind (arith, nat_tests) in omega (arith, none)
-
 not_first : (c : ℕ) (p : List ℕ) → (c == 67) ≡ false → is_some (behind (codes "CPU:") (c ∷ p)) ≡ false
 not_first c p e = go (bytes_eq (take 4 (c ∷ p)) (codes "CPU:")) refl
   where
@@ -180,15 +173,15 @@ not_first c p e = go (bytes_eq (take 4 (c ∷ p)) (codes "CPU:")) refl
         absurd cc
 
 not_lost : (line : List ℕ) → begins_loss line ≡ false → is_lost (words_of line) ≡ false
-unfolding words_of
+unfolding words_by
 not_lost [] h = refl
 not_lost (c ∷ cs) h = go (is_blank c) (slice_split is_blank cs) h (not_lost cs)
   where
     first : (parts : List (List ℕ)) → (c == 67) ≡ false →
         is_lost (filter is_some_text (onto_first c parts)) ≡ false
-    first [] e = ap is_lost (kept_first c [] []) ∙ ap (λ (b : Bool). b && has_loss []) (not_first c [] e)
+    first [] e = ap is_lost (some_text c [] []) ∙ ap (λ (b : Bool). b && has_loss []) (not_first c [] e)
     first (p ∷ ps) e =
-        ap is_lost (kept_first c p ps) ∙ ap (λ (b : Bool). b && has_loss (filter is_some_text ps)) (not_first c p e)
+        ap is_lost (some_text c p ps) ∙ ap (λ (b : Bool). b && has_loss (filter is_some_text ps)) (not_first c p e)
 
     go : (b : Bool) (parts : List (List ℕ)) → (if b then begins_loss cs else c == 67) ≡ false →
         (begins_loss cs ≡ false → is_lost (filter is_some_text parts) ≡ false) →

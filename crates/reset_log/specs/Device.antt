@@ -1,7 +1,7 @@
 -- A card as the drivers' own log names it: its device on the PCI bus, `0000:05:00.0`.
 use Rattle.std.specs.Prelude.{ℕ, ◌+◌, ◌-◌, ◌*◌, ◌/◌, ◌%◌, ◌^◌, ◌==◌, ◌&&◌, nat_lt, List, [], ◌∷◌, ◌++◌, length, take, drop, slice_index, Option, Some, None, if◌then◌else◌, codes}
 use Rattle.view_text.specs.Packet.{field}
-use Rattle.reset_log.specs.Number.{of_digits}
+use Rattle.line_words.specs.Digits.{of_digits}
 
 -- The number of a card is that of the events, below 2 ^ 32, or behind these the place of its device: domain,
 -- bus, slot and function.

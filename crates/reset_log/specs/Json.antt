@@ -51,18 +51,20 @@ name_members number r rest =
     (member (codes "card") (card_value r.card)
     (member (codes "generation") (numeral r.generation) rest))
 
--- microseconds, where they are known
-abbrev pub micros_member : List ℕ → Option ℕ → Members → Members
-micros_member key None rest = rest
-micros_member key (Some micros) rest = member key (numeral micros) rest
+-- a number, where it is known
+abbrev pub known_member : List ℕ → Option ℕ → Members → Members
+known_member key None rest = rest
+known_member key (Some n) rest = member key (numeral n) rest
 
--- and when it was, how long the card's reset before is past, and how many are missing between
+-- and in microseconds when it was and how long the card's reset before is past, how many are missing between, and
+-- which node the card itself is
 abbrev pub head_members : ℕ → Option Known → Reset → Members → Members
 head_members number before r rest =
     name_members number r
-    (micros_member (codes "time") r.time
-    (micros_member (codes "after") (since before r)
-    (member (codes "missing") (numeral (missing before r)) rest)))
+    (known_member (codes "time") r.time
+    (known_member (codes "after") (since before r)
+    (member (codes "missing") (numeral (missing before r))
+    (known_member (codes "local") r.local rest))))
 
 abbrev pub reset_value : ℕ → Option Known → Reset → Members → Json
 reset_value number before r members = with_schema (head_members number before r members)

@@ -8,6 +8,7 @@ pub mod Noted
 pub mod Notes
 pub mod Said
 pub mod Device
+pub mod Local
 pub mod Listing
 pub mod Line
 pub mod Stop

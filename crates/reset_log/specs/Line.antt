@@ -4,6 +4,7 @@ use Rattle.std.specs.Str.{bytes_eq}
 use Rattle.reset_log.specs.Number.{number_of}
 use Rattle.reset_log.specs.Words.{words_of, value_of, behind}
 use Rattle.reset_log.specs.Time.{time_of, or_time}
+use Rattle.reset_log.specs.Local.{local_of}
 use Rattle.reset_log.specs.Listing.{listing}
 use Rattle.reset_log.specs.Said.{said}
 use Rattle.reset_log.specs.Lists.{list_of}
@@ -62,30 +63,33 @@ abbrev pub truth_field : Option (List ℕ × List (List ℕ)) → Option Bool
 truth_field None = None
 truth_field (Some value) = truth_of value.0
 
--- a reset of its fields, where each of them is there
+-- a reset of its fields, where each of them is there; the time and the card's own node may not be known
 abbrev pub reset_of :
-    Origin → Option ℕ → Option ℕ → Option ℕ → Option Bool → Option (List ℕ) → LogLine
-reset_of origin time (Some card) (Some generation) (Some is_error) (Some list) =
+    Origin → (time local card generation : Option ℕ) → Option Bool → Option (List ℕ) → LogLine
+reset_of origin time local (Some card) (Some generation) (Some is_error) (Some list) =
     OfReset (record {
       origin = origin;
       time = time;
       card = card;
       generation = generation;
+      local = local;
       is_error = is_error;
       list = list;
     })
-reset_of origin time _ _ _ _ = Garbled
+reset_of origin time local _ _ _ _ = Garbled
 
 -- `self_id_complete: card_index=N is_error=B generation_at_completion=N packet_data=..`, and
--- `bus_reset_handle: card_index=N generation=N self_ids=..`, with other fields among them
+-- `bus_reset_handle: card_index=N generation=N self_ids=..`, with other fields among them; of the second also
+-- `node_id=0xffcN`, where it is there
 abbrev pub event : Origin → Option ℕ → List (List ℕ) → LogLine
 event Controller time words =
-    reset_of Controller time (number_field (value_of (codes "card_index=") words))
+    reset_of Controller time None (number_field (value_of (codes "card_index=") words))
     (number_field (value_of (codes "generation_at_completion=") words))
     (truth_field (value_of (codes "is_error=") words))
     (list_field (value_of (codes "packet_data=") words))
 event Core time words =
-    reset_of Core time (number_field (value_of (codes "card_index=") words))
+    reset_of Core time (local_of (number_field (value_of (codes "node_id=") words)))
+    (number_field (value_of (codes "card_index=") words))
     (number_field (value_of (codes "generation=") words)) (Some false)
     (list_field (value_of (codes "self_ids=") words))
 

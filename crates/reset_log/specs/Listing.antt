@@ -4,9 +4,10 @@ use Rattle.std.specs.Prelude.{ℕ, ◌-◌, ◌&&◌, ◌||◌, Bool, List, [], 
 use Rattle.std.specs.Str.{bytes_eq}
 use Rattle.reset_log.specs.declared.line.LogLine.{LogLine}
 use Rattle.reset_log.specs.declared.line.LogLine.TheVariants.{Other, Begins, Packet}
-use Rattle.reset_log.specs.Number.{of_digits}
+use Rattle.line_words.specs.Digits.{of_digits}
 use Rattle.reset_log.specs.Time.{or_time, bracket_time}
 use Rattle.reset_log.specs.Device.{device_of}
+use Rattle.reset_log.specs.Local.{local_of}
 use Rattle.reset_log.specs.Said.{is_driver}
 
 -- what stands before a last comma
@@ -19,10 +20,20 @@ abbrev pub digits_in : ℕ → ℕ → Option (List ℕ) → Option ℕ
 digits_in base most None = None
 digits_in base most (Some text) = of_digits base most text
 
-abbrev pub begins : Option ℕ → Option ℕ → Option ℕ → Option ℕ → LogLine
-begins time (Some card) (Some count) (Some generation) =
-    Begins (record { card = card; time = time; generation = generation; count = count })
-begins time _ _ _ = Other
+-- `local node ID ffc1` behind the line of a reset, where it stands there
+abbrev pub is_of_local : List ℕ → List ℕ → List ℕ → Bool
+is_of_local a b c =
+    bytes_eq a (codes "local") && (bytes_eq b (codes "node") && bytes_eq c (codes "ID"))
+
+abbrev pub local_in : List (List ℕ) → Option ℕ
+local_in (a ∷ b ∷ c ∷ d ∷ words) =
+    if is_of_local a b c then local_of (of_digits 16 4 d) else None
+local_in _ = None
+
+abbrev pub begins : (time local card count generation : Option ℕ) → LogLine
+begins time local (Some card) (Some count) (Some generation) =
+    Begins (record { card = card; time = time; generation = generation; local = local; count = count })
+begins time local _ _ _ = Other
 
 abbrev pub packet : Option ℕ → Option ℕ → LogLine
 packet (Some card) (Some quad) = Packet card quad
@@ -39,7 +50,8 @@ abbrev pub listed : Option ℕ → List (List ℕ) → LogLine
 listed time (device ∷ a ∷ b ∷ c ∷ d ∷ words) =
     if is_of_packet a b then packet (device_of device) (digits_in 16 8 (before_comma c))
     else (if is_of_reset b c then
-    begins time (device_of device) (of_digits 10 10 a) (digits_in 10 10 (before_comma d)) else Other)
+    begins time (local_in words) (device_of device) (of_digits 10 10 a) (digits_in 10 10 (before_comma d))
+    else Other)
 listed time _ = Other
 
 -- of the first driver that is named; the time is the last one before

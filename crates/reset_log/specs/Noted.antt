@@ -172,6 +172,7 @@ begun_at number b = record {
     time = b.time;
     card = b.card;
     generation = b.generation;
+    local = b.local;
     is_error = false;
     list = [];
   };
@@ -187,6 +188,7 @@ with_packet quad p = record {
     time = p.reset.time;
     card = p.reset.card;
     generation = p.reset.generation;
+    local = p.reset.local;
     is_error = p.reset.is_error;
     list = p.reset.list ++ quad ∷ [];
   };

@@ -59,9 +59,14 @@ unfoldable pub moments : (time after : Option ℕ) → (missing : ℕ) → List 
 moments time after missing =
     if_known (codes " time ") time ++ (if_known (codes " after ") after ++ if_missing missing)
 
+-- where it is known, which node the card itself is
+abbrev pub if_local : Option ℕ → List ℕ
+if_local None = []
+if_local (Some id) = field (codes " local ") id
+
 unfoldable pub head : ℕ → Option Known → Reset → List ℕ
 head number before r =
-    name number r ++ moments r.time (since before r) (missing before r)
+    name number r ++ (moments r.time (since before r) (missing before r) ++ if_local r.local)
 
 -- the controller says that it failed
 unfoldable pub unjudged : ℕ → Option Known → Reset → List ℕ

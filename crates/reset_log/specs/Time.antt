@@ -1,7 +1,7 @@
 -- The time stamps of a log, in microseconds: `100.123456:` before an event, `[  100.123456]` before the kernel's words.
 use Rattle.std.specs.Prelude.{ℕ, ◌+◌, ◌-◌, ◌*◌, ◌==◌, ◌&&◌, nat_le, List, length, take, drop, slice_index, Option, Some, None, if◌then◌else◌, codes}
 use Rattle.std.specs.Str.{bytes_eq}
-use Rattle.reset_log.specs.Number.{of_digits}
+use Rattle.line_words.specs.Digits.{of_digits}
 use Rattle.reset_log.specs.Words.{behind, or_whole}
 
 -- seconds and microseconds, where both are there

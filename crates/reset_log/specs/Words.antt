@@ -1,18 +1,15 @@
 -- The words of a line, and the fields among them.
-use Rattle.std.specs.Prelude.{ℕ, ◌==◌, ◌||◌, not, Bool, List, [], ◌∷◌, length, take, drop, filter, position, is_some, Option, Some, None, if◌then◌else◌}
-use Rattle.std.specs.List.{slice_split}
+use Rattle.std.specs.Prelude.{ℕ, ◌==◌, ◌||◌, Bool, List, [], ◌∷◌, length, take, drop, position, is_some, Option, Some, None, if◌then◌else◌}
 use Rattle.std.specs.Str.{bytes_eq}
+use Rattle.line_words.specs.Words.{words_by}
 
 -- a space, a tab or a carriage return
 abbrev pub is_blank : ℕ → Bool
 is_blank c = (c == 32) || (c == 9) || (c == 13)
 
-abbrev pub is_some_text : List ℕ → Bool
-is_some_text text = not (length text == 0)
-
 -- the words of a line are what stands between blanks
-unfoldable pub words_of : List ℕ → List (List ℕ)
-words_of line = filter is_some_text (slice_split is_blank line)
+abbrev pub words_of : List ℕ → List (List ℕ)
+words_of line = words_by is_blank line
 
 -- what stands behind a key in a word that begins with it
 abbrev pub behind : List ℕ → List ℕ → Option (List ℕ)

@@ -1,4 +1,3 @@
-pub mod Digits
 pub mod Going
 pub mod Marks
 pub mod Tokens

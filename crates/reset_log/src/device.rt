@@ -2,8 +2,8 @@
 ghost use Rattle.std.specs.Prelude.{◌≡◌, ◌<◌, ◌^◌, ◌-◌, ◌++◌, OnOk};
 ghost use Rattle.reset_log.specs.Device.{placed, device_of, hex_digit, device_text, card_field};
 
-use crate::number::of_digits;
 use crate::word::Word;
+use line_words::of_digits;
 use std::alloc::AllocError;
 use view_text::put_field;
 

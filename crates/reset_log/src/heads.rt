@@ -1,7 +1,7 @@
 //! The first line of what is shown of a reset, and the last line of a log.
 ghost use Rattle.std.specs.Prelude.{◌≡◌, ◌++◌, OnOk, IfOk};
 ghost use Rattle.std.specs.Option.{option_copied};
-ghost use Rattle.reset_log.specs.Texts.{lost, told, digit, seconds, if_known, if_missing, name, moments, head, unjudged, begun, most, cut_off, if_cut_off, totals};
+ghost use Rattle.reset_log.specs.Texts.{lost, told, digit, seconds, if_known, if_missing, name, moments, if_local, head, unjudged, begun, most, cut_off, if_cut_off, totals};
 ghost use Rattle.reset_log.specs.Notes.{noted};
 
 use crate::cards::{Known, missing, since};
@@ -105,6 +105,15 @@ fn put_moments(
     Ok(())
 }
 
+fn put_if_local(out: &mut Vec<u8>, local: Option<u8>) -> Result<(), AllocError>
+    ensures { OnOk result (out.new.items ≡ out.old.items ++ if_local local) }
+{
+    match local {
+        Some(id) => put_field(out, b" local ", u64::from(id)),
+        None => Ok(()),
+    }
+}
+
 /// Appends which reset a text is about, behind the card's reset before.
 #[tactic(auto, unfolding(crate::specs::Texts::head))]
 pub(crate) fn put_head(
@@ -120,6 +129,7 @@ pub(crate) fn put_head(
     let missing = missing(before, reset);
     put_name(out, number, reset)?;
     put_moments(out, reset.time, after, missing)?;
+    put_if_local(out, reset.local)?;
     Ok(())
 }
 

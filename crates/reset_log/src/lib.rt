@@ -15,6 +15,7 @@ mod laws;
 mod line;
 mod list;
 mod listing;
+mod local;
 mod log;
 mod marks;
 mod notes;

@@ -6,6 +6,7 @@ ghost use Rattle.reset_log.specs.declared.line.Origin.{Origin};
 
 use crate::list::list_of;
 use crate::listing::listing;
+use crate::local::local_of;
 use crate::marks::may_be_shown;
 use crate::number::number_of;
 use crate::said::{LogText, said};
@@ -34,6 +35,8 @@ pub struct Reset {
     pub card: u64,
     /// The count of resets, which begins again after 255.
     pub generation: u32,
+    /// The node that the card itself is, where its line says so.
+    pub local: Option<u8>,
     /// Whether the controller says that it failed.
     pub is_error: bool,
     /// Of `Controller` quadlets and their inverses, of `Core` quadlets.
@@ -48,6 +51,8 @@ pub struct Begun {
     /// When it was, in microseconds, where its line says so.
     pub time: Option<u64>,
     pub generation: u32,
+    /// The node that the card itself is, where its line says so.
+    pub local: Option<u8>,
     /// How many lines of packets follow.
     pub count: u32,
 }
@@ -171,12 +176,13 @@ fn truth_field(words: &[Word], key: &[u8]) -> Option<bool>
 fn reset_of(
     origin: Origin,
     time: Option<u64>,
+    local: Option<u8>,
     card: Option<u64>,
     generation: Option<u32>,
     is_error: Option<bool>,
     list: Option<QuadList>,
 ) -> LogLine
-    ensures { result ≡ reset_of origin time card generation is_error list }
+    ensures { result ≡ reset_of origin time local card generation is_error list }
 {
     match (card, generation, is_error, list) {
         (Some(card), Some(generation), Some(is_error), Some(list)) => LogLine::OfReset(Reset {
@@ -184,6 +190,7 @@ fn reset_of(
             time,
             card,
             generation,
+            local,
             is_error,
             list,
         }),
@@ -215,12 +222,14 @@ fn event(
             let generation = number_field(words, b"generation_at_completion=");
             let is_error = truth_field(words, b"is_error=");
             let list = list_field(alloc, words, b"packet_data=")?;
-            Ok(reset_of(origin, time, card, generation, is_error, list))
+            Ok(reset_of(origin, time, None, card, generation, is_error, list))
         }
         Origin::Core => {
             let generation = number_field(words, b"generation=");
+            let local = local_of(number_field(words, b"node_id="));
             let list = list_field(alloc, words, b"self_ids=")?;
-            Ok(reset_of(origin, time, card, generation, Some(false), list))
+            let is_error = Some(false);
+            Ok(reset_of(origin, time, local, card, generation, is_error, list))
         }
     }
 }

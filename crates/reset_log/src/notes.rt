@@ -111,6 +111,7 @@ impl Notes {
                 time: begun.time,
                 card: begun.card,
                 generation: begun.generation,
+                local: begun.local,
                 is_error: false,
                 list: QuadList::new(alloc),
             },

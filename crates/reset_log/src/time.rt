@@ -4,8 +4,8 @@ ghost use Rattle.std.specs.Option.{option_copied};
 ghost use Rattle.reset_log.specs.Time.{moment_of, before_colon, before_bracket, bracket_time, time_of};
 ghost use Rattle.reset_log.specs.Words.{behind, or_whole};
 
-use crate::number::of_digits;
 use crate::word::Word;
+use line_words::of_digits;
 
 /// What stands before a last colon.
 fn before_colon(text: &[u8]) -> Option<&[u8]>

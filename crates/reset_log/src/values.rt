@@ -1,5 +1,5 @@
 //! What is shown of the resets of a log for programs: lines of JSON.
-ghost use Rattle.std.specs.Prelude.{◌≡◌, ◌++◌, ◌∷◌, [], map, Some, IfOk, OnOk};
+ghost use Rattle.std.specs.Prelude.{◌≡◌, ◌++◌, ◌∷◌, [], map, codes, Some, IfOk, OnOk};
 ghost use Rattle.std.specs.Option.{option_copied};
 ghost use Rattle.json.specs.Token.{string};
 ghost use Rattle.json.specs.Json.{Members};
@@ -7,7 +7,7 @@ ghost use Rattle.json.specs.Tree.{json_tokens, members_tokens};
 ghost use Rattle.bus_json.specs.Text.{json_line};
 ghost use Rattle.reset_log.specs.Noted.{since, missing};
 ghost use Rattle.reset_log.specs.Notes.{noted};
-ghost use Rattle.reset_log.specs.codings.Tokens.{name_tokens, micros_tokens, head_tokens};
+ghost use Rattle.reset_log.specs.codings.Tokens.{name_tokens, known_tokens, head_tokens};
 ghost use Rattle.reset_log.specs.Json.{IsJsonLine, list_fault, IsListTold, card_value, ascii, IsResetTold, unjudged_value, cut_off_value, garbled_value, lost_value, told_value, most_members, totals_value, cut_off_lines, totals_lines};
 
 use crate::cards::{Known, missing, since};
@@ -117,7 +117,7 @@ fn put_name(alloc: Global, out: &mut JsonText, number: u64, reset: &Reset) -> Re
 
 /// Writes microseconds, where they are known.
 fn put_micros(out: &mut JsonText, name: &str, micros: Option<u64>) -> Result<(), AllocError>
-    ensures { OnOk result (out.new ≡ out.old ++ micros_tokens name.now micros) }
+    ensures { OnOk result (out.new ≡ out.old ++ known_tokens name.now micros) }
 {
     match micros {
         Some(micros) => out.number_member(name, micros),
@@ -125,8 +125,18 @@ fn put_micros(out: &mut JsonText, name: &str, micros: Option<u64>) -> Result<(),
     }
 }
 
-/// Writes which reset an object is of, when it was, how long the card's reset before is past, and how many
-/// are missing between.
+/// Writes the node that the card itself is, where it is known.
+fn put_local(out: &mut JsonText, local: Option<u8>) -> Result<(), AllocError>
+    ensures { OnOk result (out.new ≡ out.old ++ known_tokens (codes "local") local) }
+{
+    match local {
+        Some(id) => out.number_member("local", u64::from(id)),
+        None => Ok(()),
+    }
+}
+
+/// Writes which reset an object is of, when it was, how long the card's reset before is past, how many are
+/// missing between, and which node the card itself is.
 fn put_head(
     alloc: Global,
     out: &mut JsonText,
@@ -143,6 +153,7 @@ fn put_head(
     put_micros(out, "time", reset.time)?;
     put_micros(out, "after", after)?;
     out.number_member("missing", u64::from(missing))?;
+    put_local(out, reset.local)?;
     Ok(())
 }
 

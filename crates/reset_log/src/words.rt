@@ -1,6 +1,7 @@
 //! The words of a line.
 ghost use Rattle.std.specs.Prelude.{◌≡◌, ◌++◌, ◌∷◌, [], ◌<◌, length, IfOk, IfSome, IfNone, OnOk, MatchOption, Some, None, filter, position};
-ghost use Rattle.reset_log.specs.Words.{is_blank, is_some_text, words_of, value_of};
+ghost use Rattle.line_words.specs.Words.{is_some_text};
+ghost use Rattle.reset_log.specs.Words.{is_blank, words_of, value_of};
 
 use crate::word::Word;
 use std::alloc::{AllocError, Global};
@@ -21,7 +22,7 @@ fn first_blank(line: &[u8]) -> Option<usize>
 }
 
 /// What stands before the first blank of a line, and what stands behind it.
-#[tactic(auto, using(crate::proofs::Parts::words_of_cut, crate::proofs::Parts::words_of_whole))]
+#[tactic(auto, using(crate::proofs::Parts::words_cut, crate::proofs::Parts::words_whole))]
 fn cut(line: &[u8]) -> Option<(&[u8], &[u8])>
     ensures cut { IfSome result (λ parts. words_of line.now
         ≡ filter is_some_text (parts.0.now ∷ []) ++ words_of parts.1.now) }

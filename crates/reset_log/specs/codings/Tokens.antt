@@ -13,13 +13,14 @@ name_tokens n r =
     ∷ key (codes "card") ∷ (json_tokens (card_value r.card)
     ++ key (codes "generation") ∷ number (decimal r.generation) ∷ [])
 
-abbrev pub micros_tokens : List ℕ → Option ℕ → List Token
-micros_tokens name None = []
-micros_tokens name (Some micros) = key name ∷ number (decimal micros) ∷ []
+abbrev pub known_tokens : List ℕ → Option ℕ → List Token
+known_tokens name None = []
+known_tokens name (Some n) = key name ∷ number (decimal n) ∷ []
 
 abbrev pub head_tokens : ℕ → Option Known → Reset → List Token
 head_tokens n before r =
     name_tokens n r
-    ++ (micros_tokens (codes "time") r.time
-    ++ (micros_tokens (codes "after") (since before r)
-    ++ key (codes "missing") ∷ number (decimal (missing before r)) ∷ []))
+    ++ (known_tokens (codes "time") r.time
+    ++ (known_tokens (codes "after") (since before r)
+    ++ key (codes "missing") ∷ number (decimal (missing before r))
+    ∷ known_tokens (codes "local") r.local))

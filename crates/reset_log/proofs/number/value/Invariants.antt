@@ -1,7 +1,0 @@
-use Rattle.std.proofs.Common.{◌≡◌, drop}
-use Rattle.reset_log.specs.codings.Digits.{digits_from}
-use Rattle.reset_log.proofs.number.value.Given as goal
-
-abbrev pub invariant-loop-c : goal.invariant-loop-c
-invariant-loop-c l =
-    digits_from l.base l.number (drop l.c-index l.digits) ≡ digits_from l.base 0 l.digits
