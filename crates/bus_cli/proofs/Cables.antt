@@ -14,7 +14,7 @@ use Rattle.capture_reading.specs.Capture.{IsCaptureOf, Spells}
 use Rattle.bus_cli.specs.Cabled.{TellsCabling, AnswersCabling, AreEmitted}
 use Rattle.bus_cli.specs.Answer.{AnswersRead, Answers}
 use Rattle.capture_reading.specs.OneReading.{NoCaptureHasTwoTrees}
-use Rattle.io_edges.specs.Streams.{IsWritten}
+use Rattle.io_edges.specs.Streams.{IsWritten, OfTheAnswer}
 
 -- what some cabling emits spells the tree that it shows
 emitted-spells :
@@ -57,9 +57,9 @@ cabled each whole one texts status (Some bytes) old new h = λ which.
 
 pub accepted :
     CabledTreesAreBusTrees → (words : List (String Global)) → Asks words (Capture Read) → (status : ℕ) (left : Option (List ℕ)) →
-    IfSome left (λ bytes. (s : ℕ) (text : List ℕ) → Answers words bytes s text → (status ≡ s) ⊎ (3 ≤ status)) →
+    IfSome left (λ bytes. OfTheAnswer (Answers words) bytes (λ s text. (status ≡ s) ⊎ (3 ≤ status))) →
     IfSome left (λ bytes. AreEmitted bytes → (status ≡ 0) ⊎ (3 ≤ status))
 accepted whole words asks status None h = tt
 accepted whole words asks status (Some bytes) h = λ e.
     let s = emitted-spells whole bytes e.0 e.1 e.2 in
-    h 0 (tree_text e.1.tree []) (inl (Capture Read, asks, inl (refl, (e.1.tree, s, refl))))
+    h.holds 0 (tree_text e.1.tree []) (inl (Capture Read, asks, inl (refl, (e.1.tree, s, refl))))

@@ -9,8 +9,7 @@ use Rattle.script_lines.specs.Number.{number_of}
 use Rattle.bus_cli.specs.declared.form.Form.{Form}
 use Rattle.bus_cli.specs.declared.form.Form.TheVariants.{Capture, Rom, Run, Advice, Make, OfItself}
 use Rattle.bus_cli.specs.declared.form.CaptureForm.TheVariants.{Read, Read95, Maps}
-use Rattle.bus_cli.specs.Form.{AreWordsOf, AreMakeWords, Asks, IsForm, AsksNoInput}
-use Rattle.bus_cli.specs.codings.Reading.{IsRead, AsksFewNodes}
+use Rattle.bus_cli.specs.Form.{AreWordsOf, AreMakeWords, Asks, IsForm}
 
 -- ---- the form of words, found by trying them all
 
@@ -228,34 +227,3 @@ are_form (a ∷ b ∷ c ∷ words) (inr none) = inr (λ is. only_make a b c word
 -- words are those of a form, or of none
 pub form_or_none : (words : List (String Global)) → IsForm words ⊎ (IsForm words → ⊥)
 form_or_none words = are_form (map string_bytes words) (make_or_none (map string_bytes words))
-
--- ---- what is read
-
--- unless the words ask for something that needs no input it is read
-pub is_read : (words : List (String Global)) (form : Form) → Asks words form →
-    (AsksNoInput words → ⊥) → IsRead form
-is_read words (Capture form) asks none = tt
-is_read words Rom asks none = tt
-is_read words Run asks none = tt
-is_read words Advice asks none = tt
-is_read words (Make nodes seed) asks none = absurd (none (inl (nodes, seed, asks)))
-is_read words (OfItself about) asks none = absurd (none (inr (about, asks)))
-
--- where they do it isn't
-pub is_unread : (words : List (String Global)) (form : Form) → Asks words form → AsksNoInput words →
-    IsRead form → ⊥
-is_unread words form asks (inl make) read =
-    let e : Make make.0 make.1 ≡ form = one_form words (Make make.0 make.1) form make.2 asks in
-    subst (λ (f : Form). IsRead f → ⊥) e (λ none. none) read
-is_unread words form asks (inr itself) read =
-    let e : OfItself itself.0 ≡ form = one_form words (OfItself itself.0) form itself.1 asks in
-    subst (λ (f : Form). IsRead f → ⊥) e (λ none. none) read
-
--- with those of `make` there are 1 to 63 nodes
-pub few_nodes : (words : List (String Global)) (form : Form) → Asks words form → AsksFewNodes form
-few_nodes words (Capture form) asks = tt
-few_nodes words Rom asks = tt
-few_nodes words Run asks = tt
-few_nodes words Advice asks = tt
-few_nodes words (Make nodes seed) asks = (asks.some_nodes, asks.few_nodes)
-few_nodes words (OfItself about) asks = tt

@@ -1,7 +1,7 @@
 pub mod Gathering
 pub mod Forms
 pub mod OneAnswer
-pub mod Answering
+pub mod Unread
 pub mod Cables
 pub mod Ends
 pub mod Lemmas

@@ -33,12 +33,13 @@ use Rattle.bus_cli.specs.declared.form.Form.{Form}
 use Rattle.bus_cli.specs.declared.form.Form.TheVariants.{Capture, Rom, Run, Advice, Make, OfItself}
 use Rattle.bus_cli.specs.declared.form.CaptureForm.TheVariants.{Read, Read95, Maps}
 use Rattle.capture_reading.specs.declared.fault.CaptureFault.{CaptureFault}
-use Rattle.bus_cli.specs.Form.{Asks, IsForm}
+use Rattle.bus_cli.specs.Form.{Asks}
 use Rattle.capture_reading.specs.Line.{fault_line}
 use Rattle.bus_cli.specs.Line.{rom_line, script_line}
 use Rattle.capture_reading.specs.OneReading.{EachCaptureHasATreeOrAFault, NoCaptureHasTwoTrees, NoCaptureHasATreeAndAFault, NoCaptureHasTwoFaults}
-use Rattle.bus_cli.specs.Answer.{ValidOrRefused, IsCaptureLine, AnswersRead, AnswersMaps, TellsRom, RomRefused, TextOfRom, AnswersRom, PrintsRun, AnswersRun, AnswersAdvice, AnswersMake, AnswersForm, Answers}
+use Rattle.bus_cli.specs.Answer.{ValidOrRefused, IsCaptureLine, AnswersRead, AnswersMaps, TellsRom, RomRefused, TextOfRom, AnswersRom, PrintsRun, AnswersRun, AnswersAdvice, AnswersMake, AnswersForm}
 use Rattle.bus_cli.specs.OneAnswer.{EachInputHasAnAnswer, NoInputHasTwoAnswers, ToldTextsArePrinted}
+use Rattle.top_call.proofs.Lemmas.{each_answered, none_twice}
 use Rattle.bus_cli.proofs.Forms.{one_form, form_or_none}
 
 -- a capture has one reading, and so has a ROM, and no script tells two things
@@ -165,12 +166,7 @@ module _ (one : HasOneReading) where
   one_form_answer (OfItself about) bytes = λ s r a b x y. (x.0 ∙ sym y.0, x.1 ∙ sym y.1)
 
   pub one_answer : NoInputHasTwoAnswers
-  one_answer words bytes s r a b (inl x) (inl y) =
-      let form : y.0 ≡ x.0 = one_form words y.0 x.0 y.1 x.1 in
-      one_form_answer x.0 bytes s r a b x.2 (subst (λ (f : Form). AnswersForm f bytes r b) form y.2)
-  one_answer words bytes s r a b (inl x) (inr y) = absurd (y.0 (x.0, x.1))
-  one_answer words bytes s r a b (inr x) (inl y) = absurd (x.0 (y.0, y.1))
-  one_answer words bytes s r a b (inr x) (inr y) = (x.1 ∙ sym y.1, x.2 ∙ sym y.2)
+  one_answer words = none_twice (Asks words) AnswersForm (one_form words) one_form_answer
 
 -- ---- some status and some text
 
@@ -269,8 +265,4 @@ module _ (have : HasSomeReading) where
   some_form words (OfItself about) asks bytes fit = (0, about_text about (codes "busconf") HELP.now, (refl, refl))
 
   pub some_answer : EachInputHasAnAnswer
-  some_answer words bytes fit = go (form_or_none words)
-    where
-      go : IsForm words ⊎ (IsForm words → ⊥) → HasSome (Answers words bytes)
-      go (inl f) = let a = some_form words f.0 f.1 bytes fit in (a.0, a.1, inl (f.0, f.1, a.2))
-      go (inr none) = (2, [], inr (none, refl, refl))
+  some_answer words = each_answered (Asks words) AnswersForm (form_or_none words) (some_form words)

@@ -19,7 +19,8 @@ use Rattle.bus_cli.specs.declared.form.Form.TheVariants.{Capture, Rom, Run, Advi
 use Rattle.bus_cli.specs.declared.form.CaptureForm.TheVariants.{Read, Read95, Maps}
 use Rattle.capture_reading.specs.declared.fault.CaptureFault.{CaptureFault}
 use Rattle.bus_cli.specs.declared.help.TheConstants.{HELP}
-use Rattle.bus_cli.specs.Form.{Asks, IsForm}
+use Rattle.top_call.specs.Asked.{AnswersAsked}
+use Rattle.bus_cli.specs.Form.{Asks}
 use Rattle.capture_reading.specs.Capture.{Spells, CaptureRefused}
 use Rattle.bus_cli.specs.Cabled.{EachListIsEmitted}
 use Rattle.capture_reading.specs.Line.{fault_line}
@@ -144,6 +145,4 @@ AnswersForm (OfItself about) bytes status text = AnswersOfItself about status te
 
 -- what the words ask for is answered, and words that are no form by 2 and nothing
 abbrev pub Answers : List (String Global) → List ℕ → ℕ → List ℕ → Type 0
-Answers words bytes status text =
-    ((form : Form) × Asks words form × AnswersForm form bytes status text)
-    ⊎ ((¬ IsForm words) × (status ≡ 2) × (text ≡ []))
+Answers words = AnswersAsked (Asks words) AnswersForm

@@ -2,6 +2,7 @@
 #![tactic(auto)]
 
 mod answer;
+mod asked;
 mod form;
 mod help;
 mod input;
@@ -11,7 +12,6 @@ mod line;
 mod reader;
 mod rom;
 mod script;
-mod status;
 mod top;
 
 pub use capture_reading::{
@@ -22,5 +22,5 @@ pub use help::HELP;
 pub use input::MAX_INPUT;
 pub use laws::one_answer;
 pub use line::{kind_word, rom_line, script_line};
-pub use status::{NO_FORM, NO_MEMORY, READ_FAULT, REFUSED, TOO_LONG, VALID, WRITE_FAULT};
 pub use top::bus_main;
+pub use top_call::{NO_FORM, NO_MEMORY, READ_FAULT, REFUSED, TOO_LONG, VALID, WRITE_FAULT};

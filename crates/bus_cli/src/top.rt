@@ -1,8 +1,6 @@
 //! The top call.
-ghost use Rattle.std.specs.Prelude.{◌≡◌, ◌≢◌, ℕ, ◌≤◌, ◌⊎◌, ◌↔◌, List, [], length, Ok, IfSome};
+ghost use Rattle.std.specs.Prelude.{◌≡◌, ◌≢◌, ℕ, ◌≤◌, ◌⊎◌, ◌↔◌, List, IfSome};
 ghost use Rattle.std.specs.Io.KnownBytes.{Appends, IsAtEnd};
-ghost use Rattle.io_edges.specs.Faults.{Rose};
-ghost use Rattle.io_edges.specs.Told.{AppendsStart, IfTold, TookOver};
 ghost use Rattle.about.specs.declared.asked.About.{About};
 ghost use Rattle.bus_cli.specs.declared.form.CaptureForm.{CaptureForm};
 ghost use Rattle.bus_cli.specs.Form.{Asks, AsksNoInput, IsForm};
@@ -11,81 +9,16 @@ ghost use Rattle.topology_stack.specs.Tree.{Tree};
 ghost use Rattle.capture_reading.specs.Capture.{Spells};
 ghost use Rattle.bus_cli.specs.Answer.{AnswersRead, AnswersMaps, AnswersRom, AnswersRun, AnswersAdvice};
 ghost use Rattle.bus_cli.specs.Answer.{AnswersMake, AnswersOfItself, Answers};
-ghost use Rattle.io_edges.specs.Streams.{IsWritten, KeepsStreams, Writes};
+ghost use Rattle.io_edges.specs.Streams.{IsWritten, KeepsStreams};
 ghost use Rattle.bus_cli.specs.Cabled.{AnswersCabling, AreEmitted};
 
-use crate::answer::read_answer;
 use crate::form::Form;
 use crate::laws::one_answer;
-use crate::status::{NO_FORM, NO_MEMORY, READ_FAULT, TOO_LONG, WRITE_FAULT};
 use capture_reading::one_reading;
-use io_edges::{ReadStop, Sink, Source, write_whole};
+use io_edges::{Sink, Source};
 use std::alloc::Global;
+use top_call::answer;
 use world_laws::{bus_trees_are_cabled, texts_tell_trees};
-
-/// Answers the words, as `bus_main` has it.
-fn answer_words<S: Source, K: Sink>(
-    alloc: Global,
-    words: &[String],
-    source: &mut S,
-    sink: &mut K,
-) -> u8
-    ensures status { result ≤ 6 }
-    ensures answer { (result ≡ 0) ⊎ (result ≡ 1) → IfSome (S.left source.old) (λ bytes.
-        (text : List ℕ) × Answers words.now bytes result text
-        × Appends (K.written sink.old) (K.written sink.new) text) }
-    ensures end { (result ≡ 0) ⊎ (result ≡ 1) ⊎ (result ≡ 4) → (¬ AsksNoInput words.now) →
-        IsAtEnd (S.left source.new) }
-    ensures unfailing { AsksNoInput words.now → (result ≢ 1) × (result ≢ 3) × (result ≢ 6) }
-    ensures make { (nodes seed : ℕ) → Asks words.now (Form.Make nodes seed) → result ≡ 0 →
-        (text : List ℕ) × AnswersMake nodes seed 0 text
-        × Appends (K.written sink.old) (K.written sink.new) text }
-    ensures no_form { (result ≡ 2) ↔ (¬ IsForm words.now) }
-    ensures read_fault { result ≡ 3 → Rose (S.faults source.old) (S.faults source.new) }
-    ensures write_fault { result ≡ 4 → Rose (K.faults sink.old) (K.faults sink.new) }
-    ensures too_long { IfTold (S.left source.old) (S.left source.new) (λ old new.
-        (result ≡ 6) ↔ TookOver 1048576 old new) }
-    ensures itself { (about : About) → Asks words.now (Form.OfItself about) → result ≡ 0 →
-        (text : List ℕ) × AnswersOfItself about 0 text
-        × Appends (K.written sink.old) (K.written sink.new) text }
-    ensures memory { result ≡ 5 → Asks words.now (Form.Capture CaptureForm.Read) →
-        IsAtEnd (S.left source.new)
-        × IfSome (S.left source.old) (λ bytes. (t : Tree) × Spells Ieee2000 bytes t) }
-    ensures unread { (result ≡ 2) ⊎ AsksNoInput words.now → source.new ≡ source.old }
-    ensures unwritten { 2 ≤ result → result ≢ 4 → sink.new ≡ sink.old }
-    ensures part { result ≡ 4 → IfSome (S.left source.old) (λ bytes.
-        (status : ℕ) × (text : List ℕ) × Answers words.now bytes status text
-        × AppendsStart (K.written sink.old) (K.written sink.new) text) }
-    ensures exact { IfSome (S.left source.old) (λ bytes. (status : ℕ) (text : List ℕ) →
-        Answers words.now bytes status text → (result ≡ status) ⊎ (3 ≤ result)) }
-    ensures complete { ¬ Rose (S.faults source.old) (S.faults source.new) →
-        ¬ Rose (K.faults sink.old) (K.faults sink.new) →
-        IfSome (S.left source.old) (λ bytes. length bytes ≤ 1048576 →
-        (status : ℕ) (text : List ℕ) → Answers words.now bytes status text →
-        ((result ≡ status) × Appends (K.written sink.old) (K.written sink.new) text)
-        ⊎ (result ≡ 5)) }
-    ensures sure { IfSome (S.left source.old) (λ bytes. (status : ℕ) (text : List ℕ) →
-        Answers words.now bytes status text → K.surely_takes sink.old (length text) →
-        K.faults sink.new ≡ K.faults sink.old) }
-    ensures alone { AsksNoInput words.now → (status : ℕ) (text : List ℕ) →
-        Answers words.now [] status text →
-        Writes K.written K.faults K.surely_takes result sink.old sink.new status text }
-{
-    one_answer();
-    let Some(form) = Form::of_words(words) else {
-        return NO_FORM;
-    };
-    let answer = match read_answer(alloc, form, source) {
-        Ok(answer) => answer,
-        Err(ReadStop::ReadFault) => return READ_FAULT,
-        Err(ReadStop::TooLong) => return TOO_LONG,
-        Err(ReadStop::Memory(_)) => return NO_MEMORY,
-    };
-    match write_whole(sink, answer.text()) {
-        Ok(()) => answer.status(),
-        Err(_) => WRITE_FAULT,
-    }
-}
 
 /// Does what the words after the program's name ask for: reads the input from `source`, writes the
 /// text or the line of the input's fault to `sink`, and answers the exit status.
@@ -173,5 +106,5 @@ pub fn bus_main<S: Source, K: Sink>(
     one_reading();
     bus_trees_are_cabled();
     texts_tell_trees();
-    answer_words(alloc, words, source, sink)
+    answer::<Form, S, K>(alloc, words, source, sink)
 }

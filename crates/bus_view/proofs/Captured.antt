@@ -8,18 +8,17 @@ use Rattle.topology_stack.specs.Text.{tree_text}
 use Rattle.topology_stack.specs.OneAnswer.{NoListHasTwoTrees}
 use Rattle.cable_world.specs.World.{NodeNumber}
 use Rattle.cable_world.specs.Unchanged.{ActKeepsNodes}
-use Rattle.script_lines.specs.declared.kind.Kind.{Kind}
 use Rattle.script_lines.specs.declared.kind.ScriptFault.{ScriptFault}
-use Rattle.script_text.specs.ReportText.{IsTreeText, root_line, names_in}
+use Rattle.script_text.specs.ReportText.{root_line, names_in}
 use Rattle.script_told.specs.Bus.{Bus, Reported, node_named, tree_with}
 use Rattle.script_told.specs.Script.{Told, script_lines}
 use Rattle.script_told.specs.Run.{ScriptRun, IsRun}
 use Rattle.script_told.specs.SomeManager.{IsManaged, ReportedTreesAreManaged}
 use Rattle.script_told.specs.EachReport.{ReportsAreSettled}
 use Rattle.script_told.proofs.Lemmas.{IsEnd, each-done}
-use Rattle.script_bus.specs.Listed.{list_in, list_at, list_of}
-use Rattle.script_run.specs.Listed.{at_line, listed_at, IsListed}
-use Rattle.capture_reading.specs.Capture.{IsCaptureOf, Spells}
+use Rattle.script_bus.specs.Listed.{list_in, list_at}
+use Rattle.script_run.specs.Listed.{at_line, listed_at}
+use Rattle.capture_reading.specs.Capture.{Spells}
 use Rattle.bus_cli.specs.Answer.{AnswersRead}
 use Rattle.capture_reading.specs.OneReading.{NoCaptureHasTwoTrees, NoCaptureHasATreeAndAFault}
 use Rattle.bus_view.specs.Captured.{ListsFit, IsShownByTheReport, CapturesAreOfReports}

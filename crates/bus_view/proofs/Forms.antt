@@ -15,7 +15,8 @@ use Rattle.bus_view.specs.declared.form.ViewForm.TheVariants.{Capture, Trace, Wa
 use Rattle.script_lines.specs.Name.{is_name}
 use Rattle.script_lines.specs.Number.{number_of}
 use Rattle.bus_view.specs.Form.{standard_words, AreWordsOf, Asks, AsksLog, AsksNoInput, IsForm}
-use Rattle.bus_view.specs.codings.Reading.{IsRead, IsHeld}
+use Rattle.bus_view.specs.codings.Reading.{IsUnread, IsHeld}
+use Rattle.top_call.specs.Asked.{AsksUnread}
 use Rattle.std.proofs.lemmas.Bool.{eqb-true}
 use Rattle.std.proofs.lemmas.Bool.Decides.{nat_tests}
 use Rattle.bus_cli.proofs.Lemmas.{both_true}
@@ -330,30 +331,27 @@ one_nosy words a b x y = let e : Nosy a ≡ Nosy b = one_form words (Nosy a) (No
 pub no_dump : (words : List (String Global)) (a b : LogForm) → Asks words (Resets a) → Asks words (Nosy b) → ⊥
 no_dump words a b x y = let e : Resets a ≡ Nosy b = one_form words (Resets a) (Nosy b) x y in cc
 
--- with words that need an input, and that isn't shown as it comes, it is read
-pub is_read : (words : List (String Global)) (form : ViewForm) → Asks words form → (AsksLog words → ⊥) →
-    (AsksNoInput words → ⊥) → IsRead form
-is_read words (Capture view standard) asks no_log none = tt
-is_read words Trace asks no_log none = tt
-is_read words Waves asks no_log none = tt
-is_read words DotRun asks no_log none = tt
-is_read words JsonRun asks no_log none = tt
-is_read words Explain asks no_log none = tt
-is_read words (Script nodes seed) asks no_log none = absurd (none (inl (nodes, seed, asks)))
-is_read words (ListOf name) asks no_log none = tt
-is_read words (Resets form) asks no_log none = absurd (no_log (form, inl asks))
-is_read words (Nosy form) asks no_log none = absurd (no_log (form, inr asks))
-is_read words (OfItself about) asks no_log none = absurd (none (inr (about, asks)))
+-- words with which nothing is read are those of such a form
+pub unread_form : (words : List (String Global)) → AsksNoInput words → AsksUnread (Asks words) IsUnread
+unread_form words (inl script) = (Script script.0 script.1, script.2, tt)
+unread_form words (inr itself) = (OfItself itself.0, itself.1, tt)
 
--- with words that need none it isn't
-pub is_unread : (words : List (String Global)) (form : ViewForm) → Asks words form →
-    AsksNoInput words → IsRead form → ⊥
-is_unread words form asks (inl script) read =
-    let e : Script script.0 script.1 ≡ form = one_form words (Script script.0 script.1) form script.2 asks in
-    subst (λ (f : ViewForm). IsRead f → ⊥) e (λ none. none) read
-is_unread words form asks (inr itself) read =
-    let e : OfItself itself.0 ≡ form = one_form words (OfItself itself.0) form itself.1 asks in
-    subst (λ (f : ViewForm). IsRead f → ⊥) e (λ none. none) read
+-- and only they are
+pub form_unread : (words : List (String Global)) → AsksUnread (Asks words) IsUnread → AsksNoInput words
+form_unread words (form, asks, unread) = go form asks unread
+  where
+    go : (form : ViewForm) → Asks words form → IsUnread form → AsksNoInput words
+    go (Script nodes seed) asks unread = inl (nodes, seed, asks)
+    go (OfItself about) asks unread = inr (about, asks)
+    go (Capture view standard) asks unread = absurd unread
+    go Trace asks unread = absurd unread
+    go Waves asks unread = absurd unread
+    go DotRun asks unread = absurd unread
+    go JsonRun asks unread = absurd unread
+    go Explain asks unread = absurd unread
+    go (ListOf name) asks unread = absurd unread
+    go (Resets form) asks unread = absurd unread
+    go (Nosy form) asks unread = absurd unread
 
 -- with words whose input isn't shown as it comes a text is made, and with those of `script` there are 1 to
 -- 63 nodes

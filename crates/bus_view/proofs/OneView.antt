@@ -32,13 +32,15 @@ use Rattle.bus_view.specs.declared.form.CaptureView.{CaptureView}
 use Rattle.bus_view.specs.declared.form.CaptureView.TheVariants.{Packets, Tree as Drawn, Dot, Json}
 use Rattle.bus_view.specs.declared.form.ViewForm.{ViewForm}
 use Rattle.bus_view.specs.declared.form.ViewForm.TheVariants.{Capture, Trace, Waves, DotRun, JsonRun, Script, ListOf, Explain, Resets, Nosy, OfItself}
-use Rattle.bus_view.specs.Answer.{Reading, spelt, refused, IsReading, status_of, ShowsPackets, HasText, IsCaptureView, IsTraceView, traced, at_fault, IsWavesView, dumped, not_dumped, IsGraphView, pictured, not_pictured, IsReportsView, reported, not_reported, IsListView, has_list, has_none, IsView, viewed, no_form, IsExplainView, has_text, has_fault}
+use Rattle.bus_view.specs.Answer.{Reading, spelt, refused, IsReading, status_of, ShowsPackets, HasText, IsCaptureView, IsTraceView, traced, at_fault, IsWavesView, dumped, not_dumped, IsGraphView, pictured, not_pictured, IsReportsView, reported, not_reported, IsListView, has_list, has_none, IsView, IsExplainView, has_text, has_fault}
 use Rattle.reset_log.specs.OneText.{NoLogHasTwoTexts}
 use Rattle.nosy_dump.specs.OneText.{NoDumpHasTwoTexts}
 use Rattle.bus_view.specs.Explained.{explanation, IsExplained}
 use Rattle.bus_view.specs.Log.{status_if}
 use Rattle.bus_view.specs.OneAnswer.{NoInputHasTwoViews}
 use Rattle.bus_view.proofs.Said.{one_explained}
+use Rattle.top_call.proofs.Lemmas.{none_twice}
+use Rattle.bus_view.specs.Form.{Asks}
 use Rattle.bus_view.proofs.Forms.{one_form}
 
 -- ---- a capture has one reading
@@ -259,9 +261,4 @@ same_view one (OfItself about) bytes s r a b x y = (x.0 ∙ sym y.0, x.1 ∙ sym
 -- ---- words and bytes have one answer
 
 pub one_answer : HasOneReading → NoInputHasTwoViews
-one_answer one words bytes s r a b (viewed form asks x) (viewed other again y) =
-    let same : form ≡ other = one_form words form other asks again in
-    same_view one other bytes s r a b (subst (λ (f : ViewForm). IsView f bytes s a) same x) y
-one_answer one words bytes s r a b (viewed form asks x) (no_form none is empty) = absurd (none (form, asks))
-one_answer one words bytes s r a b (no_form none is empty) (viewed form asks y) = absurd (none (form, asks))
-one_answer one words bytes s r a b (no_form none is empty) (no_form no_one too nothing) = (is ∙ sym too, empty ∙ sym nothing)
+one_answer one words = none_twice (Asks words) IsView (one_form words) (same_view one)

@@ -1,5 +1,5 @@
 -- The last command of a run prints each tree of its report.
-use Rattle.std.proofs.Common.{◌≡◌, ◌∙◌, inl, inr, ◌⊎◌, ℕ, ◌+◌, ◌++◌, Bool, true, false, cond, List, [], ◌∷◌, Option, Some, None, Result, Ok, Err, length, refl, sym, ap, subst, append_assoc, append-nil, arith}
+use Rattle.std.proofs.Common.{◌≡◌, ◌∙◌, ℕ, ◌+◌, ◌++◌, Bool, true, false, cond, List, [], ◌∷◌, Option, Some, None, Result, Ok, Err, length, refl, sym, ap, subst, append_assoc, append-nil, arith}
 use Rattle.std.specs.Prelude.{All, find}
 use Rattle.std.specs.Option.{option_and_then, option_or}
 use Rattle.std.proofs.lemmas.List.{get_or_push, length-append}
@@ -14,18 +14,17 @@ use Rattle.script_lines.specs.declared.kind.Kind.{Kind}
 use Rattle.script_lines.specs.declared.kind.ScriptFault.{ScriptFault}
 use Rattle.script_lines.specs.declared.command.Command.{Command}
 use Rattle.script_lines.specs.declared.command.Command.TheVariants.{Settle}
-use Rattle.script_lines.specs.Line.{Reads}
 use Rattle.settle.specs.declared.report.Outcome.{Outcome}
 use Rattle.settle.specs.declared.report.Outcome.TheVariants as reported
 use Rattle.settle.specs.declared.report.Part.{Part}
 use Rattle.settle.specs.declared.report.Report.{Report}
-use Rattle.script_text.specs.ReportText.{Names, component_line, report_line, IsTreeText, IsOutcomeText, IsPartText, ArePartTexts, none, more, IsReportText, root_line, names_in}
-use Rattle.script_told.specs.Bus.{Bus, Notes, Reported, tree_of, part_with, tree_with}
-use Rattle.script_told.specs.Step.{LineAnswer, Settles}
+use Rattle.script_text.specs.ReportText.{Names, component_line, report_line, IsTreeText, IsOutcomeText, IsPartText, ArePartTexts, none, more, root_line, names_in}
+use Rattle.script_told.specs.Bus.{Bus, Reported, tree_of, part_with, tree_with}
+use Rattle.script_told.specs.Step.{LineAnswer}
 use Rattle.script_told.specs.EachReport.{DoesReport, IsReportOf, IsReportedAt, EachReportIsSettled}
 use Rattle.script_told.specs.PrintedTree.{IsPieceOf}
-use Rattle.script_told.specs.Script.{Stage, running, StageAnswer, bus_of, ranges_of, script_lines, fresh}
-use Rattle.script_told.specs.Run.{Entry, ScriptRun, done, stopped, behind, last_run, Goes, Takes, RunsFrom, IsRun}
+use Rattle.script_told.specs.Script.{Stage, running, StageAnswer, script_lines, fresh}
+use Rattle.script_told.specs.Run.{Entry, ScriptRun, done, stopped, last_run, Goes, Takes, RunsFrom, IsRun}
 use Rattle.bus_view.specs.Captured.{IsLast}
 
 -- ---- the last command

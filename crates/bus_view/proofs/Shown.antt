@@ -8,7 +8,7 @@ use Rattle.reset_log.specs.declared.stop.LogStop.{LogStop}
 use Rattle.reset_log.specs.declared.stop.LogStop.TheVariants.{ReadFault, WriteFault, TooLong, Memory}
 use Rattle.reset_log.specs.Answered.{IsExact, IsComplete, IsFront, IsSure}
 use Rattle.io_edges.specs.Streams.{IsWritten, OfTheAnswer}
-use Rattle.bus_cli.proofs.Lemmas.{of_answer}
+use Rattle.top_call.proofs.Lemmas.{of_answer}
 use Rattle.bus_view.specs.Log.{status_if, ShowsAsItComes}
 use Rattle.bus_view.specs.codings.Log.{log_status}
 

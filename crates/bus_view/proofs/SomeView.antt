@@ -1,5 +1,5 @@
 -- All words and bytes have an answer.
-use Rattle.std.proofs.Common.{◌≡◌, ◌<◌, ◌-◌, ◌+◌, ◌⊎◌, inl, inr, ℕ, List, [], Ok, Err, length, refl, sym, ap}
+use Rattle.std.proofs.Common.{◌≡◌, ◌<◌, ◌+◌, inl, inr, ℕ, List, [], Ok, Err, length, refl, sym, ap}
 use Rattle.std.specs.Prelude.{All, codes}
 use Rattle.quad_lanes.specs.Pairs.{quads_of}
 use Rattle.self_id.specs.declared.standard.Standard.{Standard}
@@ -31,15 +31,16 @@ use Rattle.about.specs.Told.{about_text}
 use Rattle.reset_log.specs.OneText.{EachLogHasAText}
 use Rattle.nosy_dump.specs.OneText.{EachDumpHasAText}
 use Rattle.bus_view.specs.declared.help.TheConstants.{VIEW_HELP}
-use Rattle.bus_view.specs.Form.{IsForm}
+use Rattle.bus_view.specs.Form.{Asks}
 use Rattle.bus_view.specs.Log.{status_if}
 use Rattle.bus_view.specs.Sentence.{place, note}
-use Rattle.bus_view.specs.Answer.{Reading, spelt, refused, IsReading, status_of, HasText, IsCaptureView, IsTraceView, traced, at_fault, IsWavesView, dumped, not_dumped, IsGraphView, pictured, not_pictured, IsReportsView, reported, not_reported, IsListView, has_list, has_none, IsView, Answers, viewed, no_form, IsExplainView, has_text, has_fault}
+use Rattle.bus_view.specs.Answer.{Reading, spelt, refused, IsReading, status_of, HasText, IsCaptureView, IsTraceView, traced, at_fault, IsWavesView, dumped, not_dumped, IsGraphView, pictured, not_pictured, IsReportsView, reported, not_reported, IsListView, has_list, has_none, IsView, IsExplainView, has_text, has_fault}
 use Rattle.script_words.specs.Before.{feed_lines}
 use Rattle.bus_view.specs.Explained.{explanation}
 use Rattle.bus_view.specs.Json.{fault_value}
 use Rattle.bus_view.specs.OneAnswer.{EachInputHasAView}
 use Rattle.bus_view.proofs.Said.{some_explained}
+use Rattle.top_call.proofs.Lemmas.{each_answered}
 use Rattle.bus_view.proofs.Forms.{form_or_none}
 use Rattle.bus_view.proofs.SomePacket.{packets-of-bytes}
 use Rattle.view_text.proofs.Lemmas.{some-drawing}
@@ -168,8 +169,4 @@ module _ (have : HasSomeReading) where
   some-view (OfItself about) bytes fit = (0, about_text about (codes "busview") VIEW_HELP.now, (refl, refl))
 
   pub some-answer : EachInputHasAView
-  some-answer words bytes fit = go (form_or_none words)
-    where
-      go : IsForm words ⊎ (IsForm words → ⊥) → HasSome (Answers words bytes)
-      go (inl f) = let a = some-view f.0 bytes fit in (a.0, a.1, viewed f.0 f.1 a.2)
-      go (inr none) = (2, [], no_form none refl refl)
+  some-answer words = each_answered (Asks words) IsView (form_or_none words) (λ form asks. some-view form)

@@ -1,5 +1,5 @@
 -- The value of a fault has what the line of the fault has.
-use Rattle.std.specs.Prelude.{ℕ, Option, Some, None, List, codes}
+use Rattle.std.specs.Prelude.{Some, None, codes}
 use Rattle.std.proofs.Common.{refl}
 use Rattle.self_id.specs.declared.fault.GroupFault.TheVariants.{NotSelfId, WrongId, BadOrder, Cut, TwoParents}
 use Rattle.topology_stack.specs.declared.fault.TreeFault.TheVariants.{Group, Empty, TooFewChildren, TreesLeft, AfterRoot, NoRoot, TooMany}

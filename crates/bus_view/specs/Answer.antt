@@ -31,7 +31,8 @@ use Rattle.bus_view.specs.declared.form.CaptureView.TheVariants.{Packets, Tree a
 use Rattle.bus_view.specs.declared.form.ViewForm.{ViewForm}
 use Rattle.bus_view.specs.declared.form.ViewForm.TheVariants.{Capture, Trace, Waves, DotRun, JsonRun, Script, ListOf, Explain, Resets, Nosy, OfItself}
 use Rattle.bus_view.specs.declared.help.TheConstants.{VIEW_HELP}
-use Rattle.bus_view.specs.Form.{Asks, IsForm}
+use Rattle.top_call.specs.Asked.{AnswersAsked}
+use Rattle.bus_view.specs.Form.{Asks}
 use Rattle.bus_view.specs.Sentence.{place, note}
 use Rattle.bus_view.specs.Explained.{explanation, IsExplained}
 use Rattle.bus_view.specs.Json.{fault_value}
@@ -145,9 +146,6 @@ IsView (Resets form) bytes status text = IsLogView form bytes status text
 IsView (Nosy form) bytes status text = IsDumpView form bytes status text
 IsView (OfItself about) bytes status text = IsViewOfItself about status text
 
--- the status and the text of words and bytes
-pub data Answers (words : List (String Global)) (bytes : List ℕ) (status : ℕ)
-    (text : List ℕ) : Type 0 where
-  viewed : (form : ViewForm) → Asks words form → IsView form bytes status text →
-      Answers words bytes status text
-  no_form : ¬ IsForm words → status ≡ 2 → text ≡ [] → Answers words bytes status text
+-- what the words ask for is shown, and words that are no form are answered by 2 and nothing
+abbrev pub Answers : List (String Global) → List ℕ → ℕ → List ℕ → Type 0
+Answers words = AnswersAsked (Asks words) IsView

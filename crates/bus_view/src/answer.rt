@@ -7,7 +7,7 @@ ghost use Rattle.bus_view.specs.declared.form.CaptureView.{CaptureView};
 ghost use Rattle.bus_view.specs.Answer.{IsFault, IsCaptureView, IsTraceView, IsWavesView, IsGraphView, IsReportsView, IsScriptView, IsListView, IsView, IsExplainView, IsViewOfItself};
 ghost use Rattle.bus_view.specs.Explained.{explanation_in, explanation, line_said, AreSaid, IsBehind, IsExplained};
 ghost use Rattle.script_words.specs.Before.{feed_lines};
-ghost use Rattle.bus_view.specs.codings.Reading.{IsRead, IsHeld};
+ghost use Rattle.bus_view.specs.codings.Reading.{IsRead};
 ghost use Rattle.capture_reading.specs.Line.{fault_line};
 
 use crate::form::{CaptureView, ViewForm};
@@ -15,7 +15,7 @@ use crate::help::VIEW_HELP;
 use crate::refusal::fault_json;
 use crate::sentence::note_of;
 use about::{About, about_text};
-use bus_cli::{MAX_INPUT, REFUSED, VALID, kind_word, script_line};
+use bus_cli::{MAX_INPUT, kind_word, script_line};
 use bus_json::{bus_line, line_refusal};
 use capture_reading::{CaptureFault, CaptureStop, fault_line, read_capture};
 use io_edges::{ReadStop, Source, read_all};
@@ -28,14 +28,29 @@ use script_run::{
 use script_words::{CutScript, Kind, put_sentence};
 use self_id::Standard;
 use std::alloc::Global;
+use top_call::{REFUSED, Told, VALID};
 use topology_stack::{BusTree, Name, OutOfMemory};
 use view_text::{Note, packets_of, pairs_text, tree_drawing, tree_graph};
 
 /// What is written, and the status.
 #[derive(Debug, Drop)]
-pub(crate) struct View {
+pub struct View {
     pub(crate) status: u8,
     pub(crate) text: Vec<u8>,
+}
+
+impl Told for View {
+    ghost status_of = { λ view. view.status };
+
+    ghost text_of = { λ view. view.text.items };
+
+    fn status(&self) -> u8 {
+        self.status
+    }
+
+    fn text(&self) -> &[u8] {
+        &self.text
+    }
 }
 
 /// The fault that a capture has by a standard, if it has one.
@@ -341,7 +356,7 @@ fn view_list(alloc: Global, name: &Name, bytes: &[u8]) -> Result<View, OutOfMemo
 }
 
 /// The script that is made for so many nodes, 1 to 63, and a seed.
-fn view_script(alloc: Global, nodes: u8, seed: u32) -> Result<View, OutOfMemory>
+pub(crate) fn view_script(alloc: Global, nodes: u8, seed: u32) -> Result<View, OutOfMemory>
     requires least { 1 ≤ nodes }
     requires most { nodes ≤ 63 }
     ensures { IfOk result (λ view. IsScriptView nodes seed view.status view.text.items) }
@@ -353,7 +368,7 @@ fn view_script(alloc: Global, nodes: u8, seed: u32) -> Result<View, OutOfMemory>
 }
 
 /// What the program says of itself.
-fn view_of_itself(alloc: Global, about: About) -> Result<View, OutOfMemory>
+pub(crate) fn view_of_itself(alloc: Global, about: About) -> Result<View, OutOfMemory>
     ensures { IfOk result (λ view. IsViewOfItself about view.status view.text.items) }
 {
     Ok(View {
@@ -387,7 +402,11 @@ fn view_of(alloc: Global, form: ViewForm, bytes: &[u8]) -> Result<View, OutOfMem
 }
 
 /// The view of the whole input, in a form that reads it.
-fn view_all<S: Source>(alloc: Global, form: ViewForm, source: &mut S) -> Result<View, ReadStop>
+pub(crate) fn view_all<S: Source>(
+    alloc: Global,
+    form: ViewForm,
+    source: &mut S,
+) -> Result<View, ReadStop>
     requires { IsRead form }
     ensures answer { IfOk result (λ view. (bytes : List ℕ) × AreLeft (S.left source.old) bytes
         × IsView form bytes view.status view.text.items) }
@@ -402,34 +421,4 @@ fn view_all<S: Source>(alloc: Global, form: ViewForm, source: &mut S) -> Result<
 {
     let bytes = read_all(alloc, source, MAX_INPUT)?;
     Ok(view_of(alloc, form, &bytes)?)
-}
-
-/// The view of what a source gives, in a form: it reads the source to its end, unless the form is
-/// `script` or asks for something of the program itself, with which it reads nothing.
-pub(crate) fn read_view<S: Source>(
-    alloc: Global,
-    form: ViewForm,
-    source: &mut S,
-) -> Result<View, ReadStop>
-    requires { IsHeld form }
-    ensures answer { IfOk result (λ view. (bytes : List ℕ) × AreLeft (S.left source.old) bytes
-        × IsView form bytes view.status view.text.items) }
-    ensures end { OnOk result (IsRead form → IsAtEnd (S.left source.new)) }
-    ensures unread { (¬ IsRead form) → source.new ≡ source.old }
-    ensures unfailing { (¬ IsRead form) → IsOkUnless result (ReadStop.Memory alloc_error) }
-
-    // When each stop comes.
-    ensures fault { IsErrOf result ReadStop.ReadFault →
-        Rose (S.faults source.old) (S.faults source.new) }
-    ensures long { IfTold (S.left source.old) (S.left source.new) (λ old new.
-        IsErrOf result ReadStop.TooLong ↔ TookOver 1048576 old new) }
-    ensures complete { ¬ Rose (S.faults source.old) (S.faults source.new) →
-        IfSome (S.left source.old) (λ bytes. length bytes ≤ 1048576 →
-        IsOkUnless result (ReadStop.Memory alloc_error)) }
-{
-    match form {
-        ViewForm::Script { nodes, seed } => Ok(view_script(alloc, nodes, seed)?),
-        ViewForm::OfItself(about) => Ok(view_of_itself(alloc, about)?),
-        form => view_all(alloc, form, source),
-    }
 }

@@ -4,11 +4,11 @@ ghost use Rattle.nosy_dump.specs.Dump.{IsBegun};
 ghost use Rattle.bus_view.specs.Log.{IsLogView, IsDumpView, IsLogBegun, ShowsAsItComes};
 ghost use Rattle.bus_view.specs.codings.Log.{log_status};
 
-use bus_cli::{NO_MEMORY, READ_FAULT, REFUSED, TOO_LONG, VALID, WRITE_FAULT};
 use io_edges::{Sink, Source};
 use nosy_dump::{dumps_have_one_text, show_dump};
 use reset_log::{LogForm, LogStop, logs_have_one_text, show_log};
 use std::alloc::Global;
+use top_call::{NO_MEMORY, READ_FAULT, REFUSED, TOO_LONG, VALID, WRITE_FAULT};
 
 /// The status of a log or a dump that was shown.
 fn status_shown(shown: Result<bool, LogStop>) -> u8

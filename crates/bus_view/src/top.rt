@@ -1,14 +1,12 @@
 //! The top call.
-ghost use Rattle.std.specs.Prelude.{◌≡◌, ◌≢◌, ℕ, ◌≤◌, ◌⊎◌, ◌↔◌, List, [], length, IfSome};
-ghost use Rattle.std.specs.Io.KnownBytes.{Appends, IsAtEnd};
-ghost use Rattle.io_edges.specs.Faults.{Rose};
-ghost use Rattle.io_edges.specs.Told.{AppendsStart, IfTold, TookOver};
+ghost use Rattle.std.specs.Prelude.{◌≡◌, ◌≢◌, ℕ, ◌⊎◌, ◌↔◌, List};
+ghost use Rattle.std.specs.Io.KnownBytes.{Appends};
 ghost use Rattle.script_made.specs.Made.{made_script};
 ghost use Rattle.about.specs.declared.asked.About.{About};
 ghost use Rattle.self_id.specs.declared.standard.Standard.{Standard};
 ghost use Rattle.reset_log.specs.declared.form.LogForm.{LogForm};
 ghost use Rattle.nosy_dump.specs.Dump.{IsBegun};
-ghost use Rattle.io_edges.specs.Streams.{IsWritten, KeepsStreams, Writes};
+ghost use Rattle.io_edges.specs.Streams.{IsWritten, KeepsStreams};
 ghost use Rattle.bus_view.specs.declared.form.CaptureView.{CaptureView};
 ghost use Rattle.bus_view.specs.declared.form.ViewForm.{ViewForm};
 ghost use Rattle.bus_view.specs.Form.{Asks, AsksLog, AsksNoInput, IsForm};
@@ -19,76 +17,14 @@ ghost use Rattle.bus_view.specs.Log.{IsLogView, IsDumpView, IsLogBegun, ShowsAsI
 ghost use Rattle.bus_view.specs.Captured.{AnswersCapture};
 ghost use Rattle.bus_view.specs.Summed.{IsSummedScript};
 
-use crate::answer::read_view;
 use crate::form::ViewForm;
 use crate::laws::{captures_are_of_reports, make_sums_up_the_script, one_view};
 use crate::logs::{show_nosy, show_resets};
-use bus_cli::{NO_FORM, NO_MEMORY, READ_FAULT, TOO_LONG, WRITE_FAULT};
-use io_edges::{ReadStop, Sink, Source, write_whole};
+use io_edges::{Sink, Source};
 use nosy_dump::dump_form;
 use reset_log::resets_form;
 use std::alloc::Global;
-
-/// Answers words that ask for no log and no dump, as `view_main` has it.
-fn view_words<S: Source, K: Sink>(
-    alloc: Global,
-    words: &[String],
-    source: &mut S,
-    sink: &mut K,
-) -> u8
-    requires { ¬ AsksLog words.now }
-    ensures status { result ≤ 6 }
-    ensures answer { (result ≡ 0) ⊎ (result ≡ 1) → IfSome (S.left source.old) (λ bytes.
-        (text : List ℕ) × Answers words.now bytes result text
-        × Appends (K.written sink.old) (K.written sink.new) text) }
-    ensures end { (result ≡ 0) ⊎ (result ≡ 1) ⊎ (result ≡ 4) → (¬ AsksNoInput words.now) →
-        IsAtEnd (S.left source.new) }
-    ensures unfailing { AsksNoInput words.now → (result ≢ 1) × (result ≢ 3) × (result ≢ 6) }
-    ensures script { (nodes seed : ℕ) → Asks words.now (ViewForm.Script nodes seed) → result ≡ 0 →
-        Appends (K.written sink.old) (K.written sink.new) (made_script nodes seed) }
-    ensures itself { (about : About) → Asks words.now (ViewForm.OfItself about) → result ≡ 0 →
-        (text : List ℕ) × IsViewOfItself about 0 text
-        × Appends (K.written sink.old) (K.written sink.new) text }
-    ensures no_form { (result ≡ 2) ↔ (¬ IsForm words.now) }
-    ensures read_fault { result ≡ 3 → Rose (S.faults source.old) (S.faults source.new) }
-    ensures write_fault { result ≡ 4 → Rose (K.faults sink.old) (K.faults sink.new) }
-    ensures too_long { IfTold (S.left source.old) (S.left source.new) (λ old new.
-        (result ≡ 6) ↔ TookOver 1048576 old new) }
-    ensures unread { (result ≡ 2) ⊎ AsksNoInput words.now → source.new ≡ source.old }
-    ensures unwritten { 2 ≤ result → result ≢ 4 → sink.new ≡ sink.old }
-    ensures part { result ≡ 4 → IfSome (S.left source.old) (λ bytes.
-        (status : ℕ) × (text : List ℕ) × Answers words.now bytes status text
-        × AppendsStart (K.written sink.old) (K.written sink.new) text) }
-    ensures exact { IfSome (S.left source.old) (λ bytes. (status : ℕ) (text : List ℕ) →
-        Answers words.now bytes status text → (result ≡ status) ⊎ (3 ≤ result)) }
-    ensures complete { ¬ Rose (S.faults source.old) (S.faults source.new) →
-        ¬ Rose (K.faults sink.old) (K.faults sink.new) →
-        IfSome (S.left source.old) (λ bytes. length bytes ≤ 1048576 →
-        (status : ℕ) (text : List ℕ) → Answers words.now bytes status text →
-        ((result ≡ status) × Appends (K.written sink.old) (K.written sink.new) text)
-        ⊎ (result ≡ 5)) }
-    ensures sure { IfSome (S.left source.old) (λ bytes. (status : ℕ) (text : List ℕ) →
-        Answers words.now bytes status text → K.surely_takes sink.old (length text) →
-        K.faults sink.new ≡ K.faults sink.old) }
-    ensures alone { AsksNoInput words.now → (status : ℕ) (text : List ℕ) →
-        Answers words.now [] status text →
-        Writes K.written K.faults K.surely_takes result sink.old sink.new status text }
-{
-    one_view();
-    let Some(form) = ViewForm::of_words(words) else {
-        return NO_FORM;
-    };
-    let view = match read_view(alloc, form, source) {
-        Ok(view) => view,
-        Err(ReadStop::ReadFault) => return READ_FAULT,
-        Err(ReadStop::TooLong) => return TOO_LONG,
-        Err(ReadStop::Memory(_)) => return NO_MEMORY,
-    };
-    match write_whole(sink, &view.text) {
-        Ok(()) => view.status,
-        Err(_) => WRITE_FAULT,
-    }
-}
+use top_call::answer;
 
 /// Answers the words, as `view_main` has it.
 fn view_asked<S: Source, K: Sink>(
@@ -123,7 +59,7 @@ fn view_asked<S: Source, K: Sink>(
     if let Some(form) = dump_form(words) {
         return show_nosy(alloc, form, source, sink);
     }
-    view_words(alloc, words, source, sink)
+    answer::<ViewForm, S, K>(alloc, words, source, sink)
 }
 
 /// Does what the words after the program's name ask for: reads a capture or a script from `source`,

@@ -1,5 +1,6 @@
 -- What reading an input may answer. No public contract cites this file.
-use Rattle.std.specs.Prelude.{◌≡◌, ℕ, ◌≤◌, List, [], Result, Ok, Err}
+use Rattle.std.specs.Prelude.{◌≡◌, ℕ, ◌≤◌, List, [], Option, IfSome, Result, Ok, Err}
+use Rattle.std.specs.Io.KnownBytes.{IsAtEnd}
 use Rattle.self_id.specs.declared.standard.Standard.{Standard}
 use Rattle.self_id.specs.declared.standard.Standard.TheVariants.{Ieee2000}
 use Rattle.topology_stack.specs.Tree.{Tree}
@@ -15,14 +16,14 @@ use Rattle.capture_reading.specs.declared.fault.CaptureStop.{CaptureStop}
 use Rattle.capture_reading.specs.declared.fault.CaptureStop.TheVariants.{Fault, Memory}
 use Rattle.capture_reading.specs.Capture.{Spells, CaptureRefused}
 
--- the input is read with this form
-abbrev pub IsRead : Form → Type 0
-IsRead (Capture form) = Unit {0}
-IsRead Rom = Unit {0}
-IsRead Run = Unit {0}
-IsRead Advice = Unit {0}
-IsRead (Make nodes seed) = ⊥
-IsRead (OfItself about) = ⊥
+-- nothing is read with this form
+abbrev pub IsUnread : Form → Type 0
+IsUnread (Capture form) = ⊥
+IsUnread Rom = ⊥
+IsUnread Run = ⊥
+IsUnread Advice = ⊥
+IsUnread (Make nodes seed) = Unit {0}
+IsUnread (OfItself about) = Unit {0}
 
 -- the form asks for 1 to 63 nodes, where it asks for nodes
 abbrev pub AsksFewNodes : Form → Type 0
@@ -44,6 +45,12 @@ abbrev pub SparesMemory : List ℕ → Result Tree CaptureStop → Type 0
 SparesMemory bytes (Ok t) = Unit {0}
 SparesMemory bytes (Err (Fault f)) = Unit {0}
 SparesMemory bytes (Err (Memory e)) = (t : Tree) × Spells Ieee2000 bytes t
+
+-- where there was no memory for the form's answer, this is known of the bytes that were left and are
+-- left
+abbrev pub WantsMemory : Form → Option (List ℕ) → Option (List ℕ) → Type 0
+WantsMemory form old new = form ≡ Capture Read →
+    IsAtEnd new × IfSome old (λ bytes. (t : Tree) × Spells Ieee2000 bytes t)
 
 -- no fault was found
 abbrev pub IsNoFault : Result Tree CaptureStop → Type 0

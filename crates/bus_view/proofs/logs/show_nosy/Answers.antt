@@ -5,7 +5,6 @@ use Rattle.reset_log.specs.declared.form.LogForm.{LogForm}
 use Rattle.reset_log.specs.declared.stop.LogStop.{LogStop}
 use Rattle.nosy_dump.specs.Dump.{IsDumpShown, IsWritten, IsBegun}
 use Rattle.bus_view.specs.Log.{IsDumpView, ShowsAsItComes}
-use Rattle.bus_view.specs.codings.Log.{log_status}
 use Rattle.bus_view.proofs.Shown.{answered_well, shows}
 use Rattle.bus_view.proofs.logs.show_nosy.Goals as goal
 

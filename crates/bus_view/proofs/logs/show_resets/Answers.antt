@@ -5,7 +5,6 @@ use Rattle.reset_log.specs.declared.form.LogForm.{LogForm}
 use Rattle.reset_log.specs.declared.stop.LogStop.{LogStop}
 use Rattle.reset_log.specs.Log.{lines_of, IsLogShown, AreWritten}
 use Rattle.bus_view.specs.Log.{IsLogView, IsLogBegun, ShowsAsItComes}
-use Rattle.bus_view.specs.codings.Log.{log_status}
 use Rattle.bus_view.proofs.Shown.{answered, shows}
 use Rattle.bus_view.proofs.logs.show_resets.Goals as goal
 

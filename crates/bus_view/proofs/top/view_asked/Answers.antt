@@ -1,13 +1,12 @@
-use Rattle.std.proofs.Common.{◌≡◌, ◌⊎◌, inl, inr, ◌<◌, ◌≤◌, [], length, refl, subst}
-use Rattle.std.proofs.lemmas.List.Elements.{All-nil}
+use Rattle.std.proofs.Common.{◌≡◌, ◌⊎◌, inl, inr, [], refl, subst}
 use Rattle.std.specs.Io.KnownBytes.{Appends}
 use Rattle.reset_log.specs.declared.form.LogForm.{LogForm}
 use Rattle.nosy_dump.specs.Dump.{IsBegun}
-use Rattle.bus_cli.proofs.Lemmas.{of_answer, of_few}
-use Rattle.bus_view.specs.declared.form.ViewForm.TheVariants.{Resets, Nosy}
-use Rattle.bus_view.specs.Answer.{Answers}
+use Rattle.top_call.proofs.Lemmas.{unread_as, unread_written}
+use Rattle.bus_view.specs.declared.form.ViewForm.TheVariants.{Script, Resets, Nosy, OfItself}
 use Rattle.bus_view.specs.Log.{IsLogView, IsDumpView, IsLogBegun, ShowsAsItComes}
-use Rattle.bus_view.proofs.Forms.{input_apart, one_resets, one_nosy, no_dump}
+use Rattle.bus_view.proofs.Ends.{of_form}
+use Rattle.bus_view.proofs.Forms.{input_apart, is_held, one_resets, one_nosy, no_dump, unread_form, form_unread}
 use Rattle.bus_view.proofs.top.view_asked.Goals as goal
 
 pub returns-in-Some-clause-streams : goal.returns-in-Some-clause-streams
@@ -86,41 +85,35 @@ returns-in-Some-dump_form-clause-itself g c = λ about itself zero.
     let asks = (c.in-Some-dump_form.ensures c.in-Some-dump_form.form).0 refl in
     absurd (input_apart c.args.words.now (inr (about, itself)) (c.in-Some-dump_form.form, inr asks))
 
-pub returns-clause-streams : goal.returns-clause-streams
-returns-clause-streams g c = λ no_log.
-    let is = c.view_words.ensures in
-    let status = c.view_words.result in
-    let some = c.one_view.ensures.some c.args.words.now in
-    let left = g.S.Source.left c.args.source.now in
-    let fit = g.met.S.Source.fit c.args.source.now in
-    let old = g.K.Sink.written c.args.sink.now in
-    let new = g.K.Sink.written c.view_words.new.sink in
-    record {
-      few = is.status;
-      answer = is.answer;
-      end = is.end;
-      read_fault = is.read_fault;
-      write_fault = is.write_fault;
-      too_long = is.too_long;
-      unread = is.unread;
-      unwritten = is.unwritten;
-      part = is.part;
-      exact = of_answer (Answers c.args.words.now) some left (λ s text. (status ≡ s) ⊎ (3 ≤ status)) fit is.exact;
-      complete = λ reads writes.
-          of_few (Answers c.args.words.now) some left
-          (λ s text. ((status ≡ s) × Appends old new text) ⊎ (status ≡ 5)) fit (is.complete reads writes);
-      sure =
-          of_answer (Answers c.args.words.now) some left
-          (λ s text. g.K.Sink.surely_takes c.args.sink.now (length text) → g.K.Sink.faults c.view_words.new.sink ≡ g.K.Sink.faults c.args.sink.now)
-          fit is.sure;
-      alone = λ asks. record { holds = is.alone asks; some = some [] (All-nil (λ b. b < 256)) };
-    }
-
-pub view_words-requires : goal.view_words-requires
-view_words-requires g c = λ log. elim log.1 [
+pub answer-requires-clause-held : goal.answer-requires-clause-held
+answer-requires-clause-held g c = λ form asks. is_held c.args.words.now form asks (λ log. elim log.1 [
   | inl resets ↦ let e = (c.in_default.ensures log.0).1 resets in cc
   | inr nosy ↦ let e = (c.in_default-dump_form.ensures log.0).1 nosy in cc
-]
+])
+
+pub answer-requires-clause-some : goal.answer-requires-clause-some
+answer-requires-clause-some g c = c.one_view.ensures.some c.args.words.now
+
+pub answer-requires-clause-one : goal.answer-requires-clause-one
+answer-requires-clause-one g c = c.one_view.ensures.one c.args.words.now
+
+pub returns-clause-streams : goal.returns-clause-streams
+returns-clause-streams g c = λ no_log.
+    unread_as _ _ _ _ _ _ _ _ _ _ _ _ _ (form_unread c.args.words.now) (unread_form c.args.words.now) c.answer.ensures.streams
+
+pub returns-clause-unfailing : goal.returns-clause-unfailing
+returns-clause-unfailing g c = λ none. c.answer.ensures.unfailing (unread_form c.args.words.now none)
+
+pub returns-clause-script : goal.returns-clause-script
+returns-clause-script g c = λ nodes seed asks zero.
+    let w = unread_written _ _ _ _ _ _ _ _ _ _ _ _ c.answer.ensures.streams (Script nodes seed, asks, tt) zero in
+    subst (Appends (g.K.Sink.written c.args.sink.now) (g.K.Sink.written c.answer.new.sink))
+    (of_form c.args.words.now (Script nodes seed) asks [] 0 w.0 w.1).1 w.2
+
+pub returns-clause-itself : goal.returns-clause-itself
+returns-clause-itself g c = λ about asks zero.
+    let w = unread_written _ _ _ _ _ _ _ _ _ _ _ _ c.answer.ensures.streams (OfItself about, asks, tt) zero in
+    (w.0, of_form c.args.words.now (OfItself about) asks [] 0 w.0 w.1, w.2)
 
 pub returns-clause-resets : goal.returns-clause-resets
 returns-clause-resets g c = λ form resets. absurd (let e = (c.in_default.ensures form).1 resets in cc)

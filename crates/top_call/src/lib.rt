@@ -1,0 +1,13 @@
+//! A call of a program: words and bytes in, a status and a text out.
+//!
+//! What can be asked for by words is an [`Asked`]. [`answer`] judges the words, reads the bytes and
+//! writes the answer, whatever it is that answers.
+#![tactic(auto)]
+
+mod asked;
+mod call;
+mod status;
+
+pub use asked::{Asked, Told};
+pub use call::answer;
+pub use status::{NO_FORM, NO_MEMORY, READ_FAULT, REFUSED, TOO_LONG, VALID, WRITE_FAULT};
