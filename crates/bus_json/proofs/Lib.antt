@@ -1,4 +1,5 @@
 pub mod ReadBack
+pub mod JsonLines
 pub mod Slots
 pub mod Names
 pub mod Nodes

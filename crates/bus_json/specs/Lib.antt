@@ -1,4 +1,5 @@
 pub mod Text
 pub mod Bus
 pub mod Refusal
+pub mod Lines
 pub mod codings
