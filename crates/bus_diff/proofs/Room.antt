@@ -2,7 +2,7 @@
 use Rattle.std.proofs.Common.{◌≡◌, ◌∙◌, ℕ, zero, suc, ◌+◌, ◌<◌, ◌≤◌, min, ⊎_elim, Bool, true, false, Option, Some, None, List, [], ◌∷◌, ◌++◌, length, refl, subst, arith, eq-eqb, eqb-true, length-append}
 use Rattle.std.specs.Prelude.{slice_get, not, ◌==◌, ◌||◌, ◌&&◌, if◌then◌else◌}
 use Rattle.std.specs.List.{list_any}
-use Rattle.std.proofs.lemmas.Bool.{cases_lt}
+use Rattle.std.proofs.lemmas.Bool.{cases_lt, and_parts}
 use Rattle.std.proofs.lemmas.Option.{slice_get_within}
 use Rattle.self_id.specs.Node.{Node}
 use Rattle.topology_stack.specs.Tree.{Tree, walk}
@@ -10,7 +10,7 @@ use Rattle.view_text.specs.declared.cable.Cable.{Cable}
 use Rattle.bus_diff.specs.declared.pair.Pair.{Pair}
 use Rattle.bus_diff.specs.Matching.{stays, stood}
 use Rattle.bus_diff.specs.Along.{ports_of, is_same_count, may_be_one, with_pair, reached}
-use Rattle.bus_diff.proofs.Matched.{and_left, and_right, not_false}
+use Rattle.bus_diff.proofs.Matched.{not_false}
 use Rattle.bus_diff.proofs.Reached.{walked_keeps}
 
 or_nothing : (a : Bool) → (a || false) ≡ a
@@ -102,9 +102,9 @@ room_with t u ps x r = go (may_be_one t u ps x) refl
     go true e =
         let same = is_same_count (ports_of (slice_get (walk t) x.old)) (ports_of (slice_get (walk u) x.new)) in
         let rest = not (stood ps x.new) && same in
-        let more = and_right (not (stays ps x.old)) rest e in
-        room_push t u ps x r (not_false _ (and_left (not (stays ps x.old)) rest e)) (not_false _ (and_left (not (stood ps x.new)) same more))
-        (both_there (walk t) (walk u) x (slice_get (walk t) x.old) (slice_get (walk u) x.new) refl refl (and_right (not (stood ps x.new)) same more))
+        let more = (and_parts (not (stays ps x.old)) rest e).1 in
+        room_push t u ps x r (not_false _ ((and_parts (not (stays ps x.old)) rest e).0)) (not_false _ ((and_parts (not (stood ps x.new)) same more).0))
+        (both_there (walk t) (walk u) x (slice_get (walk t) x.old) (slice_get (walk u) x.new) refl refl ((and_parts (not (stood ps x.new)) same more).1))
     go false e = r
 
 pub reached_few : (t u : Tree) (far over : List Cable) (start : Pair) →

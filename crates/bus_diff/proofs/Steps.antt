@@ -3,12 +3,12 @@ use Rattle.std.proofs.Common.{◌≡◌, ◌∙◌, ℕ, ◌<◌, ◌⊎◌, inl
 use Rattle.std.specs.Prelude.{Contains, find, ◌==◌, ◌||◌, ◌&&◌, if◌then◌else◌}
 use Rattle.std.proofs.lemmas.List.Elements.{Contains-append_cases, Contains-append_left, Contains-append_right, Contains-push, Contains-push_cases}
 use Rattle.std.proofs.lemmas.List.Sorted.{Contains-permutation, IsPermutation-sym, IsPermutation-reverse}
+use Rattle.std.proofs.lemmas.Bool.{and_parts}
 use Rattle.topology_stack.specs.Tree.{Tree, walk}
 use Rattle.view_text.specs.declared.cable.Cable.{Cable}
 use Rattle.view_text.specs.Cable.{cables}
 use Rattle.bus_diff.specs.declared.pair.Pair.{Pair}
 use Rattle.bus_diff.specs.Along.{may_be_one, with_pair, pair_of, turned, leads_so, other_end, led_to, with_led, stepped, walked, ways, reached_from, IsToldOf, IsStep, IsReached, at_start, by_step, EachPairIsReached}
-use Rattle.bus_diff.proofs.Matched.{and_left, and_right}
 
 none_there : {X : Type 0} (x : X) → Contains [] x → ⊥
 none_there x there = let lt : there.0 < 0 = there.1 in omega (arith, lt)
@@ -65,8 +65,8 @@ step_along : (t u : Tree) (p : Pair) (c d : Cable) → IsToldOf (cables t) c →
 step_along t u p c d told there from leads = ⊎_elim
     (λ (down : ((d.parent == p.new) && ((d.port == c.port) && (d.child_port == c.child_port))) ≡ true).
     let ports = (d.port == c.port) && (d.child_port == c.child_port) in
-    let parent : d.parent ≡ p.new = eqb-true _ _ (and_left (d.parent == p.new) ports down) in
-    let same : ports ≡ true = and_right (d.parent == p.new) ports down in
+    let parent : d.parent ≡ p.new = eqb-true _ _ ((and_parts (d.parent == p.new) ports down).0) in
+    let same : ports ≡ true = (and_parts (d.parent == p.new) ports down).1 in
     record {
       here = c;
       there = d;
@@ -76,13 +76,13 @@ step_along t u p c d told there from leads = ⊎_elim
       from_new = parent;
       to_old = refl;
       to_new = rw (eq-eqb d.parent p.new parent) refl;
-      out = sym (eqb-true _ _ (and_left (d.port == c.port) (d.child_port == c.child_port) same));
-      into = sym (eqb-true _ _ (and_right (d.port == c.port) (d.child_port == c.child_port) same));
+      out = sym (eqb-true _ _ ((and_parts (d.port == c.port) (d.child_port == c.child_port) same).0));
+      into = sym (eqb-true _ _ ((and_parts (d.port == c.port) (d.child_port == c.child_port) same).1));
     })
     (λ (up : ((d.child == p.new) && ((d.child_port == c.port) && (d.port == c.child_port))) ≡ true).
     let ports = (d.child_port == c.port) && (d.port == c.child_port) in
-    let child : d.child ≡ p.new = eqb-true _ _ (and_left (d.child == p.new) ports up) in
-    let same : ports ≡ true = and_right (d.child == p.new) ports up in
+    let child : d.child ≡ p.new = eqb-true _ _ ((and_parts (d.child == p.new) ports up).0) in
+    let same : ports ≡ true = (and_parts (d.child == p.new) ports up).1 in
     record {
       here = c;
       there = turned d;
@@ -92,8 +92,8 @@ step_along t u p c d told there from leads = ⊎_elim
       from_new = child;
       to_old = refl;
       to_new = other child (d.parent == p.new) refl;
-      out = sym (eqb-true _ _ (and_left (d.child_port == c.port) (d.port == c.child_port) same));
-      into = sym (eqb-true _ _ (and_right (d.child_port == c.port) (d.port == c.child_port) same));
+      out = sym (eqb-true _ _ ((and_parts (d.child_port == c.port) (d.port == c.child_port) same).0));
+      into = sym (eqb-true _ _ ((and_parts (d.child_port == c.port) (d.port == c.child_port) same).1));
     })
     (or_cases _ _ leads)
   where

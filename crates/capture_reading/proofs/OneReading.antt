@@ -2,6 +2,7 @@
 use Rattle.std.proofs.Common.{◌⊎◌, inl, inr, Bool, true, false, eqb, refl, ◌/◌, ◌≡◌, ℕ, ◌%◌, ◌<◌, List, length, Option, Some, None, sym, ap, subst, ◌∙◌, arith}
 use Rattle.std.specs.List.{All}
 use Rattle.std.proofs.lemmas.Bool.{eqb-true, eqb-false}
+use Rattle.std.proofs.lemmas.Option.{same_Some}
 use Rattle.quad_lanes.specs.Capture.{CapturesAreWhole, CapturesAreGood, CapturesAreReadBack, GoodPairsAreACapture}
 use Rattle.quad_lanes.specs.Pairs.{quads_of, firsts, first_bad_pair}
 use Rattle.topology_stack.specs.declared.fault.TreeFault.{TreeFault}
@@ -58,15 +59,12 @@ apart back lists standard bytes t (BadInverse pair) a r = not_bad back _ bytes p
 apart back lists standard bytes t (TreeRefused f) a (quads, captured, refused) =
     lists.tree standard t f a.bus (subst (λ (l : List ℕ). Refused standard l f) (same_list back _ _ bytes captured a.captured) refused)
 
-same_pair : (p q : ℕ) (found : Option ℕ) → found ≡ Some p → found ≡ Some q → p ≡ q
-same_pair p q found a b = cc
-
 pub one_fault : ReadsBack → OneAnswer → NoCaptureHasTwoFaults
 one_fault back lists standard bytes (BadLength p) (BadLength q) a b = ap (λ (n : ℕ). BadLength n) (a.1 ∙ sym b.1)
 one_fault back lists standard bytes (BadLength p) (BadInverse q) a b = absurd (a.0 b.0)
 one_fault back lists standard bytes (BadLength p) (TreeRefused g) a (quads, captured, refused) = absurd (a.0 (is_whole back quads bytes captured))
 one_fault back lists standard bytes (BadInverse p) (BadLength q) a b = absurd (b.0 a.0)
-one_fault back lists standard bytes (BadInverse p) (BadInverse q) a b = ap (λ (n : ℕ). BadInverse n) (same_pair p q _ a.1 b.1)
+one_fault back lists standard bytes (BadInverse p) (BadInverse q) a b = ap (λ (n : ℕ). BadInverse n) (same_Some p q (sym a.1 ∙ b.1))
 one_fault back lists standard bytes (BadInverse p) (TreeRefused g) a (quads, captured, refused) = absurd (not_bad back quads bytes p captured a.1)
 one_fault back lists standard bytes (TreeRefused f) (BadLength q) (quads, captured, refused) b = absurd (b.0 (is_whole back quads bytes captured))
 one_fault back lists standard bytes (TreeRefused f) (BadInverse q) (quads, captured, refused) b = absurd (not_bad back quads bytes q captured b.1)

@@ -2,13 +2,14 @@
 use Rattle.std.proofs.Common.{◌≡◌, ◌⊎◌, inl, inr, ℕ, ◌<◌, Option, Some, None, List, length, refl, ap, sym, ◌∙◌, subst, arith}
 use Rattle.std.specs.List.{All}
 use Rattle.std.proofs.lemmas.List.Elements.{recursion_from_All, All-from_recursion}
-use Rattle.quad_lanes.specs.Pairs.{quads_of}
+use Rattle.quad_lanes.specs.Pairs.{quads_of, bytes_of}
+use Rattle.quad_lanes.proofs.Lemmas.{length-bytes_of}
 use Rattle.config_rom.specs.declared.fault.RomFault.{RomFault}
-use Rattle.config_rom.specs.Rom.{Parts, IsRom, bytes_of, rom_quads, rom_bytes}
+use Rattle.config_rom.specs.Rom.{Parts, IsRom, rom_quads, rom_bytes}
 use Rattle.config_rom.specs.Fault.{rom_fault}
 use Rattle.config_rom.specs.OneReading.{IsRomOf, EachInputIsARomOrRefused, NoInputIsTwoRoms, NoRomIsRefused}
 use Rattle.config_rom.specs.codings.Parts.{parts_of, HasLayout}
-use Rattle.config_rom.proofs.Quadlets.{quads_of-bytes_of, length-bytes_of, bytes_of-quads_of, fit_of}
+use Rattle.config_rom.proofs.Quadlets.{quads_of-bytes_of, bytes_of-quads_of, fit_of}
 use Rattle.config_rom.proofs.Whole.{rom_quads-parts_of, parts_of-rom_quads, has_layout, is_rom}
 use Rattle.config_rom.proofs.Faults.{bytes_no_fault, layout_of, layout_no_fault, no_fault_of}
 

@@ -1,7 +1,7 @@
 -- The CRC of each block set, from the last place down.
 use Rattle.std.proofs.Common.{◌≡◌, ◌≢◌, ℕ, zero, suc, ◌+◌, ◌*◌, ◌/◌, ◌%◌, ◌^◌, ◌<◌, ◌≤◌, inl, inr, Bool, true, false, List, [], ◌∷◌, ◌++◌, length, take, drop, Result, Ok, Err, length-append, refl, sym, ap, subst, ◌∙◌, ⊎_elim, nat_le, arith}
 use Rattle.std.specs.Prelude.{slice_index, slice_set, ◌&&◌}
-use Rattle.std.proofs.lemmas.Bool.{cases_lt}
+use Rattle.std.proofs.lemmas.Bool.{cases_lt, and_parts, and_from}
 use Rattle.std.proofs.lemmas.Bool.Decides.{nat_tests}
 use Rattle.std.proofs.lemmas.List.{get_or-set_other, get_or-set_same, length-set, get_or_past}
 use Rattle.topology_map.specs.Crc.{IsCrc}
@@ -162,32 +162,18 @@ seals_blocks old mid new m root is_old is_mid place reached only whole h info ov
 
 -- ---- the blocks of a sealed ROM
 
-both_true : (a b : Bool) → a ≡ true → b ≡ true → (a && b) ≡ true
-both_true true true d e = refl
-both_true true false d e = e
-both_true false b d e = d
-
-first_true : (a b : Bool) → (a && b) ≡ true → a ≡ true
-first_true true b e = refl
-first_true false b e = e
-
-second_true : (a b : Bool) → (a && b) ≡ true → b ≡ true
-second_true true b e = e
-second_true false true e = refl
-second_true false false e = e
-
 pub sealed_are_good : SealedBlocksAreGood
 sealed_are_good old new list are s apart kind at reached = s.blocks kind at (λ set closed.
     let both : Blocks = λ k p. set k p && are.set k p in
     let olds = rom_quads old in
     let root = 1 + old.info_len in
     let root_is : root ≡ 1 + new.info_len = sym (ap (λ (n : ℕ). 1 + n) s.info_len) in
-    let root_there : both Directory root ≡ true = both_true (set Directory root) (are.set Directory root) closed.root_in ((are.set_is Directory root).1 (λ other c. c.root_in)) in
+    let root_there : both Directory root ≡ true = and_from (set Directory root) (are.set Directory root) closed.root_in ((are.set_is Directory root).1 (λ other c. c.root_in)) in
     let closed_again : IsClosed (rom_quads new) (1 + new.info_len) both = record {
       root_in = subst (λ (n : ℕ). both Directory n ≡ true) root_is root_there;
       targets_in = λ directory entry target k has leads.
-          let in_set = first_true (set Directory directory) (are.set Directory directory) has in
-          let is_reached : IsReachable olds root Directory directory = (are.set_is Directory directory).0 (second_true (set Directory directory) (are.set Directory directory) has) in
+          let in_set = (and_parts (set Directory directory) (are.set Directory directory) has).0 in
+          let is_reached : IsReachable olds root Directory directory = (are.set_is Directory directory).0 ((and_parts (set Directory directory) (are.set Directory directory) has).1) in
           let is_entry : IsEntryOf olds directory entry = record {
             behind = leads.is_entry.behind;
             inside = omega (arith, leads.is_entry.inside, s.high directory);
@@ -198,11 +184,11 @@ sealed_are_good old new list are s apart kind at reached = s.blocks kind at (λ 
             kind_is = ap kind_of (sym same) ∙ leads.kind_is;
             target_is = leads.target_is ∙ ap (λ (q : ℕ). entry + value_of q) same;
           } in
-          both_true (set k target) (are.set k target)
+          and_from (set k target) (are.set k target)
           (closed.targets_in directory entry target k in_set leads_old)
           ((are.set_is k target).1 (λ other c. c.targets_in directory entry target k (is_reached other c) leads_old));
     } in
-    first_true (set kind at) (are.set kind at) (reached both closed_again))
+    (and_parts (set kind at) (are.set kind at) (reached both closed_again)).0)
 
 -- ---- what is refused
 

@@ -1,6 +1,6 @@
 -- A configuration ROM by its parts, and its quadlets and bytes.
 use Rattle.std.specs.Prelude.{◌≡◌, ℕ, ◌+◌, ◌*◌, ◌/◌, ◌^◌, ◌<◌, ◌≤◌, List, [], ◌∷◌, ◌++◌, length, slice_index, All}
-use Rattle.std.specs.Int.{w32, to_be_bytes}
+use Rattle.quad_lanes.specs.Pairs.{bytes_of}
 
 pub record Parts : Type 0 where
   -- the number of quadlets of the bus information block, as quadlet 0 tells it
@@ -43,11 +43,6 @@ unsealed info crc_length entries rest = record {
   entries = entries;
   rest = rest;
 }
-
--- the bytes of quadlets, the highest of each first
-abbrev pub bytes_of : List ℕ → List ℕ
-bytes_of [] = []
-bytes_of (quad ∷ quads) = to_be_bytes w32 quad ++ bytes_of quads
 
 abbrev pub rom_bytes : Parts → List ℕ
 rom_bytes v = bytes_of (rom_quads v)

@@ -57,7 +57,7 @@ pub use Rattle.convergence.proofs.turns.BeforeTree.{Left, StaysInStart, TwoLeft,
 -- The two ends of a cable are there.
 pub use Rattle.convergence.proofs.turns.Cables.{joined-of}
 -- A turn of a world without a node in R0: no node enters a reset, and each comes from where it was.
-pub use Rattle.convergence.proofs.turns.CalmTurns.{Calmly, calmly, done-calm, early-before, heard_by, signals, turn-done, waiting-before}
+pub use Rattle.convergence.proofs.turns.CalmTurns.{Calmly, calmly, done-calm, early-before, heard_by, not-waiting, signals, turn-done, waiting-before}
 -- What a node tells over a cable for d turns is shown at the other end. A wire that gives
 -- gives all that is under
 -- way, so the other end then shows what was told last; and one that doesn't give for d turns has a

@@ -10,3 +10,5 @@ pub use Rattle.quad_lanes.proofs.Items.{at_drop, item_at}
 pub use Rattle.quad_lanes.proofs.Joined.{three, four, five}
 -- Lists in two parts, and a part that stands in a list.
 pub use Rattle.quad_lanes.proofs.Spans.{slice_get-left, slice_get-right, Has, has-left, has-right, has-tail, has-head, has-itself}
+-- Quadlets and bytes, written and read back.
+pub use Rattle.quad_lanes.proofs.Written.{quads-bytes, bytes-quads, length-bytes_of}

@@ -6,4 +6,5 @@ mod Lanes
 pub mod Quadlets
 pub mod Spans
 mod Steps
+pub mod Written
 pub mod Lemmas

@@ -21,6 +21,7 @@ use Rattle.cable_world.specs.Lawful.{IsLawful}
 use Rattle.cable_world.specs.Outcome.{IsTree}
 use Rattle.cable_world.specs.Phases.{is_in_bus_reset}
 use Rattle.cable_world.specs.Run.{IsReached, holds, turns}
+use Rattle.convergence.proofs.Lemmas.{not-waiting}
 use Rattle.cable_world.proofs.Lemmas.{reached-lawful, reached-comes, turn-reached, hold-reached, hears, ticks, turn-counts, node-after, cabling-after, some-of, some-at, some-same}
 use Rattle.outcomes.specs.Settled.{TreesStay, IdsNameOneNode}
 use Rattle.script_told.specs.SomeAnswer.{IsReachedBus}
@@ -77,10 +78,6 @@ one-and-next w u v a b node set root t r c is =
     let y = b node set root t x.reached x.component x.tree in
     record { reached = y.reached; component = y.component; tree = y.tree; counts = y.counts ∙ x.counts }
 
-no-reset : (p : Phase) → is_in_bus_reset p ≡ false → is_resetting p ≡ false
-no-reset ResetStart e = absurd cc
-no-reset p e = refl
-
 module _ (stay : TreesStay) (names-one : IdsNameOneNode) where
   -- the root of a tree isn't being reset
   calm : (w : CableWorld) (set root : ℕ) (t : Tree) → IsReached w → IsTree w set root t →
@@ -90,7 +87,7 @@ module _ (stay : TreesStay) (names-one : IdsNameOneNode) where
       let id = some-of y.0.state.view.id _ y.2 in
       let alone = names-one w set root root id.0 t (reached-comes w r) is is.holds_root (some-at (slice_get w.nodes root) y.0 (λ (n : PortNode). n.state.view.id ≡ Some id.0) y.1 id.1) in
       let z = some-of (slice_get w.nodes root) _ (alone.calm root is.holds_root) in
-      no-reset x.state.view.phase (ap (λ (n : PortNode). is_in_bus_reset n.state.view.phase) (some-same x z.0 (sym at ∙ z.1)) ∙ z.2)
+      not-waiting x.state.view.phase (ap (λ (n : PortNode). is_in_bus_reset n.state.view.phase) (some-same x z.0 (sym at ∙ z.1)) ∙ z.2)
 
   counts-in-turn :
       (w : CableWorld) → IsLawful w → (j : ℕ) (x y : PortNode) → slice_get w.nodes j ≡ Some x → slice_get (turn w).nodes j ≡ Some y →

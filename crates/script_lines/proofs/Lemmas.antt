@@ -4,7 +4,5 @@
 pub use Rattle.script_lines.proofs.LineRead.{one_reading, reads, some_reading}
 -- The numbers of each command that a line says are in their ranges.
 pub use Rattle.script_lines.proofs.Ranged.{in-range}
--- A line of words has one form at most.
-pub use Rattle.script_lines.proofs.Uniform.{and_parts}
 -- Reading by forms, one after the other.
 pub use Rattle.script_lines.specs.codings.Reading.{read_line}

@@ -75,11 +75,11 @@ some_form words = go (has_node_form words) refl (some_of forms words)
     go false e (inl found) = inl (other found.0, found.1)
     go false e (inr none) = inr (no_form e none)
 
-not_false : (b : Bool) → b ≡ false → IsTrue (not b)
+pub not_false : (b : Bool) → b ≡ false → IsTrue (not b)
 not_false true h = absurd (cc)
 not_false false h = refl
 
-false_of_not : (b : Bool) → IsTrue (not b) → b ≡ false
+pub false_of_not : (b : Bool) → IsTrue (not b) → b ≡ false
 false_of_not true h = absurd (cc)
 false_of_not false h = refl
 

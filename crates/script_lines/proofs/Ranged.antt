@@ -4,6 +4,7 @@ use Rattle.std.specs.Prelude.{cond, nat_le, IfSome, slice_get, unwrap_or}
 use Rattle.std.specs.Option.{option_and_then}
 use Rattle.std.specs.Str.Lines.{strip_carriage_return}
 use Rattle.std.proofs.lemmas.Bool.Decides.{nat_tests}
+use Rattle.std.proofs.lemmas.Bool.{and_parts}
 use Rattle.port_state.specs.declared.ranges.TimeRanges.{TimeRanges}
 use Rattle.script_lines.specs.declared.kind.Kind.TheVariants.{Range}
 use Rattle.script_lines.specs.declared.key.Key.{Key}
@@ -50,14 +51,6 @@ one a_name word h = tt
 one (a_number least most) word h = number least most (number_of word) h
 one (a_given least most) word h = number least most (number_of word) h
 
-second : (a b : Bool) → (a && b) ≡ true → b ≡ true
-second true b h = h
-second false b h = absurd cc
-
-first : (a b : Bool) → (a && b) ≡ true → a ≡ true
-first true b h = refl
-first false b h = absurd cc
-
 at-place :
     (ss : List Shape) (words : List (List ℕ)) → fit ss words ≡ true → first_wrong ss words ≡ None → (place : ℕ) →
     IfSome (slice_get ss place) (λ shape. Fits shape (number_at words place))
@@ -65,7 +58,7 @@ at-place [] words f w place = tt
 at-place (s ∷ ss) [] f w place = absurd cc
 at-place (s ∷ ss) (word ∷ words) f w zero = one s word (neither (wrong s word) (first_wrong ss words) w).0
 at-place (s ∷ ss) (word ∷ words) f w (suc place) =
-    at-place ss words (second (fits s word) (fit ss words) f) (neither (wrong s word) (first_wrong ss words) w).1 place
+    at-place ss words (and_parts (fits s word) (fit ss words) f).1 (neither (wrong s word) (first_wrong ss words) w).1 place
 
 -- ---- the forms
 
@@ -136,7 +129,7 @@ node-range : (times : TimeRanges) (words : List (List ℕ)) → has_node_form wo
 node-range times words has right =
     let pairs : List (List ℕ) = drop 3 words in
     let both = neither (first_wrong node_shapes (take 3 words)) (first_wrong_pair times [] pairs) right in
-    let shape = first (fit node_shapes (take 3 words)) (are_pairs pairs) has in
+    let shape = (and_parts (fit node_shapes (take 3 words)) (are_pairs pairs) has).0 in
     let ports : IsWithin 1 16 (number_at words 2) = subst (IsWithin 1 16) (third words) (at-place node_shapes (take 3 words) shape both.0 2) in
     record {
       some_port = ports.0;

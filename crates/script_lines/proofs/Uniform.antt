@@ -3,6 +3,7 @@ use Rattle.std.proofs.Common.{◌≡◌, ◌∙◌, ℕ, ◌≤◌, ◌-◌, Lis
 use Rattle.std.specs.Prelude.{cond, not, Result, Err}
 use Rattle.std.specs.Str.{bytes_eq}
 use Rattle.std.proofs.lemmas.Slice.Eq.{bytes_eq-Decides}
+use Rattle.std.proofs.lemmas.Bool.{and_parts, false_from_ne_true}
 use Rattle.port_state.specs.declared.ranges.TimeRanges.{TimeRanges}
 use Rattle.script_lines.specs.declared.command.Command.{Command}
 use Rattle.script_lines.specs.declared.kind.Kind.{Kind}
@@ -44,14 +45,6 @@ read_others times words first others e h =
 
 false_is_not_true : false ≡ true → ⊥
 false_is_not_true h = cc
-
-untrue : (b : Bool) → (b ≡ true → ⊥) → b ≡ false
-untrue true h = absurd (h refl)
-untrue false h = refl
-
-pub and_parts : (a b : Bool) → (a && b) ≡ true → (a ≡ true) × (b ≡ true)
-and_parts true b h = (refl, h)
-and_parts false b h = absurd (cc)
 
 -- the first word of a form
 abbrev verb : Form → List ℕ
@@ -329,11 +322,11 @@ no_fixed : (forms : List Form) (words : List (List ℕ))
     → ((form : Form) → fit (shapes form) words ≡ true → ⊥) → read_by forms words ≡ Err Word
 no_fixed [] words h = refl
 no_fixed (form ∷ forms) words h =
-    passed form forms words (untrue (fit (shapes form) words) (h form)) ∙ no_fixed forms words h
+    passed form forms words (false_from_ne_true (fit (shapes form) words) (h form)) ∙ no_fixed forms words h
 
 -- words that have no form are at fault
 pub read_none : (times : TimeRanges) (words : List (List ℕ)) → HasNoForm words → read_words times words ≡ Err Word
 read_none times words h =
     ap (λ b. cond b (unless (wrong_node times words) (node_command words)) (read_by forms words))
-    (untrue (has_node_form words) (h node))
+    (false_from_ne_true (has_node_form words) (h node))
     ∙ no_fixed forms words (λ form. h (other form))

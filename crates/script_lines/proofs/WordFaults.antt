@@ -6,6 +6,7 @@ use Rattle.std.specs.Str.{bytes_eq}
 use Rattle.std.specs.Str.Lines.{strip_carriage_return}
 use Rattle.std.proofs.lemmas.Bool.Decides.{nat_tests}
 use Rattle.std.proofs.lemmas.Slice.Eq.{bytes_eq-Decides}
+use Rattle.std.proofs.lemmas.Bool.{false_from_ne_true}
 use Rattle.topology_stack.specs.Name.{IsName}
 use Rattle.port_state.specs.declared.ranges.TimeRanges.{TimeRanges}
 use Rattle.script_lines.specs.declared.kind.Kind as faults
@@ -22,6 +23,7 @@ use Rattle.script_lines.specs.Node.{given, is_taken, wrong_pair, first_wrong_pai
 use Rattle.script_lines.specs.Words.{words_of}
 use Rattle.script_lines.specs.Line.{LineForm, node, other, wrong_word, IsWrong}
 use Rattle.script_lines.specs.WordFault.{NumberHas, WordHas, StandsIn, IsGiven, ValueHas, PairHas, FirstOf, WordsHave, PairsHave, FormHas, FirstWordHas, LinesAreRefusedSo}
+use Rattle.script_lines.proofs.LineRead.{not_false, false_of_not}
 use Rattle.script_lines.proofs.Names.{name_of_test, test_of_name}
 
 -- what is found is what this says
@@ -92,14 +94,10 @@ number_found least most (Some n) kind =
 no_name : (word : List ℕ) → is_name word ≡ false → IsName word → ⊥
 no_name word e h = let t = test_of_name word h in absurd cc
 
-untested : (b : Bool) → (b ≡ true → ⊥) → b ≡ false
-untested true h = absurd (h refl)
-untested false h = refl
-
 word_found : (shape : Shape) (word : List ℕ) → Finds (wrong shape word) (WordHas shape word)
 word_found (the text) word kind = none_found kind
 word_found a_name word kind =
-    by_test (is_name word) Name (¬ IsName word) (no_name word) (λ none. untested (is_name word) (λ e. none (name_of_test word e))) kind
+    by_test (is_name word) Name (¬ IsName word) (no_name word) (λ none. false_from_ne_true (is_name word) (λ e. none (name_of_test word e))) kind
 word_found (a_number least most) word kind = number_found least most (number_of word) kind
 word_found (a_given least most) word kind = number_found least most (number_of word) kind
 
@@ -161,19 +159,11 @@ given_taken key pairs h = elim h [
     last true b e = refl
     last false b e = e
 
-turned : (b : Bool) → b ≡ false → IsTrue (not b)
-turned true h = absurd cc
-turned false h = refl
-
-turned_back : (b : Bool) → IsTrue (not b) → b ≡ false
-turned_back true h = absurd cc
-turned_back false h = refl
-
 value_found : (times : TimeRanges) (key : Key) (value : List ℕ) →
     Finds (wrong_value times key value) (ValueHas times key value)
 value_found times Kind value kind = none_found kind
 value_found times Coins value kind =
-    by_test (are_coins value) Number (IsTrue (not (are_coins value))) (turned (are_coins value)) (turned_back (are_coins value)) kind
+    by_test (are_coins value) Number (IsTrue (not (are_coins value))) (not_false (are_coins value)) (false_of_not (are_coins value)) kind
 value_found times Speed value kind = number_found (limits times Speed).0 (limits times Speed).1 (number_of value) kind
 value_found times Link value kind = number_found (limits times Link).0 (limits times Link).1 (number_of value) kind
 value_found times Contender value kind = number_found (limits times Contender).0 (limits times Contender).1 (number_of value) kind

@@ -10,13 +10,13 @@ use Rattle.std.specs.List.{list_all, slice_split, onto_first}
 use Rattle.std.specs.Str.{bytes_eq}
 use Rattle.std.specs.Str.Lines.{strip_carriage_return}
 use Rattle.std.specs.Str.Parse.{AllDigits, digits_value_after}
+use Rattle.std.proofs.lemmas.Bool.{and_parts, and_from}
 use Rattle.port_state.specs.declared.ranges.TimeRanges.{TimeRanges}
 use Rattle.script_lines.specs.declared.command.Command.{Command}
 use Rattle.line_words.specs.Words.{is_some_text, words_by}
 use Rattle.script_lines.specs.Words.{is_blank, is_permitted, words_of}
 use Rattle.line_words.specs.Digits.{of_digits}
 use Rattle.script_lines.specs.Number.{number_of}
-use Rattle.script_lines.proofs.Lemmas.{and_parts}
 use Rattle.script_lines.specs.Line.{IsCommand, is_skipped, IsRead, Reads}
 
 -- ---- a line of words
@@ -38,16 +38,13 @@ abbrev pub spaced : List (List ℕ) → List ℕ
 spaced [] = []
 spaced (w ∷ ws) = 32 ∷ (w ++ spaced ws)
 
-pub within : (a b : Bool) → a ≡ true → b ≡ true → (a && b) ≡ true
-within a b h g = rw (h, g) refl
-
 -- each character of one kind is of another
 pub widens : (p q : ℕ → Bool) → ((c : ℕ) → p c ≡ true → q c ≡ true) → (cs : List ℕ)
     → list_all p cs ≡ true → list_all q cs ≡ true
 widens p q h [] all = refl
 widens p q h (c ∷ cs) all =
     let parts : (p c ≡ true) × (list_all p cs ≡ true) = and_parts (p c) (list_all p cs) all in
-    within (q c) (list_all q cs) (h c parts.0) (widens p q h cs parts.1)
+    and_from (q c) (list_all q cs) (h c parts.0) (widens p q h cs parts.1)
 
 unless_cut : {A : Type 0} (b : Bool) (x y : A) → not b ≡ true → cond b x y ≡ y
 unless_cut true x y h = absurd (cc)
@@ -107,10 +104,10 @@ all_permitted : (w : List ℕ) (ws : List (List ℕ)) → IsWord w → AreWords 
     → list_all is_permitted (w ++ spaced ws) ≡ true
 all_permitted w [] h hs =
     list_all-append is_permitted w []
-    ∙ within (list_all is_permitted w) true (widens is_graphic is_permitted permitted w h.chars) refl
+    ∙ and_from (list_all is_permitted w) true (widens is_graphic is_permitted permitted w h.chars) refl
 all_permitted w (v ∷ ws) h hs =
     list_all-append is_permitted w (32 ∷ (v ++ spaced ws))
-    ∙ within (list_all is_permitted w) (list_all is_permitted (v ++ spaced ws))
+    ∙ and_from (list_all is_permitted w) (list_all is_permitted (v ++ spaced ws))
     (widens is_graphic is_permitted permitted w h.chars) (all_permitted v ws hs.0 hs.1)
 
 no_return : (c : ℕ) → is_permitted c ≡ true → (c == 13) ≡ false
@@ -160,7 +157,7 @@ below_ten : (ds : List ℕ) → AllDigits 10 ds → list_all is_ten ds ≡ true
 below_ten [] h = refl
 below_ten (c ∷ cs) h =
     let first : is_ten c ≡ true = grind (arith, nat_tests, h.0) in
-    within (is_ten c) (list_all is_ten cs) first (below_ten cs h.1)
+    and_from (is_ten c) (list_all is_ten cs) first (below_ten cs h.1)
 
 same_value : (ds : List ℕ) (n : ℕ) →
     fold (λ n c. n * 10 + digit_value c) n ds ≡ digits_value_after 10 n ds

@@ -1,11 +1,11 @@
 -- Trees that the same cables show from two of their nodes have paths of the same lengths.
 use Rattle.std.proofs.Common.{◌≡◌, ℕ, suc, ◌^◌, ◌<◌, ◌≤◌, Option, Some, None, List, [], ◌∷◌, length, get_or, inl, inr, refl, sym, ◌∙◌, ap, subst, arith}
 use Rattle.std.specs.Prelude.{slice_get}
-use Rattle.std.proofs.lemmas.Option.{slice_get-get_or, slice_get_within}
+use Rattle.std.proofs.lemmas.Option.{slice_get-get_or, slice_get_within, same_Some}
 use Rattle.topology_stack.specs.Tree.{Label, Tree, walk}
 use Rattle.topology_stack.specs.Far.{ends}
 use Rattle.speed_map.specs.Path.{Joined, IsNew, IsPath}
-use Rattle.speed_map.proofs.Lemmas.{Ends, length-ends_from, same_some}
+use Rattle.speed_map.proofs.Lemmas.{Ends, length-ends_from}
 use Rattle.cabling.specs.declared.cable.End.{End}
 use Rattle.cabling.specs.Wiring.{Wiring, far, IsCabling}
 use Rattle.cabling.specs.Existence.{ComponentsExist}
@@ -40,7 +40,7 @@ new-too N M a b [] [] o s all new = tt
 new-too N M a b [] (y ∷ ys) o s all new = absurd all
 new-too N M a b (x ∷ xs) [] o s all new = absurd all
 new-too N M a b (x ∷ xs) (y ∷ ys) o s (t, all) (ne, new) = (
-  λ e. let z : s.0 ≡ t.0 = same_some s.0 t.0 (sym s.2 ∙ ap (slice_get M) e ∙ t.2) in
+  λ e. let z : s.0 ≡ t.0 = same_Some s.0 t.0 (sym s.2 ∙ ap (slice_get M) e ∙ t.2) in
       ne (one-place N a x s.0 o s.1 (t.1 ∙ ap (λ (n : ℕ). Some n) (sym z))),
   new-too N M a b xs ys o s all new,
 )
@@ -79,13 +79,13 @@ module _
   joined-too : (a b j : ℕ) → Same N M a b → Joined t a j → (i : ℕ) × Joined u b i × Same N M j i
   joined-too a b j s joined =
       let l = leads-t a joined.far.of_node joined.far.node in
-      let x : l.0 ≡ s.0 = same_some l.0 s.0 (sym l.1 ∙ s.1) in
+      let x : l.0 ≡ s.0 = same_Some l.0 s.0 (sym l.1 ∙ s.1) in
       let cable = cable-of (far c (end_at l.0 joined.slot)) j (subst (λ (r : Option (Option ℕ)). Agree N r (far c (end_at l.0 joined.slot))) joined.far.slot_end (l.2 joined.slot)) in
       let there : b < length (ends u) = omega (arith, slice_get_within M b s.0 s.2, so-many c other next None u k, length-ends_from 0 63 u) in
       let e : Ends = get_or (ends u) b [] in
       let at : slice_get (ends u) b ≡ Some e = slice_get-get_or (ends u) b [] there in
       let m = leads-u b e at in
-      let y : m.0 ≡ l.0 = same_some m.0 l.0 (sym m.1 ∙ s.2 ∙ ap (λ (n : ℕ). Some n) (sym x)) in
+      let y : m.0 ≡ l.0 = same_Some m.0 l.0 (sym m.1 ∙ s.2 ∙ ap (λ (n : ℕ). Some n) (sym x)) in
       let here : far c (end_at m.0 joined.slot) ≡ Some cable.0 = ap (λ (n : ℕ). far c (end_at n joined.slot)) y ∙ cable.1 in
       let slot = slot-of (slice_get e joined.slot) cable.0 (subst (λ (r : Option End). Agree M (slice_get e joined.slot) r) here (m.2 joined.slot)) in
       (slot.0, record { slot = joined.slot; far = record { of_node = e; node = at; slot_end = slot.1 } }, (cable.0.node, cable.2, slot.2))

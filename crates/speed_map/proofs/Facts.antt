@@ -3,7 +3,7 @@ use Rattle.std.proofs.Common.{◌≡◌, ◌≢◌, ℕ, ◌+◌, ◌-◌, ◌<�
 use Rattle.std.specs.Prelude.{slice_get}
 use Rattle.std.specs.Option.{option_map}
 use Rattle.std.proofs.lemmas.Bool.{cases_lt}
-use Rattle.std.proofs.lemmas.Option.{get_or_from_slice_get, slice_get_within, slice_get-map}
+use Rattle.std.proofs.lemmas.Option.{get_or_from_slice_get, slice_get_within, slice_get-map, same_Some}
 use Rattle.self_id.specs.Node.{Node}
 use Rattle.topology_stack.specs.Tree.{Tree, branch, walk, walk_below, IsBusTree}
 use Rattle.topology_stack.specs.Far.{Far, ends, slot_ends}
@@ -33,14 +33,11 @@ node_at t id lt =
     let w = toldT 0 63 t id h.0 h.1 h.2 in
     record { e = h.0; node = subst (λ (f : ℕ). NodeT 0 63 t id h.0 f) (sym (first_is t id h.0 h.1 h.2)) h.2; ends_are = w.ends_are; info = w.node; info_is = w.node_is; slots = w.slots }
 
-pub same_some : {X : Type 0} (x y : X) → Some x ≡ Some y → x ≡ y
-same_some x y e = cc
-
 -- the end that a slot of a node has
 far_end : (t : Tree) (id slot : ℕ) (r : Option ℕ) (h : NodeAt t id) → Far t id slot r →
     slice_get h.e slot ≡ Some r
 far_end t id slot r h far =
-    let same : far.of_node ≡ h.e = same_some far.of_node h.e (sym far.node ∙ h.ends_are) in
+    let same : far.of_node ≡ h.e = same_Some far.of_node h.e (sym far.node ∙ h.ends_are) in
     ap (λ (x : Ends). slice_get x slot) (sym same) ∙ far.slot_end
 
 kin : (t : Tree) (id slot k : ℕ) → id < length (walk t) → Far t id slot (Some k) →
@@ -49,13 +46,13 @@ kin t id slot k lt far = let h = node_at t id lt in kinT 0 63 t id h.e (first_of
 
 -- one slot leads to one node
 pub one_far : (t : Tree) (id slot j k : ℕ) → Far t id slot (Some j) → Far t id slot (Some k) → j ≡ k
-one_far t id slot j k f g = same_some j k (one_end t id slot (Some j) (Some k) f g)
+one_far t id slot j k f g = same_Some j k (one_end t id slot (Some j) (Some k) f g)
 
 pub slot_within : (t : Tree) (id slot : ℕ) (r : Option ℕ) (n : Node) → id < length (walk t) →
     Far t id slot r → slice_get (walk t) id ≡ Some n → slot < length n.ports
 slot_within t id slot r n lt far e =
     let h = node_at t id lt in
-    let same : h.info ≡ n = same_some h.info n (sym h.info_is ∙ e) in
+    let same : h.info ≡ n = same_Some h.info n (sym h.info_is ∙ e) in
     let within : slot < length h.e = slice_get_within h.e slot r (far_end t id slot r h far) in
     let count : length h.e ≡ length n.ports = h.slots ∙ ap (λ (m : Node). length m.ports) same in
     omega (arith, within, count)

@@ -3,35 +3,15 @@ use Rattle.std.proofs.Common.{◌≡◌, ℕ, zero, suc, ◌+◌, ◌-◌, ◌*�
 use Rattle.std.specs.Prelude.{slice_index}
 use Rattle.std.specs.List.{All, AllByRecursion}
 use Rattle.std.proofs.lemmas.List.Elements.{recursion_from_All}
-use Rattle.quad_lanes.specs.Pairs.{quads_of}
-use Rattle.quad_lanes.proofs.Lemmas.{all_quadlets, big_endian-bytes, bytes-big_endian, length-quads_of}
+use Rattle.quad_lanes.specs.Pairs.{quads_of, bytes_of}
+use Rattle.quad_lanes.proofs.Lemmas.{all_quadlets, quads-bytes, bytes-quads, length-bytes_of, length-quads_of}
 use Rattle.topology_map.specs.Crc.{IsCrc}
 use Rattle.topology_map.specs.Sealed.{IsSealed}
 use Rattle.topology_map.proofs.Lemmas.{one_crc, joined, split}
 use Rattle.speed_map.specs.declared.fault.ImageFault.{ImageFault}
 use Rattle.speed_map.specs.declared.fault.ImageFault.TheVariants.{Length, Crc, Rows, Memory}
 use Rattle.speed_map.specs.Image.{IsImage, Refused}
-use Rattle.speed_map.specs.codings.Bytes.{bytes_of, Tells}
-
--- ---- bytes and quadlets
-
-read_back : (quads : List ℕ) → AllByRecursion (λ q. q < 2 ^ 32) quads →
-    quads_of (bytes_of quads) ≡ quads
-read_back [] fit = refl
-read_back (q ∷ quads) fit = rw (big_endian-bytes q fit.0, read_back quads fit.1) refl
-
-length-bytes_of : (quads : List ℕ) → length (bytes_of quads) ≡ 4 * length quads
-length-bytes_of [] = refl
-length-bytes_of (q ∷ quads) = omega (arith, length-bytes_of quads)
-
-written_back : (bytes : List ℕ) → AllByRecursion (λ b. b < 256) bytes → length bytes % 4 ≡ 0 →
-    bytes_of (quads_of bytes) ≡ bytes
-written_back [] fit whole = refl
-written_back (a ∷ b ∷ c ∷ d ∷ bytes) fit whole =
-    let front = bytes-big_endian a b c d fit.0 fit.1.0 fit.1.1.0 fit.1.1.1.0 in
-    let rest = written_back bytes fit.1.1.1.1 (omega (arith, whole)) in
-    ap (λ xs. xs ++ bytes_of (quads_of bytes)) front ∙ ap (λ xs. a ∷ b ∷ c ∷ d ∷ xs) rest
-written_back _ fit whole = absurd (omega (arith, whole))
+use Rattle.speed_map.specs.codings.Bytes.{Tells}
 
 -- what stands behind the second quadlet
 whole_take : (n : ℕ) (xs : List ℕ) → length xs ≤ n → take n xs ≡ xs
@@ -71,7 +51,7 @@ pub is_image : (quads rows : List ℕ) → Tells quads → ((i : ℕ) → slice_
     rows ≡ bytes_of (drop 2 quads) → IsImage (slice_index quads 1) rows quads
 is_image quads rows w fit e =
     let fit_all : AllByRecursion (λ q. q < 2 ^ 32) quads = recursion_from_All _ _ (all_quadlets quads fit) in
-    let same : quads_of rows ≡ drop 2 quads = ap quads_of e ∙ read_back (drop 2 quads) (fit_behind quads fit_all) in
+    let same : quads_of rows ≡ drop 2 quads = ap quads_of e ∙ quads-bytes (drop 2 quads) (fit_behind quads fit_all) in
     let count : length rows ≡ 4 * length (drop 2 quads) = ap length e ∙ length-bytes_of (drop 2 quads) in
     record {
       whole = ap (λ (n : ℕ). n % 64) count ∙ sixteen (length (drop 2 quads)) w.rows_told.whole;
@@ -105,7 +85,7 @@ parts_are generation rows quads fit h =
         rows_told = record { whole = q.0; few = q.1 };
       };
       generation_is = refl;
-      rows_are = written_back rows (recursion_from_All _ _ fit) q.2;
+      rows_are = bytes-quads rows (recursion_from_All _ _ fit) q.2;
     } in
     subst (λ (q : List ℕ). PartsAre q generation rows) (sym i.quads_are) parts
 

@@ -2,7 +2,8 @@
 ghost use Rattle.std.specs.Prelude.{◌≡◌, ◌<◌, ℕ, All, List, Err, IfOk, IsOkAnd, MatchResult};
 ghost use Rattle.speed_map.specs.Image.{IsImage, Refused};
 ghost use Rattle.speed_map.specs.Answer.{IfFault, UnlessMemory};
-ghost use Rattle.speed_map.specs.codings.Bytes.{bytes_of, Tells};
+ghost use Rattle.quad_lanes.specs.Pairs.{bytes_of};
+ghost use Rattle.speed_map.specs.codings.Bytes.{Tells};
 ghost use Rattle.speed_map.specs.declared.fault.ImageFault.{ImageFault};
 
 use crate::fault::ImageFault;

@@ -1,7 +1,7 @@
 -- The ends of slots, from the parents and children that a tree keeps.
 use Rattle.std.proofs.Common.{◌≡◌, ℕ, zero, suc, ◌+◌, ◌-◌, ◌<◌, Option, Some, None, List, [], ◌∷◌, ◌++◌, length, get_or, take, refl, sym, ap, subst, ◌∙◌, ◌↔◌, inl, inr, arith}
 use Rattle.std.specs.Prelude.{slice_get, IsSomeAnd}
-use Rattle.std.proofs.lemmas.Option.{slice_get-get_or}
+use Rattle.std.proofs.lemmas.Option.{slice_get-get_or, same_Some}
 use Rattle.self_id.specs.declared.node.PortStatus.{PortStatus}
 use Rattle.self_id.specs.declared.node.PortStatus.TheVariants.{Absent, Unplugged, Up, Down}
 use Rattle.self_id.specs.Node.{Node, downs}
@@ -198,11 +198,8 @@ loose_at X ns id slot n ps e same h =
 
 -- ---- one end
 
-same_some : {X : Type 0} (x y : X) → Some x ≡ Some y → x ≡ y
-same_some x y e = cc
-
 -- one thing stands at the other end of a slot
 pub one_end : (t : Tree) (id slot : ℕ) (q r : Option ℕ) → Far t id slot q → Far t id slot r → q ≡ r
 one_end t id slot q r f g =
-    let same : f.of_node ≡ g.of_node = same_some f.of_node g.of_node (sym f.node ∙ g.node) in
-    same_some q r (sym f.slot_end ∙ ap (λ (x : List (Option ℕ)). slice_get x slot) same ∙ g.slot_end)
+    let same : f.of_node ≡ g.of_node = same_Some f.of_node g.of_node (sym f.node ∙ g.node) in
+    same_Some q r (sym f.slot_end ∙ ap (λ (x : List (Option ℕ)). slice_get x slot) same ∙ g.slot_end)

@@ -1,6 +1,7 @@
 -- The parents of a bus tree's nodes, from the parents that a tree keeps.
 use Rattle.std.proofs.Common.{◌≡◌, ℕ, zero, suc, ◌+◌, ◌<◌, Option, Some, List, [], ◌∷◌, ◌++◌, length, refl, sym, ap, subst, ◌∙◌, arith, length-append}
 use Rattle.std.specs.Prelude.{slice_get, IsSomeAnd}
+use Rattle.std.proofs.lemmas.Option.{same_Some}
 use Rattle.quad_lanes.proofs.Lemmas.{item_at}
 use Rattle.self_id.specs.declared.node.PortStatus.{PortStatus}
 use Rattle.self_id.specs.declared.node.PortStatus.TheVariants.{Absent, Unplugged, Up, Down}
@@ -62,9 +63,6 @@ before_last (x ∷ xs) m (suc i) lt = before_last xs m i (omega (arith, lt))
 at_last : (ms : List Node) (m : Node) → slice_get (ms ++ m ∷ []) (length ms) ≡ Some m
 at_last [] m = refl
 at_last (x ∷ xs) m = at_last xs m
-
-same_some : (m n : Node) → Some m ≡ Some n → m ≡ n
-same_some m n e = cc
 
 same_id : (x y : ℕ) → Some (Some x) ≡ Some (Some y) → x ≡ y
 same_id x y e = cc

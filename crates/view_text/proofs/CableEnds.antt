@@ -3,7 +3,7 @@
 use Rattle.std.proofs.Common.{◌≡◌, ◌⊎◌, inl, inr, ℕ, zero, suc, ◌+◌, ◌-◌, ◌<◌, ◌≤◌, Option, Some, None, List, [], ◌∷◌, ◌++◌, length, slice_get, refl, sym, ◌∙◌, ap, subst, arith, length-append}
 use Rattle.std.specs.Prelude.{min}
 use Rattle.std.proofs.lemmas.Bool.{cases_lt}
-use Rattle.std.proofs.lemmas.Option.{slice_get_within, slice_get_cases}
+use Rattle.std.proofs.lemmas.Option.{slice_get_within, slice_get_cases, same_Some}
 use Rattle.self_id.specs.declared.node.PortStatus.{PortStatus}
 use Rattle.self_id.specs.declared.node.PortStatus.TheVariants.{Absent, Unplugged, Up, Down}
 use Rattle.self_id.specs.Node.{Node, ups}
@@ -20,13 +20,6 @@ use Rattle.quad_lanes.proofs.Lemmas.{has-left, has-right, has-head, has-itself, 
 
 abbrev pub Ends : Type 0
 Ends = List (Option ℕ)
-
-pub some-same : {A : Type 0} → (a b : A) → Some a ≡ Some b → a ≡ b
-some-same a b h = ap (or-else a) h
-  where
-    or-else : {A : Type 0} → A → Option A → A
-    or-else d None = d
-    or-else d (Some x) = x
 
 -- ---- the slot that is up
 
@@ -161,8 +154,8 @@ module _ (t : Tree) where
       | inl less ↦ slots-down s first (first + length (walk_below s)) (below-of first parent a s h) parts id low less n es slot at_n at_e e
       | inr more ↦
           let at : id ≡ first + length (walk_below s) = omega (arith, more, high, length-walk a s) in
-          let node : n ≡ node_of a s = some-same n (node_of a s) (sym at_n ∙ ap (slice_get (walk t)) at ∙ own-node first parent a s h) in
-          let row : es ≡ slot_ends first parent s = some-same es (slot_ends first parent s) (sym at_e ∙ ap (slice_get (ends t)) at ∙ own-ends first parent a s h) in
+          let node : n ≡ node_of a s = same_Some n (node_of a s) (sym at_n ∙ ap (slice_get (walk t)) at ∙ own-node first parent a s h) in
+          let row : es ≡ slot_ends first parent s = same_Some es (slot_ends first parent s) (sym at_e ∙ ap (slice_get (ends t)) at ∙ own-ends first parent a s h) in
           subst (λ (i : ℕ). LeadsDown i es slot) (sym at) (subst (λ (r : Ends). LeadsDown (first + length (walk_below s)) r slot) (sym row)
           (row-down s first (first + length (walk_below s)) parent slot (below-of first parent a s h) parts (omega arith) (ap (λ (m : Node). slice_get m.ports slot) (sym node) ∙ e)))
     ]
@@ -201,7 +194,7 @@ module _ (t : Tree) where
   has-slot (p ∷ ps) (x ∷ es) id slot zero k d e =
       let z : slot ≡ slot + 0 = omega arith in
       let here : cable_at t id slot p x ≡ cable_to t id (slot + 0) k ∷ [] =
-      ap (λ (q : PortStatus). cable_at t id slot q x) (some-same p Down d) ∙ ap (λ (o : Option ℕ). cable_at t id slot Down o) (some-same x (Some k) e) ∙ ap (λ (m : ℕ). cable_to t id m k ∷ []) z in
+      ap (λ (q : PortStatus). cable_at t id slot q x) (same_Some p Down d) ∙ ap (λ (o : Option ℕ). cable_at t id slot Down o) (same_Some x (Some k) e) ∙ ap (λ (m : ℕ). cable_to t id m k ∷ []) z in
       in-left (cable_at t id slot p x) (cables_of t id (slot + 1) ps es) (cable_to t id (slot + 0) k)
       (subst (λ (cs : List Cable). In cs (cable_to t id (slot + 0) k)) (sym here) (0, refl))
   has-slot (p ∷ ps) (x ∷ es) id slot (suc j) k d e =
@@ -217,7 +210,7 @@ module _ (t : Tree) where
   has-node (m ∷ ns) (r ∷ rows) first zero n es c a b h =
       let z : first + 0 ≡ first = omega arith in
       let here : cables_of t (first + 0) 0 n.ports es ≡ cables_of t first 0 m.ports r =
-      ap (λ (k : ℕ). cables_of t k 0 n.ports es) z ∙ ap (λ (o : Node). cables_of t first 0 o.ports es) (sym (some-same m n a)) ∙ ap (cables_of t first 0 m.ports) (sym (some-same r es b)) in
+      ap (λ (k : ℕ). cables_of t k 0 n.ports es) z ∙ ap (λ (o : Node). cables_of t first 0 o.ports es) (sym (same_Some m n a)) ∙ ap (cables_of t first 0 m.ports) (sym (same_Some r es b)) in
       in-left (cables_of t first 0 m.ports r) (cables_from t (first + 1) ns rows) c (subst (λ (cs : List Cable). In cs c) here h)
   has-node (m ∷ ns) (r ∷ rows) first (suc i) n es c a b h =
       let z : first + suc i ≡ first + 1 + i = omega arith in
@@ -245,7 +238,7 @@ module _ (t : Tree) where
   here-of id slot Unplugged x i c h = absurd cc
   here-of id slot Up x i c h = absurd cc
   here-of id slot Down None i c h = absurd cc
-  here-of id slot Down (Some k) zero c h = record { child = k; down_is = refl; end = refl; is = sym (some-same (cable_to t id slot k) c h) }
+  here-of id slot Down (Some k) zero c h = record { child = k; down_is = refl; end = refl; is = sym (same_Some (cable_to t id slot k) c h) }
   here-of id slot Down (Some k) (suc i) c h = absurd cc
 
   record FromSlot (id slot : ℕ) (ps : List PortStatus) (es : Ends) (c : Cable) : Type 0 where
@@ -312,7 +305,7 @@ module _ (t : Tree) where
       slice_get n.ports slot ≡ Some Down → slice_get es slot ≡ Some (Some child) → IsOfTree t (cable_to t id slot child)
   cable-is bus id slot child n es at_n at_e d e =
       let l : LeadsDown id es slot = all-down bus id n es slot at_n at_e d in
-      let same : l.child ≡ child = some-same l.child child (some-same (Some l.child) (Some child) (sym l.end ∙ e)) in
+      let same : l.child ≡ child = same_Some l.child child (same_Some (Some l.child) (Some child) (sym l.end ∙ e)) in
       let lower : child < id = omega (arith, same, l.lower) in
       let inside : id < length (walk t) = slice_get_within (walk t) id n at_n in
       elim (slice_get_cases (walk t) child).1 [

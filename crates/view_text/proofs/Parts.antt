@@ -2,7 +2,7 @@
 use Rattle.std.proofs.Common.{◌≡◌, ℕ, zero, suc, ◌+◌, ◌-◌, ◌<◌, ◌≤◌, Bool, Option, Some, None, List, [], ◌∷◌, ◌++◌, length, drop, slice_get, refl, sym, ◌∙◌, ap, subst, arith, append_assoc}
 use Rattle.std.specs.Prelude.{min, nat_lt, IfSome}
 use Rattle.std.proofs.lemmas.List.{drop_all}
-use Rattle.std.proofs.lemmas.Option.{slice_get_within}
+use Rattle.std.proofs.lemmas.Option.{slice_get_within, same_Some}
 use Rattle.self_id.specs.declared.node.PortStatus.{PortStatus}
 use Rattle.self_id.specs.declared.node.PortStatus.TheVariants.{Down}
 use Rattle.self_id.specs.Node.{Node, downs}
@@ -12,7 +12,7 @@ use Rattle.view_text.specs.declared.cable.Cable.{Cable}
 use Rattle.view_text.specs.Cable.{up_of, speed_of, cable_to}
 use Rattle.view_text.specs.Drawing.{node_words, cable_text, cable_of, goes_on, corner, bar, outermost, tree_lines, slot_lines}
 use Rattle.view_text.specs.codings.Parts.{Stands, next, below, rest, skipped, first_child, IsChildAt, AppendsPart}
-use Rattle.view_text.proofs.CableEnds.{Ends, some-same, StandBelow, below-of, own-node, own-ends, first-of, rest-of, LeadsDown, all-down}
+use Rattle.view_text.proofs.CableEnds.{Ends, StandBelow, below-of, own-node, own-ends, first-of, rest-of, LeadsDown, all-down}
 use Rattle.topology_stack.proofs.Lemmas.{length-walk, some_node}
 
 -- ---- the slots from one on
@@ -94,7 +94,7 @@ child-down (absent s) from parent far d e = absurd cc
 child-down (unplugged s) from parent far d e = absurd cc
 child-down (up s) from parent far d e = absurd cc
 child-down (down t s) from parent far d e =
-    sym (some-same (Some (from + length (walk t) - 1)) far e)
+    sym (same_Some (Some (from + length (walk t) - 1)) far e)
 
 child-none : (x : Slots) (from : ℕ) (p : PortStatus) → slice_get (statuses x) 0 ≡ Some p →
     (p ≡ Down → ⊥) → None ≡ first_child from x
@@ -102,14 +102,14 @@ child-none no_more from p e other = absurd cc
 child-none (absent s) from p e other = refl
 child-none (unplugged s) from p e other = refl
 child-none (up s) from p e other = refl
-child-none (down t s) from p e other = absurd (other (sym (some-same Down p e)))
+child-none (down t s) from p e other = absurd (other (sym (same_Some Down p e)))
 
 own-status :
     (t : Tree) (id slot from parent : ℕ) (n : Node) (p : PortStatus) (a : Label) (s : Slots) →
     slice_get (walk t) id ≡ Some n → slice_get n.ports slot ≡ Some p → Stands t from parent (branch a s) →
     id ≡ from + length (walk_below s) → slice_get (statuses (rest slot s)) 0 ≡ Some p
 own-status t id slot from parent n p a s at_n d h place =
-    let node : n ≡ node_of a s = some-same n (node_of a s) (sym at_n ∙ ap (slice_get (walk t)) place ∙ own-node t from parent a s h) in
+    let node : n ≡ node_of a s = same_Some n (node_of a s) (sym at_n ∙ ap (slice_get (walk t)) place ∙ own-node t from parent a s h) in
     ap (λ (ps : List PortStatus). slice_get ps 0) (rest-statuses slot s) ∙ get-drop slot (statuses s)
     ∙ ap (λ (m : Node). slice_get m.ports slot) (sym node) ∙ d
 
@@ -117,7 +117,7 @@ pub is_child : (t : Tree) (id slot : ℕ) (n : Node) (es : Ends) (far : Option �
     slice_get (walk t) id ≡ Some n → slice_get (ends t) id ≡ Some es →
     slice_get n.ports slot ≡ Some Down → slice_get es slot ≡ Some far → IsChildAt t id slot far
 is_child t id slot n es far at_n at_e d e = λ from parent a s h place.
-    let row : es ≡ slot_ends from parent s = some-same es (slot_ends from parent s) (sym at_e ∙ ap (slice_get (ends t)) place ∙ own-ends t from parent a s h) in
+    let row : es ≡ slot_ends from parent s = same_Some es (slot_ends from parent s) (sym at_e ∙ ap (slice_get (ends t)) place ∙ own-ends t from parent a s h) in
     child-down (rest slot s) (from + skipped slot s) parent far (own-status t id slot from parent n Down a s at_n d h place)
     (ap (λ (xs : Ends). slice_get xs 0) (rest-ends slot s from parent) ∙ get-drop slot (slot_ends from parent s)
     ∙ ap (λ (r : Ends). slice_get r slot) (sym row) ∙ e)
@@ -138,7 +138,7 @@ pub child_lower : (t : Tree) (id slot : ℕ) (n : Node) (es : Ends) (far : Optio
     slice_get n.ports slot ≡ Some Down → slice_get es slot ≡ Some far → IfSome far (λ c. c < id)
 child_lower t id slot n es far bus at_n at_e d e =
     let l : LeadsDown t id es slot = all-down t bus id n es slot at_n at_e d in
-    subst (λ (f : Option ℕ). IfSome f (λ c. c < id)) (some-same (Some l.child) far (sym l.end ∙ e)) l.lower
+    subst (λ (f : Option ℕ). IfSome f (λ c. c < id)) (same_Some (Some l.child) far (sym l.end ∙ e)) l.lower
 
 -- ---- the lines of a node's children, one behind the other
 
@@ -155,7 +155,7 @@ child-tree (absent s) from child e = absurd cc
 child-tree (unplugged s) from child e = absurd cc
 child-tree (up s) from child e = absurd cc
 child-tree (down t s) from child e =
-    let is : child ≡ from + length (walk t) - 1 = some-same child (from + length (walk t) - 1) e in
+    let is : child ≡ from + length (walk t) - 1 = same_Some child (from + length (walk t) - 1) e in
     record { tree = t; is = refl; many = refl; last = omega (arith, is, some_node t) }
 
 no-lines : (margin : List ℕ) (root : ℕ) (irm : Option ℕ) (n : Node) (slot from : ℕ) (x : Slots) →
@@ -189,7 +189,7 @@ pub lines_begin :
     now ≡ entry ++ node_words id n root irm → LinesFrom t margin irm id 0 entry now
 lines_begin t margin irm id root n entry now at_n last e = λ from parent a s h place.
     let top : root ≡ length (walk t) - 1 = omega (arith, last) in
-    let node : n ≡ node_of a s = some-same n (node_of a s) (sym at_n ∙ ap (slice_get (walk t)) place ∙ own-node t from parent a s h) in
+    let node : n ≡ node_of a s = same_Some n (node_of a s) (sym at_n ∙ ap (slice_get (walk t)) place ∙ own-node t from parent a s h) in
     let z : from + 0 ≡ from = omega arith in
     let words : List ℕ = node_words (from + length (walk_below s)) (node_of a s) (length (walk t) - 1) irm in
     let is : now ≡ entry ++ words = e ∙ ap (λ (i : ℕ). entry ++ node_words i n root irm) place
@@ -243,7 +243,7 @@ lines_child t margin irm id slot child on n c entry before branched deeper after
     let b : BelowSlot x first child = child-tree x first child (is from parent a s h place) in
     let u : Tree = b.tree in
     let v : Slots = next x in
-    let node : n ≡ node_of a s = some-same n (node_of a s) (sym at_n ∙ ap (slice_get (walk t)) place ∙ own-node t from parent a s h) in
+    let node : n ≡ node_of a s = same_Some n (node_of a s) (sym at_n ∙ ap (slice_get (walk t)) place ∙ own-node t from parent a s h) in
     let stands : Stands t first me u = first-of t first me u v (subst (λ (y : Slots). StandBelow t first me y) b.is (rest-stands t slot s from me (below-of t from parent a s h))) in
     let more : slot + 1 ≡ suc slot = omega arith in
     let on_is : on ≡ goes_on v = goes ∙ ap (λ (m : Node). nat_lt 0 (downs (drop (slot + 1) m.ports))) node
@@ -285,7 +285,7 @@ lines_end t margin irm id slot n entry now at_n long inv = λ from parent part h
         now ≡ entry ++ tree_lines margin (length (walk t) - 1) irm from part
     of (branch a s) from parent h place =
         let at : id ≡ from + length (walk_below s) = omega (arith, place, length-walk a s) in
-        let node : n ≡ node_of a s = some-same n (node_of a s) (sym at_n ∙ ap (slice_get (walk t)) at ∙ own-node t from parent a s h) in
+        let node : n ≡ node_of a s = same_Some n (node_of a s) (sym at_n ∙ ap (slice_get (walk t)) at ∙ own-node t from parent a s h) in
         let few : length (statuses s) ≤ slot = subst (λ (m : Node). length m.ports ≤ slot) node long in
         let over : rest slot s ≡ no_more = no-statuses (rest slot s) (rest-statuses slot s ∙ drop_all slot (statuses s) few) in
         sym (append-nothing now)

@@ -1,6 +1,6 @@
 -- Worlds that never settle: how it is shown that no number of turns is enough.
 use Rattle.std.proofs.Common.{◌≡◌, ◌≢◌, ◌⊎◌, ℕ, zero, suc, ◌<◌, ◌≤◌, Bool, true, false, not, ◌&&◌, List, [], ◌∷◌, Option, Some, None, is_some, nat_lt, map, slice_get, refl, sym, ◌∙◌, ap, subst, arith, inl, inr}
-use Rattle.std.proofs.lemmas.Bool.{cases_lt}
+use Rattle.std.proofs.lemmas.Bool.{cases_lt, and_parts}
 use Rattle.std.specs.Prelude.{IsSome, IsSomeAnd}
 use Rattle.std.specs.List.{list_all}
 use Rattle.port_state.specs.declared.view.View.{View}
@@ -44,10 +44,6 @@ open-unsettled w set o (contention a b, h) = o.unlike a b h.0.rising h.0.draws
 abbrev pub each_view : (View → Bool) → CableWorld → Bool
 each_view test w = list_all (λ (x : PortNode). test x.state.view) w.nodes
 
-both : (a b : Bool) → (a && b) ≡ true → (a ≡ true) × (b ≡ true)
-both true b e = (refl, e)
-both false b e = absurd cc
-
 -- where each node passes a test, no node shows what doesn't pass it
 pub nowhere :
     (test : View → Bool) (P : View → Type 0) (w : CableWorld) (k : ℕ) →
@@ -58,8 +54,8 @@ nowhere test P w k never all = go w.nodes k all
         (nodes : List PortNode) (j : ℕ) → list_all (λ (x : PortNode). test x.state.view) nodes ≡ true →
         IsSomeAnd (slice_get nodes j) (λ (x : PortNode). P x.state.view) → ⊥
     go [] j a h = absurd h
-    go (x ∷ nodes) zero a h = never x.state.view (both (test x.state.view) (list_all (λ (y : PortNode). test y.state.view) nodes) a).0 h
-    go (x ∷ nodes) (suc j) a h = go nodes j (both (test x.state.view) (list_all (λ (y : PortNode). test y.state.view) nodes) a).1 h
+    go (x ∷ nodes) zero a h = never x.state.view (and_parts (test x.state.view) (list_all (λ (y : PortNode). test y.state.view) nodes) a).0 h
+    go (x ∷ nodes) (suc j) a h = go nodes j (and_parts (test x.state.view) (list_all (λ (y : PortNode). test y.state.view) nodes) a).1 h
 
 -- no ID, no timeout, and few coins drawn
 abbrev pub is_fresh : View → Bool
@@ -81,8 +77,8 @@ pub open-unnamed :
     (w : CableWorld) → each_view is_unnamed w ≡ true →
     ((a b : ℕ) → a < b → Shows w a (λ v. Shows w b (λ u. DrewAlike v u)) → ⊥) → IsOpen w
 open-unnamed w all unlike = record {
-  unnamed = λ k. nowhere is_unnamed (λ v. IsSome v.id) w k (λ v e. named-not v.id (both (not (is_some v.id)) (not v.timed_out) e).0) all;
-  calm = λ k. nowhere is_unnamed (λ v. v.timed_out ≡ true) w k (λ v e. timed-not v.timed_out (both (not (is_some v.id)) (not v.timed_out) e).1) all;
+  unnamed = λ k. nowhere is_unnamed (λ v. IsSome v.id) w k (λ v e. named-not v.id (and_parts (not (is_some v.id)) (not v.timed_out) e).0) all;
+  calm = λ k. nowhere is_unnamed (λ v. v.timed_out ≡ true) w k (λ v e. timed-not v.timed_out (and_parts (not (is_some v.id)) (not v.timed_out) e).1) all;
   unlike = unlike;
 }
 
@@ -90,8 +86,8 @@ fresh-parts :
     (v : View) → is_fresh v ≡ true →
     (not (is_some v.id) ≡ true) × (not v.timed_out ≡ true) × (nat_lt v.draws 32 ≡ true)
 fresh-parts v e =
-    let first = both (not (is_some v.id)) (not v.timed_out && nat_lt v.draws 32) e in
-    let second = both (not v.timed_out) (nat_lt v.draws 32) first.1 in
+    let first = and_parts (not (is_some v.id)) (not v.timed_out && nat_lt v.draws 32) e in
+    let second = and_parts (not v.timed_out) (nat_lt v.draws 32) first.1 in
     (first.0, second.0, second.1)
 
 few-many : (n : ℕ) → nat_lt n 32 ≡ true → 32 ≤ n → ⊥

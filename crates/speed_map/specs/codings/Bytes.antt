@@ -1,14 +1,8 @@
--- The bytes of quadlets, and quadlets that break no rule of an image. No public contract cites this
--- file: public clauses speak of the image of some rows.
-use Rattle.std.specs.Prelude.{ℕ, ◌%◌, ◌^◌, List, [], ◌∷◌, ◌++◌, drop, slice_index}
-use Rattle.std.specs.Int.{w32, to_be_bytes}
+-- Quadlets that break no rule of an image. No public contract cites this file: public clauses speak of the
+-- image of some rows.
+use Rattle.std.specs.Prelude.{ℕ, ◌%◌, ◌^◌, List, drop, slice_index}
 use Rattle.topology_map.specs.Crc.{IsCrc}
 use Rattle.speed_map.specs.Image.{HasLength, HoldsRows}
-
--- the bytes of quadlets, the highest of each first
-abbrev pub bytes_of : List ℕ → List ℕ
-bytes_of [] = []
-bytes_of (quad ∷ quads) = to_be_bytes w32 quad ++ bytes_of quads
 
 pub record Tells (quads : List ℕ) : Type 0 where
   pub length_told : HasLength quads

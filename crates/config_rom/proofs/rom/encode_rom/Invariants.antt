@@ -1,5 +1,5 @@
 use Rattle.std.proofs.Common.{◌≡◌, ◌++◌, drop}
-use Rattle.config_rom.specs.Rom.{bytes_of}
+use Rattle.quad_lanes.specs.Pairs.{bytes_of}
 use Rattle.config_rom.proofs.rom.encode_rom.Given as goal
 
 -- the bytes so far, and then those of the quadlets that are left, are the bytes of all

@@ -1,5 +1,5 @@
 use Rattle.std.proofs.Common.{◌≡◌, ◌++◌, drop}
-use Rattle.speed_map.specs.codings.Bytes.{bytes_of}
+use Rattle.quad_lanes.specs.Pairs.{bytes_of}
 use Rattle.speed_map.proofs.reading.bytes_of.Given as goal
 
 -- the bytes so far, and then those of the quadlets that are left, are the bytes of all

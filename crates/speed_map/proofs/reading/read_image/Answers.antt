@@ -1,6 +1,6 @@
 use Rattle.std.proofs.Common.{Err, ap, arith, ◌∙◌}
 use Rattle.std.proofs.lemmas.Result.{err_from_is_err_and}
-use Rattle.speed_map.specs.codings.Bytes.{bytes_of}
+use Rattle.quad_lanes.specs.Pairs.{bytes_of}
 use Rattle.speed_map.proofs.ReadBack.{behind_two, is_image, parts_are, no_fault, one_fault}
 use Rattle.speed_map.proofs.reading.read_image.Goals as goal
 
