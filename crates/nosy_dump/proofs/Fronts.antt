@@ -1,6 +1,6 @@
 -- What stands written where a dump wasn't shown to its end: the front of its text.
-use Rattle.std.proofs.Common.{◌≡◌, ◌∙◌, inl, inr, ℕ, ◌+◌, ◌-◌, ◌<◌, ◌≤◌, Bool, ◌||◌, Option, Some, None, Result, Ok, Err, List, [], ◌∷◌, ◌++◌, length, take, drop, refl, sym, ap, subst, append_assoc, append-nil, length-append, arith}
-use Rattle.std.specs.Prelude.{IfSome, IfOk, IfErr, OnErr, slice_index}
+use Rattle.std.proofs.Common.{◌≡◌, ◌∙◌, ℕ, ◌+◌, ◌-◌, ◌≤◌, Bool, Option, Some, None, Result, Ok, Err, List, [], ◌∷◌, ◌++◌, length, refl, sym, ap, subst, append_assoc, append-nil, length-append, arith}
+use Rattle.std.specs.Prelude.{IfSome, IfOk, IfErr, OnErr}
 use Rattle.std.specs.Io.KnownBytes.{Appends, Consumes, IsAtEnd}
 use Rattle.io_edges.specs.Faults.{Rose}
 use Rattle.io_edges.specs.Told.{StayTold}
@@ -10,23 +10,29 @@ use Rattle.reset_log.specs.InOrder.{AreTold}
 use Rattle.reset_log.specs.Cause.{StoppedWriting}
 use Rattle.reset_log.specs.Answered.{IsExact, IsComplete}
 use Rattle.reset_log.specs.Wrote.{Wrote, WroteFront, WroteFrontOf}
-use Rattle.reset_log.proofs.Lemmas.{one_more, told_once, told_first, wrote_nothing, front_then, front_more, front_whole, consumes_then, all_came, log_left, split_at, exact_of, complete_of}
+use Rattle.reset_log.proofs.Lemmas.{told_once, told_first, wrote_then, front_then, front_more, front_whole, all_came, log_left, exact_of, complete_of}
 use Rattle.nosy_dump.specs.declared.dump.DumpReader.{DumpReader}
 use Rattle.nosy_dump.specs.declared.record.Record.{Record}
 use Rattle.nosy_dump.specs.declared.record.Record.TheVariants.{Reset, SelfId, Other}
 use Rattle.nosy_dump.specs.declared.record.DumpReset.{DumpReset}
 use Rattle.nosy_dump.specs.declared.record.DumpFault.{DumpFault}
 use Rattle.nosy_dump.specs.declared.record.DumpFault.TheVariants.{BadLength}
-use Rattle.nosy_dump.specs.Record.{dump_of, record_of, IsOpen, EndsSo}
+use Rattle.nosy_dump.specs.Record.{dump_of, AreSized, record_of, IsOpen, EndsSo}
 use Rattle.nosy_dump.specs.Resets.{resets_from}
 use Rattle.nosy_dump.specs.Noted.{Noted, nothing}
 use Rattle.nosy_dump.specs.Notes.{noted}
 use Rattle.nosy_dump.specs.Dump.{last_text, IsResetShown, IsDumpShown, IsWritten}
-use Rattle.nosy_dump.specs.codings.Going.{AreResets, Stands, IsWhole, HasBadLength, ShowsBy, Goes, BreaksOff, Solid, Broke, ShowsAll, Reads}
-use Rattle.nosy_dump.proofs.Records.{sized_more, resets_other, resets_reset, resets_packet, fresh, last_with}
+use Rattle.nosy_dump.specs.codings.Going.{AreResets, Knows, HasBadLength, ShowsBy, Stays, Goes, Opens, Leads, Writes, Reads}
+use Rattle.nosy_dump.proofs.Records.{resets_other, resets_reset, resets_packet, fresh, last_with}
 use Rattle.nosy_dump.proofs.OneText.{front_records, one_parting, same_reset, one_text}
-use Rattle.nosy_dump.proofs.Going.{shown_now, place_of, whole_done, holds_now, bad_length}
+use Rattle.nosy_dump.proofs.Going.{shown_now, holds_written, front_ends}
 use Rattle.nosy_dump.proofs.Reading.{room, dump_left, map_ok, map_err}
+
+-- the last of these resets is none of the first, so that further packets leave them as they are
+abbrev pub Solid : List DumpReset → List DumpReset → Type 0
+Solid [] others = Unit {0}
+Solid (r ∷ rs) [] = ⊥
+Solid (r ∷ rs) (p ∷ ps) = Unit {0}
 
 -- ---- resets in front stay
 
@@ -101,37 +107,6 @@ first_text form records first others text all b c t u told is whole =
     told_once (IsResetShown form) (λ n s r e g h k p q. same_reset form n s r e g h k p q) 1 nothing first f.0 text f.2 b f.3 t f.4 told
     in (f.1, f.5 ∙ ap (λ (l : List ℕ). l ++ f.1) same.0)
 
-pub front_of : {K : Type 0} {w : K → Option (List ℕ)} {f : K → ℕ} {t : K → ℕ → Type 0} (form : LogForm) (done left : List ℕ) (old new : K) →
-    Broke w f t form done old new →
-    WroteFrontOf w f t (IsDumpShown form (done ++ left)) old new
-front_of form done left old new b = λ text bad is.
-    let h = front_records b.records is.records (b.behind ++ left) is.rest is.fault b.sized is.sized is.ends
-    (sym (append_assoc (dump_of b.records) b.behind left) ∙ ap (λ (l : List ℕ). l ++ left) (sym b.done_is) ∙ is.dump_is)
-    in
-    let on = later b.records h.0 b.first (record { others = b.others; all_are = b.resets_are; solid = b.solid }) in
-    let first = first_text form is.records b.first on.others b.text is.resets_text b.bad is.is_refused b.known is.known b.told (ap (resets_from 0) h.1 ∙ on.all_are) is.told in
-    let fault = last_text form (length (dump_of is.records)) is.fault is.known in
-    front_more old new b.text (first.0 ++ fault) text
-    (is.text_is ∙ ap (λ (l : List ℕ). l ++ fault) first.1 ∙ append_assoc b.text first.0 fault) b.wrote
-
-pub broke_more : {K : Type 0} {w : K → Option (List ℕ)} {f : K → ℕ} {t : K → ℕ → Type 0} (form : LogForm) (done more : List ℕ) (old new : K) →
-    Broke w f t form done old new → Broke w f t form (done ++ more) old new
-broke_more form done more old new b = record {
-  records = b.records;
-  behind = b.behind ++ more;
-  done_is = ap (λ (l : List ℕ). l ++ more) b.done_is ∙ append_assoc (dump_of b.records) b.behind more;
-  sized = b.sized;
-  first = b.first;
-  others = b.others;
-  resets_are = b.resets_are;
-  solid = b.solid;
-  text = b.text;
-  bad = b.bad;
-  known = b.known;
-  told = b.told;
-  wrote = b.wrote;
-}
-
 waits_behind : (records : List (List ℕ)) (ended : List DumpReset) (pending : Option DumpReset) →
     AreResets records ended pending → GoOn ended (resets_from 0 records)
 waits_behind records ended None are = record { others = []; all_are = are.0 ∙ sym are.1 ∙ sym (append-nil ended); solid = none ended are.1 }
@@ -146,160 +121,119 @@ waits_behind records ended (Some p) are = record { others = p ∷ []; all_are = 
     some (x ∷ xs) = tt
 
 -- all resets were shown that another one followed
-pub stood : {K : Type 0} {w : K → Option (List ℕ)} {f : K → ℕ} {t : K → ℕ → Type 0} (Holds : List ℕ → Type 0) (r : DumpReader) (done : List ℕ) (start was : K) →
-    Stands w f t Holds r done start was → Broke w f t r.form done start was
-stood Holds r done start was st =
-    let on = waits_behind st.records st.ended r.pending st.resets_are in
-    record {
-      records = st.records;
-      behind = r.part.items;
-      done_is = st.done_is;
-      sized = st.sized;
-      first = st.ended;
-      others = on.others;
-      resets_are = on.all_are;
-      solid = on.solid;
-      text = st.text;
-      bad = r.bad;
-      known = noted r.notes;
-      told = st.told;
-      wrote = front_whole start was st.text st.wrote;
-    }
-
--- among bytes
-pub broke_within : {K : Type 0} {w : K → Option (List ℕ)} {f : K → ℕ} {t : K → ℕ → Type 0} (form : LogForm) (done bytes : List ℕ) (at : ℕ) (start is : K) →
-    Broke w f t form ((done ++ take at bytes) ++ slice_index bytes at ∷ []) start is →
-    at < length bytes → Broke w f t form (done ++ bytes) start is
-broke_within {w = w} {f = f} {t = t} form done bytes at start is b few =
-    subst (λ (l : List ℕ). Broke w f t form l start is) (sym joined)
-    (broke_more form ((done ++ take at bytes) ++ slice_index bytes at ∷ []) (drop (at + 1) bytes) start is b)
-  where
-    joined : done ++ bytes ≡ ((done ++ take at bytes) ++ slice_index bytes at ∷ []) ++ drop (at + 1) bytes
-    joined =
-        ap (λ (l : List ℕ). done ++ l) (split_at bytes at few)
-        ∙ sym (append_assoc done (take at bytes ++ slice_index bytes at ∷ []) (drop (at + 1) bytes))
-        ∙ ap (λ (l : List ℕ). l ++ drop (at + 1) bytes) (sym (append_assoc done (take at bytes) (slice_index bytes at ∷ [])))
-
--- ---- the reset that waits wasn't shown whole
-
--- what is told with it, and the front of that which was written
-record PartMore {K : Type 0} (w : K → Option (List ℕ)) (f : K → ℕ) (t : K → ℕ → Type 0)
-    (form : LogForm) (ended : List DumpReset) (p : DumpReset) (start is : K) : Type 0
-  where
-    text : List ℕ
-    bad : Bool
-    known : Noted
-    told : AreTold (IsResetShown form) 1 nothing (ended ++ p ∷ []) text bad known
-    wrote : WroteFront w f t start is text
-
-part_more : {K : Type 0} {w : K → Option (List ℕ)} {f : K → ℕ} {t : K → ℕ → Type 0} (Holds : List ℕ → Type 0) (old : DumpReader) (done : List ℕ) (p : DumpReset) (n : ℕ) (x u : Noted) (more : List ℕ) (here : Bool) (start was is : K) →
-    (st : Stands w f t Holds old done start was) → n ≡ old.number → x ≡ noted old.notes →
-    IsResetShown old.form n x p more here u → WroteFront w f t was is more →
-    PartMore w f t old.form st.ended p start is
-part_more Holds old done p n x u more here start was is st en et shown part =
-    let place : n ≡ 1 + length st.ended = omega (arith, en, st.number_is) in
-    let one : IsResetShown old.form (1 + length st.ended) (noted old.notes) p more here u =
-    subst (λ (k : ℕ). IsResetShown old.form k (noted old.notes) p more here u) place
-    (subst (λ (y : Noted). IsResetShown old.form n y p more here u) et shown) in
-    record {
-      text = st.text ++ more;
-      bad = old.bad || here;
-      known = u;
-      told = one_more (IsResetShown old.form) 1 nothing (noted old.notes) u st.ended p st.text more old.bad here st.told one;
-      wrote = front_then start was is st.text more st.wrote part;
-    }
-
-waits_so : (records : List (List ℕ)) (ended : List DumpReset) (pending : Option DumpReset) (p : DumpReset) →
-    AreResets records ended pending → pending ≡ Some p → resets_from 0 records ≡ ended ++ p ∷ []
-waits_so records ended pending p are e = subst (λ (o : Option DumpReset). AreResets records ended o) e are
-
--- at the record of the next reset
-pub broke_reset : {K : Type 0} {w : K → Option (List ℕ)} {f : K → ℕ} {t : K → ℕ → Type 0} (old mid : DumpReader) (done : List ℕ) (time : ℕ) (start was is : K) →
-    Stands w f t IsWhole old done start was → record_of (drop 4 old.part.items) ≡ Reset time →
-    BreaksOff w f t mid was is → mid.form ≡ old.form → mid.pending ≡ old.pending →
-    mid.number ≡ old.number → noted mid.notes ≡ noted old.notes → Broke w f t old.form done start is
-broke_reset {K = K} {w = w} {f = f} {t = t} old mid done time start was is st kind (inl e) es ep en et =
-    subst (λ (o : K). Broke w f t old.form done start o) (sym e) (stood IsWhole old done start was st)
-broke_reset old mid done time start was is st kind (inr b) es ep en et =
-    let shown : IsResetShown old.form mid.number (noted mid.notes) b.reset b.part.text b.part.here b.part.known = subst (λ (s : LogForm). IsResetShown s mid.number (noted mid.notes) b.reset b.part.text b.part.here b.part.known) es b.part.shown in
-    let part = part_more IsWhole old done b.reset mid.number (noted mid.notes) b.part.known b.part.text b.part.here start was is st en et shown b.part.wrote in
-    let are = waits_so st.records st.ended old.pending b.reset st.resets_are (sym ep ∙ b.pending_is) in
-    let more = resets_reset 0 st.records (drop 4 old.part.items) time (0 + length (dump_of st.records)) kind refl in
-    record {
-      records = st.records ++ drop 4 old.part.items ∷ [];
-      behind = [];
-      done_is = whole_done st.records old.part.items done st.done_is st.holds.bytes_are;
-      sized = sized_more st.records (drop 4 old.part.items) st.sized st.holds.sized;
-      first = st.ended ++ b.reset ∷ [];
-      others = fresh (0 + length (dump_of st.records)) time ∷ [];
-      resets_are = more ∙ ap (λ (l : List DumpReset). l ++ fresh (0 + length (dump_of st.records)) time ∷ []) are;
-      solid = solid_more (st.ended ++ b.reset ∷ []) [] (fresh (0 + length (dump_of st.records)) time);
-      text = part.text;
-      bad = part.bad;
-      known = part.known;
-      told = part.told;
-      wrote = part.wrote;
-    }
-
--- at the end
-pub broke_end : {K : Type 0} {w : K → Option (List ℕ)} {f : K → ℕ} {t : K → ℕ → Type 0} (old : DumpReader) (done more : List ℕ) (fault : Option DumpFault) (start was is : K) →
-    Stands w f t (λ bytes. EndsSo (bytes ++ more) fault) old done start was →
-    BreaksOff w f t old was is →
-    WroteFrontOf w f t (IsDumpShown old.form (done ++ more)) start is
-broke_end {K = K} {w = w} {f = f} {t = t} old done more fault start was is st (inl e) =
-    subst (λ (o : K). WroteFrontOf w f t (IsDumpShown old.form (done ++ more)) start o) (sym e)
-    (front_of old.form done more start was (stood (λ bytes. EndsSo (bytes ++ more) fault) old done start was st))
-broke_end old done more fault start was is st (inr b) = λ text bad all.
-    let part = part_more (λ bytes. EndsSo (bytes ++ more) fault) old done b.reset old.number (noted old.notes) b.part.known b.part.text b.part.here start was is st refl refl b.part.shown b.part.wrote in
-    let are = waits_so st.records st.ended old.pending b.reset st.resets_are b.pending_is in
-    let same = one_parting st.records all.records (old.part.items ++ more) all.rest fault all.fault st.sized all.sized st.holds all.ends
-    (sym (append_assoc (dump_of st.records) old.part.items more) ∙ ap (λ (l : List ℕ). l ++ more) (sym st.done_is) ∙ all.dump_is)
+pub leads : (Holds : List ℕ → Type 0) (r : DumpReader) (done text : List ℕ) →
+    Knows Holds r done text → Leads r.form done text
+leads Holds r done text st left all bad is =
+    let waits = waits_behind st.records st.ended r.pending st.resets_are in
+    let h = front_records st.records is.records (r.part.items ++ left) is.rest is.fault st.sized is.sized is.ends
+    (sym (append_assoc (dump_of st.records) r.part.items left) ∙ ap (λ (l : List ℕ). l ++ left) (sym st.done_is) ∙ is.dump_is)
     in
-    let first = first_text old.form all.records (st.ended ++ b.reset ∷ []) [] part.text all.resets_text part.bad all.is_refused part.known all.known part.told (ap (resets_from 0) (sym same.records) ∙ are ∙ sym (append-nil (st.ended ++ b.reset ∷ []))) all.told in
-    let last = last_text old.form (length (dump_of all.records)) all.fault all.known in
-    front_more start is part.text (first.0 ++ last) text
-    (all.text_is ∙ ap (λ (l : List ℕ). l ++ last) first.1 ∙ append_assoc part.text first.0 last) part.wrote
+    let on = later st.records h.0 st.ended waits in
+    let first = first_text r.form is.records st.ended on.others text is.resets_text r.bad is.is_refused (noted r.notes) is.known st.told (ap (resets_from 0) h.1 ∙ on.all_are) is.told in
+    let last = last_text r.form (length (dump_of is.records)) is.fault is.known in
+    (first.0 ++ last, is.text_is ∙ ap (λ (l : List ℕ). l ++ last) first.1 ∙ append_assoc text first.0 last)
 
--- all resets were shown, and the front of what stands behind them
-pub broke_fault : {K : Type 0} {w : K → Option (List ℕ)} {f : K → ℕ} {t : K → ℕ → Type 0} (old : DumpReader) (done more : List ℕ) (fault : Option DumpFault) (byte m : ℕ) (u : Noted) (c : Bool) (start was is will : K) →
-    (st : Stands w f t (λ bytes. EndsSo (bytes ++ more) fault) old done start was) →
-    length done ≤ 9223372036854775807 → byte ≡ old.taken - length old.part.items →
-    ShowsBy w f t old.form old.pending old.number (noted old.notes) old.bad m u c was is →
-    WroteFront w f t is will (last_text old.form byte fault u) →
-    WroteFrontOf w f t (IsDumpShown old.form (done ++ more)) start will
-broke_fault {w = w} {f = f} {t = t} old done more fault byte m u c start was is will st few at shows part = λ text bad all.
-    let now = shown_now old (λ bytes. EndsSo (bytes ++ more) fault) done start was is m u c st few shows in
-    let place : byte ≡ length (dump_of st.records) = place_of old (λ bytes. EndsSo (bytes ++ more) fault) done start was byte st at in
-    let same = one_parting st.records all.records (old.part.items ++ more) all.rest fault all.fault st.sized all.sized st.holds all.ends
-    (sym (append_assoc (dump_of st.records) old.part.items more) ∙ ap (λ (l : List ℕ). l ++ more) (sym st.done_is) ∙ all.dump_is)
-    in
-    let none = told_once (IsResetShown old.form) (λ n s r e g h k p q. same_reset old.form n s r e g h k p q) 1 nothing (resets_from 0 all.records) all.resets_text now.text all.is_refused c all.known u all.told
-    (subst (λ (rs : List (List ℕ)). AreTold (IsResetShown old.form) 1 nothing (resets_from 0 rs) now.text c u) same.records now.told)
-    in
-    let told : last_text old.form (length (dump_of all.records)) all.fault all.known ≡ last_text old.form byte fault u =
-    ap (λ (g : Option DumpFault). last_text old.form (length (dump_of all.records)) g all.known) (sym same.fault)
-    ∙ ap (λ (rs : List (List ℕ)). last_text old.form (length (dump_of rs)) fault all.known) (sym same.records)
-    ∙ ap (λ (k : ℕ). last_text old.form k fault all.known) (sym place) ∙ ap (λ (k : Noted). last_text old.form byte fault k) none.2
-    in
-    let is_all : text ≡ now.text ++ last_text old.form byte fault u =
-    all.text_is ∙ ap (λ (l : List ℕ). l ++ last_text old.form (length (dump_of all.records)) all.fault all.known) none.0
-    ∙ ap (λ (l : List ℕ). now.text ++ l) told
-    in
-    subst (λ (l : List ℕ). WroteFront w f t start will l) (sym is_all)
-    (front_then start is will now.text (last_text old.form byte fault u) now.wrote part)
+pub leads_more : (form : LogForm) (done more all text : List ℕ) → all ≡ done ++ more →
+    Leads form done text → Leads form all text
+leads_more form done more all text is h left =
+    subst (λ (l : List ℕ). Opens form l text) (sym (ap (λ (l : List ℕ). l ++ left) is ∙ append_assoc done more left)) (h (more ++ left))
+
+pub leads_stays : (size : Option ℕ) (r : DumpReader) (done text : List ℕ) → Stays size r done text →
+    Leads r.form done text
+leads_stays None r done text st = leads IsOpen r done text st
+leads_stays (Some size) r done text st = leads (HasBadLength size) r done text st
+
+-- ---- at the end
+
+-- what is told of the first resets of a dump
+opens : (form : LogForm) (dump rest text : List ℕ) (records : List (List ℕ)) (fault : Option DumpFault) (first others : List DumpReset) (b : Bool) (t : Noted) →
+    dump ≡ dump_of records ++ rest → AreSized records → EndsSo rest fault →
+    resets_from 0 records ≡ first ++ others → AreTold (IsResetShown form) 1 nothing first text b t →
+    Opens form dump text
+opens form dump rest text records fault first others b t is sized ends are told all bad shown =
+    let same = one_parting records shown.records rest shown.rest fault shown.fault sized shown.sized ends shown.ends (sym is ∙ shown.dump_is) in
+    let front = first_text form shown.records first others text shown.resets_text b shown.is_refused t shown.known told (ap (resets_from 0) (sym same.records) ∙ are) shown.told in
+    let last = last_text form (length (dump_of shown.records)) shown.fault shown.known in
+    (front.0 ++ last, shown.text_is ∙ ap (λ (l : List ℕ). l ++ last) front.1 ∙ append_assoc text front.0 last)
+
+ends_behind : (old : DumpReader) (done more text : List ℕ) (fault : Option DumpFault) →
+    (st : Knows (λ bytes. EndsSo (bytes ++ more) fault) old done text) →
+    done ++ more ≡ dump_of st.records ++ (old.part.items ++ more)
+ends_behind old done more text fault st =
+    ap (λ (l : List ℕ). l ++ more) st.done_is ∙ append_assoc (dump_of st.records) old.part.items more
+
+-- the reset that waits wasn't shown
+pub opens_first : (old : DumpReader) (done more text : List ℕ) (fault : Option DumpFault) →
+    Knows (λ bytes. EndsSo (bytes ++ more) fault) old done text → Opens old.form (done ++ more) text
+opens_first old done more text fault st =
+    let waits = waits_behind st.records st.ended old.pending st.resets_are in
+    opens old.form (done ++ more) (old.part.items ++ more) text st.records fault st.ended waits.others old.bad (noted old.notes)
+    (ends_behind old done more text fault st) st.sized st.holds waits.all_are st.told
+
+-- all resets were shown
+pub opens_all : (old : DumpReader) (done more text was is : List ℕ) (fault : Option DumpFault) (m : ℕ) (u : Noted) (c : Bool) →
+    Knows (λ bytes. EndsSo (bytes ++ more) fault) old done (text ++ was) →
+    length done ≤ 9223372036854775807 →
+    ShowsBy old.form old.pending old.number (noted old.notes) old.bad m u c was is →
+    Opens old.form (done ++ more) (text ++ is)
+opens_all old done more text was is fault m u c st few shows =
+    let all = shown_now (λ bytes. EndsSo (bytes ++ more) fault) old done text was is m u c st few shows in
+    opens old.form (done ++ more) (old.part.items ++ more) (text ++ is) st.records fault (resets_from 0 st.records) [] c u
+    (ends_behind old done more (text ++ was) fault st) st.sized st.holds (sym (append-nil (resets_from 0 st.records))) all.told
+
+-- all was told
+pub opens_whole : (form : LogForm) (dump text : List ℕ) (bad : Bool) → IsDumpShown form dump text bad →
+    Opens form dump text
+opens_whole form dump text bad is all other shown =
+    ([], (one_text form dump all text other bad shown is).0 ∙ sym (append-nil text))
+
+-- ---- what was gathered is written
+
+-- what is known where nothing is gathered
+pub none_gathered : (Holds : List ℕ → Type 0) (r : DumpReader) (done text none : List ℕ) → none ≡ [] →
+    Knows Holds r done text → Knows Holds r done (text ++ none)
+none_gathered Holds r done text none e st =
+    subst (λ (l : List ℕ). Knows Holds r done l) (sym (ap (λ (l : List ℕ). text ++ l) e ∙ append-nil text)) st
+
+pub writes_on : {K : Type 0} {w : K → Option (List ℕ)} {f : K → ℕ} {t : K → ℕ → Type 0} (Is : List ℕ → Type 0) (text more : List ℕ) (start was is : K) →
+    Wrote w f t start was text → Wrote w f t was is more → Is (text ++ more) →
+    Writes w f t Is start is
+writes_on Is text more start was is wrote then holds = record {
+  text = text ++ more;
+  is = holds;
+  wrote = wrote_then start was is text more wrote then;
+}
+
+-- the front of what was gathered
+pub front_on : {K : Type 0} {w : K → Option (List ℕ)} {f : K → ℕ} {t : K → ℕ → Type 0} (form : LogForm) (dump text more : List ℕ) (start was is : K) →
+    Wrote w f t start was text → WroteFront w f t was is more → Opens form dump (text ++ more) →
+    WroteFrontOf w f t (IsDumpShown form dump) start is
+front_on form dump text more start was is wrote part opens all bad shown =
+    let o = opens all bad shown in
+    front_more start is (text ++ more) o.0 all o.1 (front_then start was is text more wrote part)
+
+-- all that was gathered
+pub whole_on : {K : Type 0} {w : K → Option (List ℕ)} {f : K → ℕ} {t : K → ℕ → Type 0} (form : LogForm) (dump text more : List ℕ) (start was is : K) →
+    Wrote w f t start was text → Wrote w f t was is more → Opens form dump (text ++ more) →
+    WroteFrontOf w f t (IsDumpShown form dump) start is
+whole_on form dump text more start was is wrote then opens =
+    front_on form dump text more start was is wrote (front_whole was is more then) opens
 
 -- ---- a call
 
--- nothing was written
-pub no_front : {K : Type 0} {w : K → Option (List ℕ)} {f : K → ℕ} {t : K → ℕ → Type 0} (a : K) (text : List ℕ) → WroteFront w f t a a text
-no_front a text = front_more a a [] text text refl (front_whole a a [] (wrote_nothing a))
-
 -- what was written whole is a front too
 front_all : {K : Type 0} {w : K → Option (List ℕ)} {f : K → ℕ} {t : K → ℕ → Type 0} (form : LogForm) (dump : List ℕ) (bad : Bool) (old new : K) →
-    ShowsAll w f t form dump bad old new → WroteFrontOf w f t (IsDumpShown form dump) old new
+    Writes w f t (λ text. IsDumpShown form dump text bad) old new → WroteFrontOf w f t (IsDumpShown form dump) old new
 front_all {w = w} {f = f} {t = t} form dump bad old new all = λ text c is.
-    let same = one_text form dump all.text text bad c all.is_shown is in
+    let same = one_text form dump all.text text bad c all.is is in
     front_whole old new text (subst (λ (l : List ℕ). Wrote w f t old new l) same.0 all.wrote)
+
+front_of : {K : Type 0} {w : K → Option (List ℕ)} {f : K → ℕ} {t : K → ℕ → Type 0} (r : DumpReader) (done left : List ℕ) (old new : K) →
+    Writes w f t (Knows IsOpen r done) old new →
+    WroteFrontOf w f t (IsDumpShown r.form (done ++ left)) old new
+front_of r done left old new all = λ text bad is.
+    let o = leads IsOpen r done all.text all.is left text bad is in
+    front_more old new all.text o.0 text o.1 (front_whole old new all.text all.wrote)
 
 -- no more was read
 pub front_left : {K : Type 0} {w : K → Option (List ℕ)} {f : K → ℕ} {t : K → ℕ → Type 0} (r : DumpReader) (form : LogForm) (first now : Option (List ℕ)) (was is : K) (a b : ℕ) →
@@ -308,26 +242,23 @@ pub front_left : {K : Type 0} {w : K → Option (List ℕ)} {f : K → ℕ} {t :
 front_left {w = w} {f = f} {t = t} r form first now was is a b h =
     log_left first now h.done (λ dump. WroteFrontOf w f t (IsDumpShown form dump) was is) h.came h.told
     (λ left.
-    front_of form h.done left was is
-    (subst (λ (s : LogForm). Broke w f t s h.done was is) h.same (stood IsOpen r h.done was is h.stands)))
+    subst (λ (s : LogForm). WroteFrontOf w f t (IsDumpShown s (h.done ++ left)) was is) h.same (front_of r h.done left was is h.stands))
 
 -- a piece wasn't shown whole
 pub front_piece : {K : Type 0} {w : K → Option (List ℕ)} {f : K → ℕ} {t : K → ℕ → Type 0} (r : DumpReader) (form : LogForm) (first now next : Option (List ℕ)) (was is will : K) (a b : ℕ) (piece : List ℕ) →
     Reads w f t r form first now was is a b → Consumes now next piece → StayTold now next →
     length piece ≤ 9223372036854775807 - r.taken →
-    ((done : List ℕ) (start : K) → length done + length piece ≤ 9223372036854775807 → Stands w f t IsOpen r done start is → Broke w f t r.form (done ++ piece) start will) →
+    ((done left : List ℕ) (start : K) → length done + length piece ≤ 9223372036854775807 → Writes w f t (Knows IsOpen r done) start is → WroteFrontOf w f t (IsDumpShown r.form ((done ++ piece) ++ left)) start will) →
     IfSome first (λ dump. WroteFrontOf w f t (IsDumpShown form dump) was will)
 front_piece {w = w} {f = f} {t = t} r form first now next was is will a b piece h came told fits part =
     let fit = room r form first now was is a b piece h fits in
-    log_left first next (h.done ++ piece) (λ dump. WroteFrontOf w f t (IsDumpShown form dump) was will)
-    (consumes_then first now next h.done piece h.told h.came came) (told ∙ h.told)
+    dump_left first now next h.done piece (λ dump. WroteFrontOf w f t (IsDumpShown form dump) was will) h.came came h.told told
     (λ left.
-    front_of form (h.done ++ piece) left was will
-    (subst (λ (s : LogForm). Broke w f t s (h.done ++ piece) was will) h.same (part h.done was fit h.stands)))
+    subst (λ (s : LogForm). WroteFrontOf w f t (IsDumpShown s ((h.done ++ piece) ++ left)) was will) h.same (part h.done left was fit h.stands))
 
 -- all was read: what is shown of it was written, or its front
-pub ends_so : {K : Type 0} {w : K → Option (List ℕ)} {f : K → ℕ} {t : K → ℕ → Type 0} (form : LogForm) (dump : List ℕ) (old new : K) (result : Result Bool LogStop) →
-    IfOk result (λ bad. ShowsAll w f t form dump bad old new) →
+ends_so : {K : Type 0} {w : K → Option (List ℕ)} {f : K → ℕ} {t : K → ℕ → Type 0} (form : LogForm) (dump : List ℕ) (old new : K) (result : Result Bool LogStop) →
+    IfOk result (λ bad. Writes w f t (λ text. IsDumpShown form dump text bad) old new) →
     OnErr result (WroteFrontOf w f t (IsDumpShown form dump) old new) →
     WroteFrontOf w f t (IsDumpShown form dump) old new
 ends_so form dump old new (Ok bad) ok part = front_all form dump bad old new ok
@@ -336,11 +267,11 @@ ends_so form dump old new (Err stop) ok part = part
 pub front_end : {K : Type 0} {w : K → Option (List ℕ)} {f : K → ℕ} {t : K → ℕ → Type 0} (r : DumpReader) (form : LogForm) (first now next : Option (List ℕ)) (was is will : K) (a b : ℕ) (fault : Option DumpFault) (result : Result Bool LogStop) →
     Reads w f t r form first now was is a b → Consumes now next [] → IsAtEnd next →
     (IsOpen r.part.items → EndsSo (r.part.items ++ []) fault) →
-    IfOk result (λ bad. (done more : List ℕ) (start : K) → length done ≤ 9223372036854775807 → Stands w f t (λ bytes. EndsSo (bytes ++ more) fault) r done start is → ShowsAll w f t r.form (done ++ more) bad start will) →
-    OnErr result ((done more : List ℕ) (start : K) → length done ≤ 9223372036854775807 → Stands w f t (λ bytes. EndsSo (bytes ++ more) fault) r done start is → WroteFrontOf w f t (IsDumpShown r.form (done ++ more)) start will) →
+    IfOk result (λ bad. (done more : List ℕ) (start : K) → length done ≤ 9223372036854775807 → Writes w f t (Knows (λ bytes. EndsSo (bytes ++ more) fault) r done) start is → Writes w f t (λ text. IsDumpShown r.form (done ++ more) text bad) start will) →
+    OnErr result ((done more : List ℕ) (start : K) → length done ≤ 9223372036854775807 → Writes w f t (Knows (λ bytes. EndsSo (bytes ++ more) fault) r done) start is → WroteFrontOf w f t (IsDumpShown r.form (done ++ more)) start will) →
     IfSome first (λ dump. WroteFrontOf w f t (IsDumpShown form dump) was will)
 front_end {w = w} {f = f} {t = t} r form first now next was is will a b fault result h none end fit ok part =
-    let st = holds_now IsOpen (λ bytes. EndsSo (bytes ++ []) fault) r h.done was is fit h.stands in
+    let st = holds_written IsOpen (λ bytes. EndsSo (bytes ++ []) fault) r h.done was is fit h.stands in
     all_came first now next h.done (λ dump. WroteFrontOf w f t (IsDumpShown form dump) was will) h.came h.told none end
     (subst (λ (s : LogForm). WroteFrontOf w f t (IsDumpShown s h.done) was will) h.same
     (subst (λ (l : List ℕ). WroteFrontOf w f t (IsDumpShown r.form l) was will) (append-nil h.done)
@@ -351,32 +282,32 @@ front_end {w = w} {f = f} {t = t} r form first now next was is will a b fault re
 pub front_cut : {K : Type 0} {w : K → Option (List ℕ)} {f : K → ℕ} {t : K → ℕ → Type 0} (r s : DumpReader) (form : LogForm) (first now next : Option (List ℕ)) (was is mid will : K) (a b : ℕ) (piece : List ℕ) (size : ℕ) (result : Result Bool LogStop) →
     Reads w f t r form first now was is a b → Consumes now next piece → StayTold now next →
     length piece ≤ 9223372036854775807 - r.taken →
-    ((done : List ℕ) (start : K) → length done + length piece ≤ 9223372036854775807 → Stands w f t IsOpen r done start is → Goes w f t (Some size) s (done ++ piece) start mid) →
+    ((done : List ℕ) (start : K) → length done + length piece ≤ 9223372036854775807 → Writes w f t (Knows IsOpen r done) start is → Writes w f t (Goes (Some size) s (done ++ piece)) start mid) →
     s.form ≡ r.form →
-    IfOk result (λ bad. (done more : List ℕ) (start : K) → length done ≤ 9223372036854775807 → Stands w f t (λ bytes. EndsSo (bytes ++ more) (Some (BadLength size))) s done start mid → ShowsAll w f t s.form (done ++ more) bad start will) →
-    OnErr result ((done more : List ℕ) (start : K) → length done ≤ 9223372036854775807 → Stands w f t (λ bytes. EndsSo (bytes ++ more) (Some (BadLength size))) s done start mid → WroteFrontOf w f t (IsDumpShown s.form (done ++ more)) start will) →
+    IfOk result (λ bad. (done more : List ℕ) (start : K) → length done ≤ 9223372036854775807 → Writes w f t (Knows (λ bytes. EndsSo (bytes ++ more) (Some (BadLength size))) s done) start mid → Writes w f t (λ text. IsDumpShown s.form (done ++ more) text bad) start will) →
+    OnErr result ((done more : List ℕ) (start : K) → length done ≤ 9223372036854775807 → Writes w f t (Knows (λ bytes. EndsSo (bytes ++ more) (Some (BadLength size))) s done) start mid → WroteFrontOf w f t (IsDumpShown s.form (done ++ more)) start will) →
     IfSome first (λ dump. WroteFrontOf w f t (IsDumpShown form dump) was will)
 front_cut {w = w} {f = f} {t = t} r s form first now next was is mid will a b piece size result h came told fits taken same ok part =
     let fit = room r form first now was is a b piece h fits in
     let goes = taken h.done was fit h.stands in
-    let small : length goes.0 ≤ 9223372036854775807 = omega (arith, fit, length-append h.done piece, ap (λ (l : List ℕ). length l) goes.2, length-append goes.0 goes.1) in
+    let small : length goes.is.0 ≤ 9223372036854775807 = omega (arith, fit, length-append h.done piece, ap (λ (l : List ℕ). length l) goes.is.2, length-append goes.is.0 goes.is.1) in
     dump_left first now next h.done piece (λ dump. WroteFrontOf w f t (IsDumpShown form dump) was will) h.came came h.told told
     (λ left.
-    let st = holds_now (HasBadLength size) (λ bytes. EndsSo (bytes ++ (goes.1 ++ left)) (Some (BadLength size))) s goes.0 was mid (bad_length s.part.items (goes.1 ++ left) size) goes.3 in
+    let st = front_ends s (h.done ++ piece) left size was mid goes in
     subst (λ (k : LogForm). WroteFrontOf w f t (IsDumpShown k ((h.done ++ piece) ++ left)) was will) (same ∙ h.same)
-    (subst (λ (l : List ℕ). WroteFrontOf w f t (IsDumpShown s.form l) was will) (sym (ap (λ (l : List ℕ). l ++ left) goes.2 ∙ append_assoc goes.0 goes.1 left))
-    (ends_so s.form (goes.0 ++ (goes.1 ++ left)) was will result (map_ok result _ _ (λ bad then. then goes.0 (goes.1 ++ left) was small st) ok)
-    (map_err result _ _ (λ then. then goes.0 (goes.1 ++ left) was small st) part))))
+    (subst (λ (l : List ℕ). WroteFrontOf w f t (IsDumpShown s.form l) was will) (sym (ap (λ (l : List ℕ). l ++ left) goes.is.2 ∙ append_assoc goes.is.0 goes.is.1 left))
+    (ends_so s.form (goes.is.0 ++ (goes.is.1 ++ left)) was will result (map_ok result _ _ (λ bad then. then goes.is.0 (goes.is.1 ++ left) was small st) ok)
+    (map_err result _ _ (λ then. then goes.is.0 (goes.is.1 ++ left) was small st) part))))
 
 -- ---- what is answered is the one text
 
 pub shown : {K : Type 0} (w : K → Option (List ℕ)) (f : K → ℕ) (t : K → ℕ → Type 0) (form : LogForm) (first : Option (List ℕ)) (was will : K) (result : Result Bool LogStop) →
-    IfOk result (λ bad. IfSome first (λ dump. ShowsAll w f t form dump bad was will)) →
+    IfOk result (λ bad. IfSome first (λ dump. Writes w f t (λ text. IsDumpShown form dump text bad) was will)) →
     IfOk result (λ bad. IfSome first (λ dump. IsWritten form (w was) (w will) dump bad))
 shown w f t form None was will (Ok bad) all = tt
 shown w f t form (Some dump) was will (Ok bad) all = record {
   text = all.text;
-  is_shown = all.is_shown;
+  is_shown = all.is;
   wrote = all.wrote.appended;
 }
 shown w f t form first was will (Err stop) all = tt

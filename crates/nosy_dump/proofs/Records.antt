@@ -1,5 +1,5 @@
 -- One record more, and what that does to the resets.
-use Rattle.std.proofs.Common.{◌≡◌, ◌∙◌, ℕ, suc, ◌+◌, ◌-◌, ◌≤◌, true, Some, List, [], ◌∷◌, ◌++◌, length, take, refl, sym, ap, append_assoc, append-nil, length-append, take_at, arith}
+use Rattle.std.proofs.Common.{◌≡◌, ◌∙◌, ℕ, suc, ◌+◌, ◌-◌, ◌≤◌, true, Some, List, [], ◌∷◌, ◌++◌, length, take, drop, refl, sym, ap, append_assoc, append-nil, length-append, take_at, arith}
 use Rattle.nosy_dump.specs.declared.record.Record.{Record}
 use Rattle.nosy_dump.specs.declared.record.Record.TheVariants.{Reset, SelfId, Other}
 use Rattle.nosy_dump.specs.declared.record.DumpReset.{DumpReset}
@@ -24,6 +24,20 @@ sized_more (s ∷ rs) r h e = (h.0, sized_more rs r h.1 e)
 pub length-record_bytes : (r : List ℕ) → length (record_bytes r) ≡ 4 + length r
 length-record_bytes r =
     let e : suc (suc (suc (suc (length r)))) ≡ 4 + length r = omega arith in e
+
+-- a record that bytes begin with
+pub front_taken : (r bytes : List ℕ) → bytes ≡ record_bytes r ++ drop (4 + length r) bytes →
+    record_bytes r ≡ take (length r + 4) bytes
+front_taken r bytes e =
+    let size : length (record_bytes r) ≡ length r + 4 = omega (arith, length-record_bytes r) in
+    sym (ap (λ (l : List ℕ). take (length r + 4) l) e ∙ take_at (record_bytes r) (drop (4 + length r) bytes) (length r + 4) size)
+
+pub front_fits : (r bytes done : List ℕ) → bytes ≡ record_bytes r ++ drop (4 + length r) bytes →
+    length done + length bytes ≤ 9223372036854775807 →
+    length done + (4 + length r) ≤ 9223372036854775807
+front_fits r bytes done e few =
+    let size : length bytes ≡ length (record_bytes r) + length (drop (4 + length r) bytes) = ap (λ (l : List ℕ). length l) e ∙ length-append (record_bytes r) (drop (4 + length r) bytes) in
+    omega (arith, few, size, length-record_bytes r)
 
 pub few_records : (rs : List (List ℕ)) → length rs ≤ length (dump_of rs)
 few_records [] = omega arith

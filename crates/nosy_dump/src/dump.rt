@@ -1,19 +1,19 @@
 //! Showing a dump as it comes.
-ghost use Rattle.std.specs.Prelude.{◌≡◌, ◌⊎◌, ◌↔◌, ◌<◌, ◌≤◌, ◌+◌, ◌++◌, ◌∷◌, ◌||◌, [], ℕ, false, is_none, is_some, List, Option, None, length, alloc_error, OnOk, OnErr, IfOk, IfErr, IfSome, IsErr, IsErrOf};
+ghost use Rattle.std.specs.Prelude.{◌≡◌, ◌⊎◌, ◌↔◌, ◌<◌, ◌≤◌, ◌+◌, ◌++◌, ◌||◌, [], ℕ, true, false, is_none, is_some, List, Option, None, length, take, OnOk, OnErr, IfOk, IfErr, IfSome, IsErr, IsErrOf};
 ghost use Rattle.std.specs.Io.KnownBytes.{IsAtEnd, Consumes};
 ghost use Rattle.io_edges.specs.Faults.{Rose};
 ghost use Rattle.io_edges.specs.Told.{IfTold, TookOver};
 ghost use Rattle.reset_log.specs.Cause.{StoppedWriting};
 ghost use Rattle.reset_log.specs.Answered.{IsExact, IsComplete, IsFront, IsSure};
 ghost use Rattle.reset_log.specs.Wrote.{Wrote, WroteFront, WroteFrontOf};
-ghost use Rattle.nosy_dump.specs.Record.{IsOpen, EndsSo};
+ghost use Rattle.nosy_dump.specs.Record.{record_bytes, is_size, IsOpen, EndsSo};
 ghost use Rattle.std.specs.Option.{option_copied};
 ghost use Rattle.nosy_dump.specs.Dump.{IsJudged, last_text, IsDumpShown, IsWritten, IsBegunWritten};
 ghost use Rattle.nosy_dump.specs.Notes.{noted};
-ghost use Rattle.nosy_dump.specs.codings.Going.{IsNew, Stands, IsWhole, ShowsReset, Shows, Begins, Keeps, Goes, ShowsPart, BreaksOff, Broke, ShowsAll};
+ghost use Rattle.nosy_dump.specs.codings.Going.{IsNew, Knows, Awaits, IsWhole, IsFilled, ShowsReset, Shows, Begins, Keeps, Stays, Goes, Leads, Opens, Writes};
 
 use crate::notes::Notes;
-use crate::record::{DumpFault, DumpReset, Record, is_size, record_of, size_of};
+use crate::record::{DumpFault, DumpReset, Record, front_record, is_size, record_of, size_of};
 use crate::texts::{end_text, head};
 use crate::values::{end_lines, reset_line};
 use io_edges::{Sink, Source, write_whole};
@@ -126,68 +126,57 @@ impl DumpReader {
         }
     }
 
-    /// Shows a reset.
-    fn show_one<K: Sink>(
+    /// Shows a reset, behind what was gathered.
+    fn show_one(
         &mut self,
         alloc: Global,
         reset: &DumpReset,
-        sink: &mut K,
-    ) -> Result<(), LogStop>
-        ensures ok { OnOk result (ShowsReset K.written K.faults K.surely_takes
+        out: &mut Vec<u8>,
+    ) -> Result<(), AllocError>
+        ensures ok { OnOk result (ShowsReset
             self.old.form reset.now self.old.number (noted self.old.notes) self.old.bad
-            self.new.number (noted self.new.notes) self.new.bad sink.old sink.new) }
-        ensures part { OnErr result ((sink.new ≡ sink.old)
-            ⊎ ShowsPart K.written K.faults K.surely_takes
-            self.old.form reset.now self.old.number (noted self.old.notes) sink.old sink.new) }
+            self.new.number (noted self.new.notes) self.new.bad out.old.items out.new.items) }
+        ensures part { OnErr result (out.new.items ≡ out.old.items) }
         ensures rest { OnOk result (self.new ≡ record self.old {
           number = self.new.number;
           notes = self.new.notes;
           bad = self.new.bad;
         }) }
-        ensures stops { IfErr result (StoppedWriting (K.faults sink.old) (K.faults sink.new)) }
-        ensures later { K.faults sink.old ≤ K.faults sink.new }
     {
         let before = self.notes.tree.as_ref();
         let ListShown { text, tree } = show_judged(alloc, self.form, self.number, before, reset)?;
         let refused = tree.is_none();
         self.notes.keep(tree)?;
-        put(sink, &text)?;
+        out.extend_from_slice(&text)?;
         self.bad = either(self.bad, refused);
         self.number = self.number.saturating_add(1);
         Ok(())
     }
 
-    /// Shows the reset that waits, if one does.
-    fn show<K: Sink>(&mut self, alloc: Global, sink: &mut K) -> Result<(), LogStop>
-        ensures ok { OnOk result (Shows K.written K.faults K.surely_takes
-            self.old self.new sink.old sink.new) }
-        ensures part { OnErr result (BreaksOff K.written K.faults K.surely_takes
-            self.old sink.old sink.new) }
-        ensures stops { IfErr result (StoppedWriting (K.faults sink.old) (K.faults sink.new)) }
-        ensures later { K.faults sink.old ≤ K.faults sink.new }
+    /// Shows the reset that waits, if one does, behind what was gathered.
+    fn show(&mut self, alloc: Global, out: &mut Vec<u8>) -> Result<(), AllocError>
+        ensures ok { OnOk result (Shows self.old self.new out.old.items out.new.items) }
+        ensures part { OnErr result (out.new.items ≡ out.old.items) }
     {
         match self.pending.take() {
-            Some(reset) => self.show_one(alloc, &reset, sink),
+            Some(reset) => self.show_one(alloc, &reset, out),
             None => Ok(()),
         }
     }
 
     /// Shows the reset that waits, and lets the one of the record at this byte wait.
-    fn begin<K: Sink>(
+    fn begin(
         &mut self,
         alloc: Global,
         byte: usize,
         time: u32,
-        sink: &mut K,
-    ) -> Result<(), LogStop>
-        ensures ok { OnOk result (Begins K.written K.faults K.surely_takes
-            byte time self.old self.new sink.old sink.new) }
-        ensures part { OnErr result (BreaksOff K.written K.faults K.surely_takes
-            self.old sink.old sink.new) }
-        ensures stops { IfErr result (StoppedWriting (K.faults sink.old) (K.faults sink.new)) }
-        ensures later { K.faults sink.old ≤ K.faults sink.new }
+        out: &mut Vec<u8>,
+    ) -> Result<(), AllocError>
+        ensures ok { OnOk result (Begins
+            byte time self.old self.new out.old.items out.new.items) }
+        ensures part { OnErr result (out.new.items ≡ out.old.items) }
     {
-        self.show(alloc, sink)?;
+        self.show(alloc, out)?;
         self.pending = Some(DumpReset {
             byte: byte as u64,
             time,
@@ -197,9 +186,8 @@ impl DumpReader {
     }
 
     /// Keeps a self-ID packet of the reset that waits, if one does.
-    fn keep(&mut self, quad: u32) -> Result<(), LogStop>
-        ensures ok { OnOk result (Keeps quad self.old self.new) }
-        ensures stops { IfErr result (λ stop. stop ≡ LogStop.Memory alloc_error) }
+    fn keep(&mut self, quad: u32) -> Result<(), AllocError>
+        ensures { OnOk result (Keeps quad self.old self.new) }
     {
         if let Some(reset) = &mut self.pending {
             reset.list.push(quad)?;
@@ -207,51 +195,104 @@ impl DumpReader {
         Ok(())
     }
 
-    /// Takes the record that is whole, and begins the next one.
-    fn take_record<K: Sink>(&mut self, alloc: Global, sink: &mut K) -> Result<(), LogStop>
-        requires { 4 ≤ length self.old.part.items }
-        ensures ok { OnOk result ((done : List ℕ) (start : K) → length done ≤ 9223372036854775807 →
-            Stands K.written K.faults K.surely_takes IsWhole self.old done start sink.old →
-            Stands K.written K.faults K.surely_takes IsOpen self.new done start sink.new) }
-        ensures part { OnErr result ((done : List ℕ) (start : K) → length done ≤ 9223372036854775807 →
-            Stands K.written K.faults K.surely_takes IsWhole self.old done start sink.old →
-            Broke K.written K.faults K.surely_takes self.old.form done start sink.new) }
-        ensures stops { IfErr result (StoppedWriting (K.faults sink.old) (K.faults sink.new)) }
+    /// Takes what the record at this byte tells.
+    fn judge(
+        &mut self,
+        alloc: Global,
+        byte: usize,
+        last: Record,
+        out: &mut Vec<u8>,
+    ) -> Result<(), AllocError>
+        ensures ok { OnOk result ((done text : List ℕ) → length done ≤ 9223372036854775807 →
+            Awaits self.old byte last done (text ++ out.old.items) →
+            Knows IsOpen self.new done (text ++ out.new.items)) }
+        ensures part { OnErr result (out.new.items ≡ out.old.items) }
         ensures same { OnOk result (self.new.form ≡ self.old.form) }
-        ensures later { K.faults sink.old ≤ K.faults sink.new }
     {
-        let byte = self.taken.saturating_sub(self.part.len());
-        let record = record_of(&self.part[4..]);
-        self.part.clear();
-        match record {
-            Record::Reset { time } => self.begin(alloc, byte, time, sink)?,
+        match last {
+            Record::Reset { time } => self.begin(alloc, byte, time, out)?,
             Record::SelfId { quad } => self.keep(quad)?,
             Record::Other => {}
         }
         Ok(())
     }
 
-    /// Takes a byte, and the record that it ends. It answers a length that a record can't have.
-    fn take_byte<K: Sink>(
+    /// Takes the bytes of a whole record where no other one has begun.
+    fn take_whole(
         &mut self,
         alloc: Global,
-        byte: u8,
-        sink: &mut K,
-    ) -> Result<Option<u32>, LogStop>
-        ensures ok { IfOk result (λ size. (done : List ℕ) (start : K) → length done < 9223372036854775807 →
-            Stands K.written K.faults K.surely_takes IsOpen self.old done start sink.old →
-            Goes K.written K.faults K.surely_takes
-            size self.new (done ++ byte ∷ []) start sink.new) }
-        ensures part { OnErr result ((done : List ℕ) (start : K) → length done < 9223372036854775807 →
-            Stands K.written K.faults K.surely_takes IsOpen self.old done start sink.old →
-            Broke K.written K.faults K.surely_takes
-            self.old.form (done ++ byte ∷ []) start sink.new) }
-        ensures stops { IfErr result (StoppedWriting (K.faults sink.old) (K.faults sink.new)) }
+        bytes: &[u8],
+        out: &mut Vec<u8>,
+    ) -> Result<(), AllocError>
+        ensures ok { OnOk result ((done text : List ℕ) →
+            length done + (4 + length bytes.now) ≤ 9223372036854775807 →
+            is_size (length bytes.now) ≡ true → self.old.part.items ≡ [] →
+            Knows IsOpen self.old done (text ++ out.old.items) →
+            Knows IsOpen self.new (done ++ record_bytes bytes.now) (text ++ out.new.items)) }
+        ensures part { OnErr result (out.new.items ≡ out.old.items) }
         ensures same { OnOk result (self.new.form ≡ self.old.form) }
-        ensures later { K.faults sink.old ≤ K.faults sink.new }
     {
-        self.taken = self.taken.saturating_add(1);
-        self.part.push(byte)?;
+        let byte = self.taken;
+        self.taken = byte.saturating_add(bytes.len()).saturating_add(4);
+        self.judge(alloc, byte, record_of(bytes), out)?;
+        Ok(())
+    }
+
+    /// Takes the record that is kept and is whole.
+    fn take_part(&mut self, alloc: Global, out: &mut Vec<u8>) -> Result<(), AllocError>
+        requires { 4 ≤ length self.old.part.items }
+        ensures ok { OnOk result ((done text : List ℕ) → length done ≤ 9223372036854775807 →
+            Knows IsWhole self.old done (text ++ out.old.items) →
+            Knows IsOpen self.new done (text ++ out.new.items)) }
+        ensures part { OnErr result (out.new.items ≡ out.old.items) }
+        ensures same { OnOk result (self.new.form ≡ self.old.form) }
+    {
+        let byte = self.taken.saturating_sub(self.part.len());
+        let record = record_of(&self.part[4..]);
+        self.part.clear();
+        self.judge(alloc, byte, record, out)?;
+        Ok(())
+    }
+
+    /// How many bytes the record that has begun lacks: up to the end of its length, or up to its own end.
+    fn lacks(&self) -> usize
+        ensures some { IsOpen self.now.part.items → 0 < result }
+        ensures filled { IsOpen self.now.part.items → (more : List ℕ) → length more ≤ result →
+            IsFilled (self.now.part.items ++ more) }
+    {
+        let count = self.part.len();
+        match size_of(&self.part) {
+            Some(size) => (size as usize + 4).saturating_sub(count),
+            None => 4usize.saturating_sub(count),
+        }
+    }
+
+    /// Keeps bytes of the record that has begun: as many as it lacks, and at least one. It answers how
+    /// many.
+    fn fill(&mut self, bytes: &[u8]) -> Result<usize, AllocError>
+        ensures ok { IfOk result (λ count. (done text : List ℕ) →
+            length done + length bytes.now ≤ 9223372036854775807 →
+            0 < length bytes.now → Knows IsOpen self.old done text →
+            Knows IsFilled self.new (done ++ take count bytes.now) text) }
+        ensures some { IfOk result (λ count. 0 < length bytes.now → 0 < count) }
+        ensures few { IfOk result (λ count. count ≤ length bytes.now) }
+        ensures same { OnOk result (self.new.form ≡ self.old.form) }
+    {
+        let count = self.lacks().max(1).min(bytes.len());
+        self.part.extend_from_slice(&bytes[..count])?;
+        self.taken = self.taken.saturating_add(count);
+        Ok(count)
+    }
+
+    /// Takes the record that is kept once it is whole. It answers a length that a record can't have.
+    fn end_part(&mut self, alloc: Global, out: &mut Vec<u8>) -> Result<Option<u32>, AllocError>
+        ensures ok { IfOk result (λ size. (done text : List ℕ) →
+            length done ≤ 9223372036854775807 →
+            Knows IsFilled self.old done (text ++ out.old.items) →
+            Stays size self.new done (text ++ out.new.items)) }
+        ensures part { OnErr result (out.new.items ≡ out.old.items) }
+        ensures same { OnOk result (self.new.form ≡ self.old.form) }
+    {
         let Some(size) = size_of(&self.part) else {
             return Ok(None);
         };
@@ -261,11 +302,69 @@ impl DumpReader {
         if self.part.len() != size as usize + 4 {
             return Ok(None);
         }
-        self.take_record(alloc, sink)?;
+        self.take_part(alloc, out)?;
         Ok(None)
     }
 
-    /// Takes bytes, up to a length that a record can't have, which it answers.
+    /// Takes the whole record that bytes begin with, or bytes of the record that has begun. It answers
+    /// how many it took, and a length that a record can't have.
+    fn take_front(
+        &mut self,
+        alloc: Global,
+        bytes: &[u8],
+        out: &mut Vec<u8>,
+    ) -> Result<(usize, Option<u32>), AllocError>
+        ensures ok { IfOk result (λ took. (done text : List ℕ) →
+            length done + length bytes.now ≤ 9223372036854775807 →
+            0 < length bytes.now → Knows IsOpen self.old done (text ++ out.old.items) →
+            Stays took.1 self.new (done ++ take took.0 bytes.now) (text ++ out.new.items)) }
+        ensures some { IfOk result (λ took. 0 < length bytes.now → 0 < took.0) }
+        ensures few { IfOk result (λ took. took.0 ≤ length bytes.now) }
+        ensures part { OnErr result (out.new.items ≡ out.old.items) }
+        ensures same { OnOk result (self.new.form ≡ self.old.form) }
+    {
+        if self.part.is_empty() {
+            if let Some(whole) = front_record(bytes) {
+                self.take_whole(alloc, whole, out)?;
+                return Ok((whole.len() + 4, None));
+            }
+        }
+        let count = self.fill(bytes)?;
+        let size = self.end_part(alloc, out)?;
+        Ok((count, size))
+    }
+
+    /// Takes bytes, up to a length that a record can't have, which it answers. It gathers what is shown of
+    /// the resets that they end.
+    fn gather(
+        &mut self,
+        alloc: Global,
+        bytes: &[u8],
+        out: &mut Vec<u8>,
+    ) -> Result<Option<u32>, AllocError>
+        ensures ok { IfOk result (λ size. (done text : List ℕ) →
+            length done + length bytes.now ≤ 9223372036854775807 →
+            Knows IsOpen self.old done (text ++ out.old.items) →
+            Goes size self.new (done ++ bytes.now) (text ++ out.new.items)) }
+        ensures front { (done text : List ℕ) →
+            length done + length bytes.now ≤ 9223372036854775807 →
+            Knows IsOpen self.old done (text ++ out.old.items) →
+            Leads self.old.form (done ++ bytes.now) (text ++ out.new.items) }
+        ensures same { OnOk result (self.new.form ≡ self.old.form) }
+    {
+        let mut at = 0;
+        while at < bytes.len() {
+            let (count, size) = self.take_front(alloc, &bytes[at..], out)?;
+            if size.is_some() {
+                return Ok(size);
+            }
+            at += count;
+        }
+        Ok(None)
+    }
+
+    /// Takes bytes, up to a length that a record can't have, which it answers. It shows the resets that
+    /// they end: by one write, also where there was no memory for what is shown of one among them.
     fn take<K: Sink>(
         &mut self,
         alloc: Global,
@@ -274,24 +373,48 @@ impl DumpReader {
     ) -> Result<Option<u32>, LogStop>
         ensures ok { IfOk result (λ size. (done : List ℕ) (start : K) →
             length done + length bytes.now ≤ 9223372036854775807 →
-            Stands K.written K.faults K.surely_takes IsOpen self.old done start sink.old →
-            Goes K.written K.faults K.surely_takes
-            size self.new (done ++ bytes.now) start sink.new) }
-        ensures part { OnErr result ((done : List ℕ) (start : K) →
+            Writes K.written K.faults K.surely_takes (Knows IsOpen self.old done)
+            start sink.old → Writes K.written K.faults K.surely_takes
+            (Goes size self.new (done ++ bytes.now)) start sink.new) }
+        ensures part { OnErr result ((done left : List ℕ) (start : K) →
             length done + length bytes.now ≤ 9223372036854775807 →
-            Stands K.written K.faults K.surely_takes IsOpen self.old done start sink.old →
-            Broke K.written K.faults K.surely_takes
-            self.old.form (done ++ bytes.now) start sink.new) }
+            Writes K.written K.faults K.surely_takes (Knows IsOpen self.old done)
+            start sink.old → WroteFrontOf K.written K.faults K.surely_takes
+            (IsDumpShown self.old.form ((done ++ bytes.now) ++ left)) start sink.new) }
         ensures stops { IfErr result (StoppedWriting (K.faults sink.old) (K.faults sink.new)) }
         ensures same { OnOk result (self.new.form ≡ self.old.form) }
         ensures later { K.faults sink.old ≤ K.faults sink.new }
     {
-        for byte in bytes {
-            if let Some(size) = self.take_byte(alloc, *byte, sink)? {
-                return Ok(Some(size));
-            }
-        }
-        Ok(None)
+        let mut out = Vec::new(alloc);
+        let gathered = self.gather(alloc, bytes, &mut out);
+        put(sink, &out)?;
+        let size = gathered?;
+        Ok(size)
+    }
+
+    /// Gathers what is shown of the reset that waits, the dump's fault if it has one, and what was
+    /// counted in all. It says whether anything was at fault.
+    fn end(
+        &mut self,
+        alloc: Global,
+        fault: Option<DumpFault>,
+        out: &mut Vec<u8>,
+    ) -> Result<bool, AllocError>
+        ensures ok { IfOk result (λ bad. (done more text : List ℕ) →
+            length done ≤ 9223372036854775807 →
+            Knows (λ bytes. EndsSo (bytes ++ more) fault) self.old done (text ++ out.old.items) →
+            IsDumpShown self.old.form (done ++ more) (text ++ out.new.items) bad) }
+        ensures front { (done more text : List ℕ) → length done ≤ 9223372036854775807 →
+            Knows (λ bytes. EndsSo (bytes ++ more) fault) self.old done (text ++ out.old.items) →
+            Opens self.old.form (done ++ more) (text ++ out.new.items) }
+        ensures none { IfOk result (λ bad. bad ≡ false → fault ≡ None) }
+    {
+        let byte = self.taken.saturating_sub(self.part.len());
+        let form = self.form;
+        self.show(alloc, out)?;
+        let text = last_text(alloc, form, byte as u64, fault, &self.notes)?;
+        out.extend_from_slice(&text)?;
+        Ok(is_bad(self.bad, fault))
     }
 
     /// Shows the reset that waits, the dump's fault if it has one, and what was counted in all. It says
@@ -303,25 +426,24 @@ impl DumpReader {
         sink: &mut K,
     ) -> Result<bool, LogStop>
         ensures ok { IfOk result (λ bad. (done more : List ℕ) (start : K) →
-            length done ≤ 9223372036854775807 → Stands K.written K.faults K.surely_takes
-            (λ bytes. EndsSo (bytes ++ more) fault) self.old done start sink.old →
-            ShowsAll K.written K.faults K.surely_takes
-            self.old.form (done ++ more) bad start sink.new) }
+            length done ≤ 9223372036854775807 → Writes K.written K.faults K.surely_takes
+            (Knows (λ bytes. EndsSo (bytes ++ more) fault) self.old done) start sink.old →
+            Writes K.written K.faults K.surely_takes
+            (λ text. IsDumpShown self.old.form (done ++ more) text bad) start sink.new) }
         ensures part { OnErr result ((done more : List ℕ) (start : K) →
-            length done ≤ 9223372036854775807 → Stands K.written K.faults K.surely_takes
-            (λ bytes. EndsSo (bytes ++ more) fault) self.old done start sink.old →
+            length done ≤ 9223372036854775807 → Writes K.written K.faults K.surely_takes
+            (Knows (λ bytes. EndsSo (bytes ++ more) fault) self.old done) start sink.old →
             WroteFrontOf K.written K.faults K.surely_takes
             (IsDumpShown self.old.form (done ++ more)) start sink.new) }
         ensures none { IfOk result (λ bad. bad ≡ false → fault ≡ None) }
         ensures stops { IfErr result (StoppedWriting (K.faults sink.old) (K.faults sink.new)) }
         ensures later { K.faults sink.old ≤ K.faults sink.new }
     {
-        let byte = self.taken.saturating_sub(self.part.len());
-        let form = self.form;
-        self.show(alloc, sink)?;
-        let text = last_text(alloc, form, byte as u64, fault, &self.notes)?;
-        put(sink, &text)?;
-        Ok(is_bad(self.bad, fault))
+        let mut out = Vec::new(alloc);
+        let ended = self.end(alloc, fault, &mut out);
+        put(sink, &out)?;
+        let bad = ended?;
+        Ok(bad)
     }
 
     /// The fault of a dump that ends here.
@@ -346,7 +468,8 @@ impl DumpReader {
 /// rose, and `TooLong` exactly where the source gave more than 9,223,372,036,854,775,807 bytes. After each of them,
 /// and where there was no memory, the front of the text is written; after `ReadFault` at least what
 /// is shown of each reset that another one followed is written. It keeps one record of at most 65,536
-/// bytes, the packets of one reset, the last tree, and a count for each node that began a reset.
+/// bytes, the packets of one reset, what is shown of one read, the last tree, and a count for each node
+/// that began a reset. What is shown of one read is written at once.
 pub fn show_dump<S: Source, K: Sink>(
     alloc: Global,
     form: LogForm,

@@ -1,7 +1,7 @@
 //! The records of a dump.
-ghost use Rattle.std.specs.Prelude.{◌≡◌, ◌+◌, ◌++◌, ◌≤◌, length, drop, IfSome};
+ghost use Rattle.std.specs.Prelude.{◌≡◌, ◌+◌, ◌++◌, ◌≤◌, true, length, drop, IfSome};
 ghost use Rattle.std.specs.Int.{w32, to_le_bytes};
-ghost use Rattle.nosy_dump.specs.Record.{quad_at, is_size, is_self_id, record_of, size_of};
+ghost use Rattle.nosy_dump.specs.Record.{quad_at, record_bytes, is_size, is_self_id, record_of, size_of};
 
 use quad_lanes::QuadList;
 
@@ -81,6 +81,23 @@ pub(crate) fn size_of(bytes: &[u8]) -> Option<u32>
         [a, b, c, d, ..] => Some(u32::from_le_bytes([*a, *b, *c, *d])),
         _ => None,
     }
+}
+
+/// The record that these bytes begin with, where it is whole.
+pub(crate) fn front_record(bytes: &[u8]) -> Option<&[u8]>
+    ensures front { IfSome result (λ whole. bytes.now
+        ≡ record_bytes whole.now ++ drop (4 + length whole.now) bytes.now) }
+    ensures sized { IfSome result (λ whole. is_size (length whole.now) ≡ true) }
+{
+    let size = size_of(bytes)?;
+    if !is_size(size) {
+        return None;
+    }
+    let end = size as usize + 4;
+    if bytes.len() < end {
+        return None;
+    }
+    Some(&bytes[4..end])
 }
 
 /// Whether a record may have so many bytes.

@@ -1,21 +1,26 @@
-use Rattle.std.proofs.Common.{◌++◌, ◌∷◌, [], take, subst}
-use Rattle.std.specs.Prelude.{slice_index}
-use Rattle.reset_log.specs.declared.form.LogForm.{LogForm}
-use Rattle.reset_log.proofs.Lemmas.{few_front, on_err}
-use Rattle.nosy_dump.specs.codings.Going.{Broke}
-use Rattle.nosy_dump.proofs.Fronts.{broke_within}
-use Rattle.nosy_dump.proofs.Going.{stopped}
+use Rattle.std.specs.Prelude.{◌++◌}
+use Rattle.reset_log.proofs.Lemmas.{on_err}
+use Rattle.nosy_dump.specs.Record.{IsOpen}
+use Rattle.nosy_dump.specs.codings.Going.{Goes}
+use Rattle.nosy_dump.proofs.Fronts.{none_gathered, writes_on, front_on, whole_on}
 use Rattle.nosy_dump.proofs.dump.DumpReader.take.Goals as goal
 
-pub returns-in-Some-clause-ok : goal.returns-in-Some-clause-ok
-returns-in-Some-clause-ok g c = λ done start few st.
-    stopped c.take_byte.new.self done c.args.bytes.now c.loop-byte.byte-index c.in-Some.size start _
-    (rw c.in-Some.is at c.in_ok-size.ensures.ok (done ++ take c.loop-byte.byte-index c.args.bytes.now) start (few_front done c.args.bytes.now c.loop-byte.byte-index few c.loop-byte-test.true) (c.loop-byte.invariant.0 done start few st)) c.loop-byte-test.true
+pub returns-clause-ok : goal.returns-clause-ok
+returns-clause-ok g c = λ done start few all.
+    let none = none_gathered IsOpen c.args.self.now done all.text c.new-out.result.items c.new-out.ensures.items all.is in
+    writes_on (Goes c.in_ok-size.size c.gather-gathered.new.self (done ++ c.args.bytes.now)) all.text c.gather-gathered.new.out.items start c.args.sink.now c.put.new.sink
+    all.wrote (rw c.deref.ensures.value at c.in_ok-put.ensures.ok) (c.in_ok-size.ensures.ok done all.text few none)
+
+pub returns-in_err-put-clause-part : goal.returns-in_err-put-clause-part
+returns-in_err-put-clause-part g c =
+    on_err c.from_residual.result _ (λ done left start few all.
+    let none = none_gathered IsOpen c.args.self.now done all.text c.new-out.result.items c.new-out.ensures.items all.is in
+    front_on c.args.self.now.form ((done ++ c.args.bytes.now) ++ left) all.text c.gather-gathered.new.out.items start c.args.sink.now c.put.new.sink
+    all.wrote (rw c.deref.ensures.value at c.in_err-put.ensures.part) (c.gather-gathered.ensures.front done all.text few none left))
 
 pub returns-in_err-size-clause-part : goal.returns-in_err-size-clause-part
 returns-in_err-size-clause-part g c =
-    on_err c.from_residual.result _ (λ done start few st.
-    broke_within c.args.self.now.form done c.args.bytes.now c.loop-byte.byte-index start c.take_byte.new.sink
-    (subst (λ (s : LogForm). Broke g.K.Sink.written g.K.Sink.faults g.K.Sink.surely_takes s ((done ++ take c.loop-byte.byte-index c.args.bytes.now) ++ slice_index c.args.bytes.now c.loop-byte.byte-index ∷ []) start c.take_byte.new.sink) c.loop-byte.invariant.1
-    (c.in_err-size.ensures.part (done ++ take c.loop-byte.byte-index c.args.bytes.now) start (few_front done c.args.bytes.now c.loop-byte.byte-index few c.loop-byte-test.true) (c.loop-byte.invariant.0 done start few st)))
-    c.loop-byte-test.true)
+    on_err c.from_residual-in_err-size.result _ (λ done left start few all.
+    let none = none_gathered IsOpen c.args.self.now done all.text c.new-out.result.items c.new-out.ensures.items all.is in
+    whole_on c.args.self.now.form ((done ++ c.args.bytes.now) ++ left) all.text c.gather-gathered.new.out.items start c.args.sink.now c.put.new.sink
+    all.wrote (rw c.deref.ensures.value at c.in_ok-put.ensures.ok) (c.gather-gathered.ensures.front done all.text few none left))
