@@ -1,4 +1,5 @@
 pub mod Joined
+pub mod AsJson
 pub mod Records
 pub mod Waiting
 pub mod Shown

@@ -10,7 +10,8 @@ use Rattle.nosy_dump.specs.declared.record.DumpFault.{DumpFault}
 use Rattle.nosy_dump.specs.declared.record.DumpFault.TheVariants.{BadLength}
 use Rattle.nosy_dump.specs.Record.{IsOpen, EndsSo}
 use Rattle.nosy_dump.specs.Dump.{IsDumpShown, IsBegunWritten}
-use Rattle.nosy_dump.specs.codings.Going.{IsNew, Knows, Goes, Writes, Reads}
+use Rattle.nosy_dump.specs.codings.Going.{IsNew, Knows, Goes, Writes, WritesAsJson, Reads}
+use Rattle.nosy_dump.proofs.AsJson.{write_none, write_both}
 use Rattle.nosy_dump.proofs.Going.{at_start, holds_written, front_ends, begun}
 
 pub at_first : {K : Type 0} {w : K → Option (List ℕ)} {f : K → ℕ} {t : K → ℕ → Type 0} (r : DumpReader) (form : LogForm) (first : Option (List ℕ)) (was : K) (a : ℕ) →
@@ -24,6 +25,7 @@ at_first r form first was a new same = record {
   same = same;
   later = omega arith;
   wrote_later = omega arith;
+  json = write_none form _;
 }
 
 -- there is room for a piece
@@ -36,8 +38,8 @@ pub reads_on : {K : Type 0} {w : K → Option (List ℕ)} {f : K → ℕ} {t : K
     Reads w f t r form first now was is a b → Consumes now next piece → StayTold now next →
     length piece ≤ 9223372036854775807 - r.taken →
     ((done : List ℕ) (start : K) → length done + length piece ≤ 9223372036854775807 → Writes w f t (Knows IsOpen r done) start is → Writes w f t (Goes None s (done ++ piece)) start will) →
-    s.form ≡ r.form → b ≤ c → f is ≤ f will → Reads w f t s form first next was will a c
-reads_on {w = w} {f = f} {t = t} r s form first now next was is will a b c piece h came told fits taken same later wrote =
+    s.form ≡ r.form → b ≤ c → f is ≤ f will → WritesAsJson r.form (w is) (w will) → Reads w f t s form first next was will a c
+reads_on {w = w} {f = f} {t = t} r s form first now next was is will a b c piece h came told fits taken same later wrote json =
     let fit = room r form first now was is a b piece h fits in
     let on : Writes w f t (Knows IsOpen s (h.done ++ piece)) was will = taken h.done was fit h.stands in
     record {
@@ -49,6 +51,7 @@ reads_on {w = w} {f = f} {t = t} r s form first now next was is will a b c piece
       same = same ∙ h.same;
       later = omega (arith, h.later, later);
       wrote_later = omega (arith, h.wrote_later, wrote);
+      json = write_both form r.form _ _ _ h.same h.json json;
     }
 
 -- each piece leaves less room

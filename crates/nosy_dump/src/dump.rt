@@ -1,16 +1,18 @@
 //! Showing a dump as it comes.
 ghost use Rattle.std.specs.Prelude.{◌≡◌, ◌⊎◌, ◌↔◌, ◌<◌, ◌≤◌, ◌+◌, ◌++◌, ◌||◌, [], ℕ, true, false, is_none, is_some, List, Option, None, length, take, OnOk, OnErr, IfOk, IfErr, IfSome, IsErr, IsErrOf};
 ghost use Rattle.std.specs.Io.KnownBytes.{IsAtEnd, Consumes};
+ghost use Rattle.bus_json.specs.Lines.{WritesJsonLines};
 ghost use Rattle.io_edges.specs.Faults.{Rose};
 ghost use Rattle.io_edges.specs.Told.{IfTold, TookOver};
 ghost use Rattle.reset_log.specs.Cause.{StoppedWriting};
 ghost use Rattle.reset_log.specs.Answered.{IsExact, IsComplete, IsFront, IsSure};
 ghost use Rattle.reset_log.specs.Wrote.{Wrote, WroteFront, WroteFrontOf};
 ghost use Rattle.nosy_dump.specs.Record.{record_bytes, is_size, IsOpen, EndsSo};
+ghost use Rattle.self_id.specs.declared.standard.Standard.{Standard};
 ghost use Rattle.std.specs.Option.{option_copied};
 ghost use Rattle.nosy_dump.specs.Dump.{IsJudged, last_text, IsDumpShown, IsWritten, IsBegunWritten};
 ghost use Rattle.nosy_dump.specs.Notes.{noted};
-ghost use Rattle.nosy_dump.specs.codings.Going.{IsNew, Knows, Awaits, IsWhole, IsFilled, ShowsReset, Shows, Begins, Keeps, Stays, Goes, Leads, Opens, Writes};
+ghost use Rattle.nosy_dump.specs.codings.Going.{IsNew, Knows, Awaits, IsWhole, IsFilled, ShowsReset, Shows, Begins, Keeps, Stays, Goes, Leads, Opens, Writes, AreAsJson, GathersAsJson, WritesAsJson};
 
 use crate::notes::Notes;
 use crate::record::{DumpFault, DumpReset, Record, front_record, is_size, record_of, size_of};
@@ -79,8 +81,9 @@ fn show_judged(
     before: Option<&BusTree>,
     reset: &DumpReset,
 ) -> Result<ListShown, AllocError>
-    ensures { IfOk result (λ shown. IsJudged form number (option_copied before.entry) reset.now
-        shown.text.items shown.tree) }
+    ensures judged { IfOk result (λ shown. IsJudged form number (option_copied before.entry)
+        reset.now shown.text.items shown.tree) }
+    ensures json { IfOk result (λ shown. AreAsJson form shown.text.items) }
 {
     match form {
         LogForm::Text(standard) => {
@@ -101,7 +104,9 @@ fn last_text(
     fault: Option<DumpFault>,
     notes: &Notes,
 ) -> Result<Vec<u8>, AllocError>
-    ensures { IfOk result (λ text. text.items ≡ last_text form byte fault (noted notes.now)) }
+    ensures last { IfOk result (λ text.
+        text.items ≡ last_text form byte fault (noted notes.now)) }
+    ensures json { IfOk result (λ text. AreAsJson form text.items) }
 {
     match form {
         LogForm::Text(_) => end_text(alloc, byte, fault, notes),
@@ -137,6 +142,7 @@ impl DumpReader {
             self.old.form reset.now self.old.number (noted self.old.notes) self.old.bad
             self.new.number (noted self.new.notes) self.new.bad out.old.items out.new.items) }
         ensures part { OnErr result (out.new.items ≡ out.old.items) }
+        ensures json { OnOk result (GathersAsJson self.old.form out.old.items out.new.items) }
         ensures rest { OnOk result (self.new ≡ record self.old {
           number = self.new.number;
           notes = self.new.notes;
@@ -157,6 +163,7 @@ impl DumpReader {
     fn show(&mut self, alloc: Global, out: &mut Vec<u8>) -> Result<(), AllocError>
         ensures ok { OnOk result (Shows self.old self.new out.old.items out.new.items) }
         ensures part { OnErr result (out.new.items ≡ out.old.items) }
+        ensures json { OnOk result (GathersAsJson self.old.form out.old.items out.new.items) }
     {
         match self.pending.take() {
             Some(reset) => self.show_one(alloc, &reset, out),
@@ -175,6 +182,7 @@ impl DumpReader {
         ensures ok { OnOk result (Begins
             byte time self.old self.new out.old.items out.new.items) }
         ensures part { OnErr result (out.new.items ≡ out.old.items) }
+        ensures json { OnOk result (GathersAsJson self.old.form out.old.items out.new.items) }
     {
         self.show(alloc, out)?;
         self.pending = Some(DumpReset {
@@ -207,6 +215,7 @@ impl DumpReader {
             Awaits self.old byte last done (text ++ out.old.items) →
             Knows IsOpen self.new done (text ++ out.new.items)) }
         ensures part { OnErr result (out.new.items ≡ out.old.items) }
+        ensures json { OnOk result (GathersAsJson self.old.form out.old.items out.new.items) }
         ensures same { OnOk result (self.new.form ≡ self.old.form) }
     {
         match last {
@@ -230,6 +239,7 @@ impl DumpReader {
             Knows IsOpen self.old done (text ++ out.old.items) →
             Knows IsOpen self.new (done ++ record_bytes bytes.now) (text ++ out.new.items)) }
         ensures part { OnErr result (out.new.items ≡ out.old.items) }
+        ensures json { OnOk result (GathersAsJson self.old.form out.old.items out.new.items) }
         ensures same { OnOk result (self.new.form ≡ self.old.form) }
     {
         let byte = self.taken;
@@ -245,6 +255,7 @@ impl DumpReader {
             Knows IsWhole self.old done (text ++ out.old.items) →
             Knows IsOpen self.new done (text ++ out.new.items)) }
         ensures part { OnErr result (out.new.items ≡ out.old.items) }
+        ensures json { OnOk result (GathersAsJson self.old.form out.old.items out.new.items) }
         ensures same { OnOk result (self.new.form ≡ self.old.form) }
     {
         let byte = self.taken.saturating_sub(self.part.len());
@@ -291,6 +302,7 @@ impl DumpReader {
             Knows IsFilled self.old done (text ++ out.old.items) →
             Stays size self.new done (text ++ out.new.items)) }
         ensures part { OnErr result (out.new.items ≡ out.old.items) }
+        ensures json { OnOk result (GathersAsJson self.old.form out.old.items out.new.items) }
         ensures same { OnOk result (self.new.form ≡ self.old.form) }
     {
         let Some(size) = size_of(&self.part) else {
@@ -321,6 +333,7 @@ impl DumpReader {
         ensures some { IfOk result (λ took. 0 < length bytes.now → 0 < took.0) }
         ensures few { IfOk result (λ took. took.0 ≤ length bytes.now) }
         ensures part { OnErr result (out.new.items ≡ out.old.items) }
+        ensures json { OnOk result (GathersAsJson self.old.form out.old.items out.new.items) }
         ensures same { OnOk result (self.new.form ≡ self.old.form) }
     {
         if self.part.is_empty() {
@@ -350,6 +363,7 @@ impl DumpReader {
             length done + length bytes.now ≤ 9223372036854775807 →
             Knows IsOpen self.old done (text ++ out.old.items) →
             Leads self.old.form (done ++ bytes.now) (text ++ out.new.items) }
+        ensures json { OnOk result (GathersAsJson self.old.form out.old.items out.new.items) }
         ensures same { OnOk result (self.new.form ≡ self.old.form) }
     {
         let mut at = 0;
@@ -381,6 +395,8 @@ impl DumpReader {
             Writes K.written K.faults K.surely_takes (Knows IsOpen self.old done)
             start sink.old → WroteFrontOf K.written K.faults K.surely_takes
             (IsDumpShown self.old.form ((done ++ bytes.now) ++ left)) start sink.new) }
+        ensures json { OnOk result (WritesAsJson
+            self.old.form (K.written sink.old) (K.written sink.new)) }
         ensures stops { IfErr result (StoppedWriting (K.faults sink.old) (K.faults sink.new)) }
         ensures same { OnOk result (self.new.form ≡ self.old.form) }
         ensures later { K.faults sink.old ≤ K.faults sink.new }
@@ -407,6 +423,7 @@ impl DumpReader {
         ensures front { (done more text : List ℕ) → length done ≤ 9223372036854775807 →
             Knows (λ bytes. EndsSo (bytes ++ more) fault) self.old done (text ++ out.old.items) →
             Opens self.old.form (done ++ more) (text ++ out.new.items) }
+        ensures json { OnOk result (GathersAsJson self.old.form out.old.items out.new.items) }
         ensures none { IfOk result (λ bad. bad ≡ false → fault ≡ None) }
     {
         let byte = self.taken.saturating_sub(self.part.len());
@@ -435,6 +452,8 @@ impl DumpReader {
             (Knows (λ bytes. EndsSo (bytes ++ more) fault) self.old done) start sink.old →
             WroteFrontOf K.written K.faults K.surely_takes
             (IsDumpShown self.old.form (done ++ more)) start sink.new) }
+        ensures json { OnOk result (WritesAsJson
+            self.old.form (K.written sink.old) (K.written sink.new)) }
         ensures none { IfOk result (λ bad. bad ≡ false → fault ≡ None) }
         ensures stops { IfErr result (StoppedWriting (K.faults sink.old) (K.faults sink.new)) }
         ensures later { K.faults sink.old ≤ K.faults sink.new }
@@ -479,6 +498,8 @@ pub fn show_dump<S: Source, K: Sink>(
     // What is shown of the dump is written.
     ensures shown { IfOk result (λ bad. IfSome (S.left source.old) (λ dump.
         IsWritten form (K.written sink.old) (K.written sink.new) dump bad)) }
+    ensures json { (standard : Standard) → form ≡ LogForm.Json standard →
+        OnOk result (WritesJsonLines (K.written sink.old) (K.written sink.new)) }
     ensures end { IfOk result (λ bad. bad ≡ false → IsAtEnd (S.left source.new)) }
 
     // When each stop comes, and what was written before a read that failed.

@@ -1,8 +1,8 @@
 //! What is shown of the resets of a dump for programs: lines of JSON.
 ghost use Rattle.std.specs.Prelude.{◌≡◌, ◌++◌, Some, IfOk, OnOk};
 ghost use Rattle.json.specs.Tree.{members_tokens};
+ghost use Rattle.bus_json.specs.Lines.{IsJsonLine, AreJsonLines};
 ghost use Rattle.bus_json.specs.Text.{json_line};
-ghost use Rattle.reset_log.specs.Json.{IsJsonLine};
 ghost use Rattle.nosy_dump.specs.declared.record.DumpFault.{DumpFault};
 ghost use Rattle.nosy_dump.specs.Notes.{noted};
 ghost use Rattle.nosy_dump.specs.Json.{IsResetTold, found_members, fault_value, fault_lines, most_members, totals_value, end_lines};
@@ -89,7 +89,8 @@ fn fault_line(alloc: Global, byte: u64, fault: DumpFault) -> Result<Vec<u8>, All
 
 /// The same where there is one.
 fn fault_lines(alloc: Global, byte: u64, fault: Option<DumpFault>) -> Result<Vec<u8>, AllocError>
-    ensures { IfOk result (λ text. text.items ≡ fault_lines byte fault) }
+    ensures lines { IfOk result (λ text. text.items ≡ fault_lines byte fault) }
+    ensures json { IfOk result (λ text. AreJsonLines text.items) }
 {
     match fault {
         Some(fault) => fault_line(alloc, byte, fault),
@@ -144,7 +145,8 @@ pub(crate) fn end_lines(
     fault: Option<DumpFault>,
     notes: &Notes,
 ) -> Result<Vec<u8>, AllocError>
-    ensures { IfOk result (λ text. text.items ≡ end_lines byte fault (noted notes.now)) }
+    ensures lines { IfOk result (λ text. text.items ≡ end_lines byte fault (noted notes.now)) }
+    ensures json { IfOk result (λ text. AreJsonLines text.items) }
 {
     let mut text = fault_lines(alloc, byte, fault)?;
     let line = totals_line(alloc, notes)?;

@@ -2,7 +2,10 @@
 use Rattle.std.specs.Prelude.{◌≡◌, ℕ, ◌-◌, ◌+◌, ◌<◌, ◌≤◌, ◌^◌, ◌||◌, Bool, true, false, drop, Option, Some, None, List, [], ◌∷◌, ◌++◌, length}
 use Rattle.std.specs.Io.KnownBytes.{Consumes}
 use Rattle.io_edges.specs.Told.{StayTold}
+use Rattle.self_id.specs.declared.standard.Standard.{Standard}
+use Rattle.bus_json.specs.Lines.{AreJsonLines, GathersJsonLines, WritesJsonLines}
 use Rattle.reset_log.specs.declared.form.LogForm.{LogForm}
+use Rattle.reset_log.specs.declared.form.LogForm.TheVariants.{Json}
 use Rattle.reset_log.specs.InOrder.{AreTold}
 use Rattle.reset_log.specs.Wrote.{Wrote}
 use Rattle.nosy_dump.specs.declared.dump.DumpReader.{DumpReader}
@@ -146,6 +149,24 @@ pub record Writes {K : Type 0} (written : K → Option (List ℕ)) (faults : K �
     pub is : Is text
     pub wrote : Wrote written faults surely_takes old new text
 
+-- ---- in the form of lines of JSON
+
+-- such lines
+abbrev pub AreAsJson : LogForm → List ℕ → Type 0
+AreAsJson form text = (standard : Standard) → form ≡ Json standard → AreJsonLines text
+
+-- what was gathered is such lines
+abbrev pub GathersAsJson : LogForm → List ℕ → List ℕ → Type 0
+GathersAsJson form was is =
+    (standard : Standard) → form ≡ Json standard → GathersJsonLines was is
+
+-- what was written is such lines
+abbrev pub WritesAsJson : LogForm → Option (List ℕ) → Option (List ℕ) → Type 0
+WritesAsJson form old new =
+    (standard : Standard) → form ≡ Json standard → WritesJsonLines old new
+
+-- ---- a call
+
 -- what was read so far, and what was written of it; and the counts of faults of the source and of the
 -- sink, before and now
 pub record Reads {K : Type 0} (written : K → Option (List ℕ)) (faults : K → ℕ)
@@ -160,3 +181,4 @@ pub record Reads {K : Type 0} (written : K → Option (List ℕ)) (faults : K �
     pub same : r.form ≡ form
     pub later : reads ≤ reading
     pub wrote_later : faults was ≤ faults is
+    pub json : WritesAsJson form (written was) (written is)

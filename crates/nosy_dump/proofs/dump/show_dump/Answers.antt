@@ -1,8 +1,9 @@
-use Rattle.std.proofs.Common.{◌≡◌, ◌-◌, ◌<◌, ◌≤◌, ℕ, [], length, take, sym, subst, arith}
+use Rattle.std.proofs.Common.{◌≡◌, ◌∙◌, ◌-◌, ◌<◌, ◌≤◌, ℕ, [], length, take, sym, subst, arith}
 use Rattle.std.specs.Io.KnownBytes.{Consumes, IsAtEnd}
 use Rattle.nosy_dump.specs.Dump.{IsDumpShown}
 use Rattle.reset_log.proofs.Lemmas.{is_front, is_sure}
 use Rattle.nosy_dump.proofs.Reading.{at_first, reads_on, less_room, waited, whole, cut_off, map_ok, not_well}
+use Rattle.nosy_dump.proofs.AsJson.{write_both, on_json}
 use Rattle.nosy_dump.proofs.Fronts.{front_left, front_piece, front_end, front_cut, shown, exact_shown, complete_shown}
 use Rattle.nosy_dump.proofs.dump.show_dump.Goals as goal
 
@@ -15,7 +16,7 @@ loop-count-preserved g c =
     let size : length (take c.in-Ok.count c.read.new.buf) ≡ c.in-Ok.count = sym c.in-Ok.ensures.bound.1 in
     let fits : length (take c.in-Ok.count c.read.new.buf) ≤ 9223372036854775807 - c.loop-count.reader.taken = omega (arith, size, c.if-count-saturating_sub.false, c.saturating_sub.ensures) in
     reads_on c.loop-count.reader c.take.new.self c.args.form _ _ _ _ _ _ _ _ _ (take c.in-Ok.count c.read.new.buf) c.loop-count.invariant c.in-Ok.ensures.bytes.0 c.in-Ok.ensures.told fits
-    (rw c.in_default-2.is at c.in_ok-size.ensures.ok) c.in_ok-size.ensures.same c.in-Ok.ensures.later c.take.ensures.later
+    (rw c.in_default-2.is at c.in_ok-size.ensures.ok) c.in_ok-size.ensures.same c.in-Ok.ensures.later c.take.ensures.later c.in_ok-size.ensures.json
 
 pub loop-count-smaller : goal.loop-count-smaller
 loop-count-smaller g c =
@@ -129,3 +130,12 @@ returns-in-Some-clause-exact g c =
 pub returns-in-Some-clause-complete : goal.returns-in-Some-clause-complete
 returns-in-Some-clause-complete g c = λ read sound.
     complete_shown c.args.form (g.S.Source.left c.args.source.now) (g.K.Sink.written c.args.sink.now) (g.K.Sink.written c.finish-in-Some.new.sink) _ _ _ c.finish-in-Some.result (returns-in-Some-clause-shown g c) c.finish-in-Some.ensures.stops (omega (arith, c.loop-count.invariant.wrote_later, c.take.ensures.later)) sound
+
+pub returns-then-count-eq0-clause-json : goal.returns-then-count-eq0-clause-json
+returns-then-count-eq0-clause-json g c = λ standard is.
+    on_json c.finish.result _ _ _ c.args.form c.loop-count.reader.form standard is c.loop-count.invariant.same c.loop-count.invariant.json c.finish.ensures.json
+
+pub returns-in-Some-clause-json : goal.returns-in-Some-clause-json
+returns-in-Some-clause-json g c = λ standard is.
+    let on = write_both c.args.form c.loop-count.reader.form _ _ _ c.loop-count.invariant.same c.loop-count.invariant.json c.in_ok-size.ensures.json in
+    on_json c.finish-in-Some.result _ _ _ c.args.form c.take.new.self.form standard is (c.in_ok-size.ensures.same ∙ c.loop-count.invariant.same) on c.finish-in-Some.ensures.json

@@ -2,7 +2,7 @@ use Rattle.std.proofs.Common.{◌≡◌, ◌∙◌, List, [], ◌∷◌, ◌++�
 use Rattle.json.specs.Token.{Token}
 use Rattle.json.specs.Print.{print}
 use Rattle.json.specs.Tree.{json_tokens}
-use Rattle.reset_log.proofs.Lemmas.{json_line_of}
+use Rattle.bus_json.proofs.Lemmas.{json_line_of}
 use Rattle.nosy_dump.specs.Json.{fault_value}
 use Rattle.nosy_dump.proofs.Shallow.{fault_shallow}
 use Rattle.nosy_dump.proofs.values.fault_line.Goals as goal

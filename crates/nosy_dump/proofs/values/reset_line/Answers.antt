@@ -4,7 +4,7 @@ use Rattle.json.specs.Print.{print}
 use Rattle.json.specs.Tree.{json_tokens}
 use Rattle.reset_log.specs.declared.line.Origin.TheVariants.{Core}
 use Rattle.reset_log.specs.Json.{IsListTold}
-use Rattle.reset_log.proofs.Lemmas.{json_line_of}
+use Rattle.bus_json.proofs.Lemmas.{json_line_of}
 use Rattle.nosy_dump.specs.Json.{reset_value}
 use Rattle.nosy_dump.proofs.Shallow.{reset_shallow}
 use Rattle.nosy_dump.proofs.values.reset_line.Goals as goal

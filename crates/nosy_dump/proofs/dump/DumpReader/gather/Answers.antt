@@ -1,11 +1,20 @@
-use Rattle.std.proofs.Common.{◌∙◌, ◌++◌, ◌+◌, ℕ, List, length, take, drop, sym, ap, subst, length-drop, arith}
+use Rattle.std.proofs.Common.{◌∙◌, ◌++◌, ◌+◌, ℕ, List, length, take, drop, refl, append-nil, sym, ap, subst, length-drop, arith}
 use Rattle.std.proofs.lemmas.List.{take_rest}
 use Rattle.reset_log.specs.declared.form.LogForm.{LogForm}
 use Rattle.nosy_dump.specs.Record.{IsOpen}
 use Rattle.nosy_dump.specs.codings.Going.{Stays, Leads}
 use Rattle.nosy_dump.proofs.Going.{came_on, came_all, few_left, some_left, stays_open, stopped}
+use Rattle.nosy_dump.proofs.AsJson.{gather_none, gather_both}
 use Rattle.nosy_dump.proofs.Fronts.{leads, leads_more, leads_stays}
 use Rattle.nosy_dump.proofs.dump.DumpReader.gather.Goals as goal
+
+pub loop-at-init : goal.loop-at-init
+loop-at-init c = (
+  λ done text few st. rw append-nil st,
+  refl,
+  omega arith,
+  gather_none c.args.self.now.form c.args.out.now.items,
+)
 
 pub loop-at-preserved : goal.loop-at-preserved
 loop-at-preserved c =
@@ -18,7 +27,12 @@ loop-at-preserved c =
           (some_left c.args.bytes.now _ c.loop-at.at rest c.loop-at-test.true) (so.0 done text few st))),
       c.in_ok-count.ensures.same ∙ so.1,
       omega (arith, c.in_ok-count.ensures.few, ap (λ (l : List ℕ). length l) rest, length-drop c.loop-at.at c.args.bytes.now, c.loop-at-test.true),
+      gather_both c.args.self.now.form c.loop-at.self.form _ _ _ so.1 so.3 c.in_ok-count.ensures.json,
     )
+
+pub returns-then-is_some-clause-json : goal.returns-then-is_some-clause-json
+returns-then-is_some-clause-json c =
+    gather_both c.args.self.now.form c.loop-at.self.form _ _ _ c.loop-at.invariant.1 c.loop-at.invariant.3 c.in_ok-count.ensures.json
 
 pub returns-then-is_some-clause-ok : goal.returns-then-is_some-clause-ok
 returns-then-is_some-clause-ok c = λ done text few st.

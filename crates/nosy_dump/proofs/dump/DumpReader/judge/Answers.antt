@@ -1,6 +1,7 @@
 use Rattle.std.proofs.Common.{ap}
 use Rattle.nosy_dump.specs.declared.dump.DumpReader.{DumpReader}
 use Rattle.nosy_dump.specs.Notes.{noted}
+use Rattle.nosy_dump.proofs.AsJson.{gather_none}
 use Rattle.nosy_dump.proofs.Going.{after_other, after_packet, after_reset}
 use Rattle.nosy_dump.proofs.dump.DumpReader.judge.Goals as goal
 
@@ -19,3 +20,10 @@ returns-in_ok-keep-in-SelfId-clause-ok c = λ done text few a.
 pub returns-in-Other-clause-ok : goal.returns-in-Other-clause-ok
 returns-in-Other-clause-ok c = λ done text few a.
     after_other c.args.self.now c.args.byte c.args.last done _ c.in-Other.is a
+
+pub returns-in_ok-keep-in-SelfId-clause-json : goal.returns-in_ok-keep-in-SelfId-clause-json
+returns-in_ok-keep-in-SelfId-clause-json c =
+    gather_none c.args.self.now.form c.args.out.now.items
+
+pub returns-in-Other-clause-json : goal.returns-in-Other-clause-json
+returns-in-Other-clause-json c = gather_none c.args.self.now.form c.args.out.now.items

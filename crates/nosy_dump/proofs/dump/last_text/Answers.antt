@@ -1,0 +1,11 @@
+use Rattle.nosy_dump.proofs.AsJson.{not_json}
+use Rattle.nosy_dump.proofs.Reading.{map_ok}
+use Rattle.nosy_dump.proofs.dump.last_text.Goals as goal
+
+pub returns-in-Text-clause-json : goal.returns-in-Text-clause-json
+returns-in-Text-clause-json c =
+    map_ok c.end_text.result _ _ (λ text is. not_json c.args.form c.in-Text.field-0 text.items c.in-Text.is) c.end_text.ensures
+
+pub returns-in-Json-clause-json : goal.returns-in-Json-clause-json
+returns-in-Json-clause-json c =
+    map_ok c.end_lines.result _ _ (λ text lines standard is. lines) c.end_lines.ensures.json
