@@ -42,11 +42,14 @@ write_both form later a b c e one two = λ standard is.
 pub write_gathered : (form : LogForm) (none text : List ℕ) (a b : Option (List ℕ)) → none ≡ [] →
     GathersAsJson form none text → Appends a b text → WritesAsJson form a b
 write_gathered form none text a b e got wrote = λ standard is.
-    writes_gathered a b text (subst (λ (l : List ℕ). GathersJsonLines l text) e (got standard is)) wrote
+    writes_gathered a b text (subst (λ (l : List ℕ). GathersJsonLines l text) e (got standard is))
+    wrote
 
 -- a last call
-pub on_json : {A E : Type 0} (result : Result A E) (a b c : Option (List ℕ)) (form later : LogForm) (standard : Standard) →
+pub on_json : {A E : Type 0} (result : Result A E) (a b c : Option (List ℕ)) (form later : LogForm)
+    (standard : Standard) →
     form ≡ Json standard → later ≡ form → WritesAsJson form a b →
     OnOk result (WritesAsJson later b c) → OnOk result (WritesJsonLines a c)
-on_json (Ok x) a b c form later standard is e one two = write_both form later a b c e one two standard is
+on_json (Ok x) a b c form later standard is e one two =
+    write_both form later a b c e one two standard is
 on_json (Err x) a b c form later standard is e one two = tt

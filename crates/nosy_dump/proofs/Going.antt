@@ -25,7 +25,8 @@ use Rattle.nosy_dump.proofs.Waiting.{AllShown, few_ended, all_shown}
 -- bytes more, of which this is known now
 pub bytes_more : (Holds Now : List ℕ → Type 0) (old new : DumpReader) (done bytes text : List ℕ) →
     Knows Holds old done text → Now new.part.items → new.part.items ≡ old.part.items ++ bytes →
-    new.form ≡ old.form → new.pending ≡ old.pending → noted new.notes ≡ noted old.notes → new.number ≡ old.number → new.bad ≡ old.bad → new.taken ≡ old.taken + length bytes →
+    new.form ≡ old.form → new.pending ≡ old.pending → noted new.notes ≡ noted old.notes →
+    new.number ≡ old.number → new.bad ≡ old.bad → new.taken ≡ old.taken + length bytes →
     Knows Now new (done ++ bytes) text
 bytes_more Holds Now old new done bytes text st now part es ep et en eb ek = record {
   records = st.records;
@@ -36,7 +37,8 @@ bytes_more Holds Now old new done bytes text st now part es ep et en eb ek = rec
       ∙ ap (λ (o : List ℕ). dump_of st.records ++ o) (sym part);
   sized = st.sized;
   holds = now;
-  resets_are = subst (λ (p : Option DumpReset). AreResets st.records st.ended p) (sym ep) st.resets_are;
+  resets_are = subst (λ (p : Option DumpReset). AreResets st.records st.ended p) (sym ep)
+      st.resets_are;
   told = rw (es, et, eb) st.told;
   number_is = en ∙ st.number_is;
   taken_is = omega (arith, ek, st.taken_is, length-append done bytes);
@@ -57,7 +59,8 @@ holds_now Holds Now r done text then st = record {
   taken_is = st.taken_is;
 }
 
-pub holds_written : {K : Type 0} {w : K → Option (List ℕ)} {f : K → ℕ} {t : K → ℕ → Type 0} (Holds Now : List ℕ → Type 0) (r : DumpReader) (done : List ℕ) (start was : K) →
+pub holds_written : {K : Type 0} {w : K → Option (List ℕ)} {f : K → ℕ} {t : K → ℕ → Type 0}
+    (Holds Now : List ℕ → Type 0) (r : DumpReader) (done : List ℕ) (start was : K) →
     (Holds r.part.items → Now r.part.items) → Writes w f t (Knows Holds r done) start was →
     Writes w f t (Knows Now r done) start was
 holds_written Holds Now r done start was then all = record {
@@ -66,7 +69,8 @@ holds_written Holds Now r done start was then all = record {
   wrote = all.wrote;
 }
 
-pub at_start : {K : Type 0} {w : K → Option (List ℕ)} {f : K → ℕ} {t : K → ℕ → Type 0} (r : DumpReader) (a : K) →
+pub at_start : {K : Type 0} {w : K → Option (List ℕ)} {f : K → ℕ} {t : K → ℕ → Type 0}
+    (r : DumpReader) (a : K) →
     IsNew r → Writes w f t (Knows IsOpen r []) a a
 at_start r a new = record {
   text = [];
@@ -76,7 +80,8 @@ at_start r a new = record {
     done_is = sym new.part_is;
     sized = tt;
     holds = subst IsOpen (sym new.part_is) tt;
-    resets_are = subst (λ (p : Option DumpReset). AreResets [] [] p) (sym new.pending_is) (refl, refl);
+    resets_are = subst (λ (p : Option DumpReset). AreResets [] [] p) (sym new.pending_is)
+        (refl, refl);
     told = (refl, new.bad_is, new.noted_is);
     number_is = new.number_is;
     taken_is = new.taken_is;
@@ -87,28 +92,33 @@ at_start r a new = record {
 -- ---- a whole record
 
 -- fewer than 2 ^ 64 - 1 resets
-few_numbers : (records : List (List ℕ)) (ended : List DumpReset) (pending : Option DumpReset) (done behind : List ℕ) (n : ℕ) →
+few_numbers : (records : List (List ℕ)) (ended : List DumpReset) (pending : Option DumpReset)
+    (done behind : List ℕ) (n : ℕ) →
     AreResets records ended pending → done ≡ dump_of records ++ behind → n ≡ length ended + 1 →
     length done ≤ 9223372036854775807 → n < 2 ^ 64 - 1
 few_numbers records ended pending done behind n are is number few =
     let a = few_ended records ended pending are in
     let b = few_resets 0 records in
     let c = few_records records in
-    let d : length done ≡ length (dump_of records) + length behind = ap (λ (l : List ℕ). length l) is ∙ length-append (dump_of records) behind in
+    let d : length done ≡ length (dump_of records) + length behind =
+    ap (λ (l : List ℕ). length l) is ∙ length-append (dump_of records) behind in
     omega (arith, a, b, c, d, few, number)
 
 pub place_of : (Holds : List ℕ → Type 0) (old : DumpReader) (done text : List ℕ) (byte : ℕ) →
     (st : Knows Holds old done text) → byte ≡ old.taken - length old.part.items →
     byte ≡ length (dump_of st.records)
 place_of Holds old done text byte st e =
-    let d : length done ≡ length (dump_of st.records) + length old.part.items = ap (λ (l : List ℕ). length l) st.done_is ∙ length-append (dump_of st.records) old.part.items in
+    let d : length done ≡ length (dump_of st.records) + length old.part.items =
+    ap (λ (l : List ℕ). length l) st.done_is ∙ length-append (dump_of st.records)
+    old.part.items in
     omega (arith, d, e, st.taken_is)
 
 -- the one that is kept
 pub of_part : (old new : DumpReader) (byte : ℕ) (k : Record) (done text : List ℕ) →
     Knows IsWhole old done text → byte ≡ old.taken - length old.part.items →
     record_of (drop 4 old.part.items) ≡ k → new.part.items ≡ [] →
-    new.form ≡ old.form → new.pending ≡ old.pending → noted new.notes ≡ noted old.notes → new.number ≡ old.number → new.bad ≡ old.bad → new.taken ≡ old.taken →
+    new.form ≡ old.form → new.pending ≡ old.pending → noted new.notes ≡ noted old.notes →
+    new.number ≡ old.number → new.bad ≡ old.bad → new.taken ≡ old.taken →
     Awaits new byte k done text
 of_part old new byte k done text st at tells part es ep et en eb ek = record {
   records = st.records;
@@ -120,7 +130,8 @@ of_part old new byte k done text st at tells part es ep et en eb ek = record {
   tells = tells;
   place_is = place_of IsWhole old done text byte st at;
   part_is = part;
-  resets_are = subst (λ (p : Option DumpReset). AreResets st.records st.ended p) (sym ep) st.resets_are;
+  resets_are = subst (λ (p : Option DumpReset). AreResets st.records st.ended p) (sym ep)
+      st.resets_are;
   told = rw (es, et, eb) st.told;
   number_is = en ∙ st.number_is;
   taken_is = ek ∙ st.taken_is;
@@ -130,10 +141,12 @@ of_part old new byte k done text st at tells part es ep et en eb ek = record {
 pub in_place : (old new : DumpReader) (byte : ℕ) (k : Record) (done bytes text : List ℕ) →
     Knows IsOpen old done text → byte ≡ old.taken → record_of bytes ≡ k →
     is_size (length bytes) ≡ true → old.part.items ≡ [] → new.part.items ≡ old.part.items →
-    new.form ≡ old.form → new.pending ≡ old.pending → noted new.notes ≡ noted old.notes → new.number ≡ old.number → new.bad ≡ old.bad → new.taken ≡ old.taken + (4 + length bytes) →
+    new.form ≡ old.form → new.pending ≡ old.pending → noted new.notes ≡ noted old.notes →
+    new.number ≡ old.number → new.bad ≡ old.bad → new.taken ≡ old.taken + (4 + length bytes) →
     Awaits new byte k (done ++ record_bytes bytes) text
 in_place old new byte k done bytes text st at tells fits none part es ep et en eb ek =
-    let all : done ≡ dump_of st.records = st.done_is ∙ ap (λ (o : List ℕ). dump_of st.records ++ o) none ∙ append-nil (dump_of st.records) in
+    let all : done ≡ dump_of st.records = st.done_is ∙ ap (λ (o : List ℕ). dump_of st.records ++ o)
+    none ∙ append-nil (dump_of st.records) in
     record {
       records = st.records;
       bytes = bytes;
@@ -144,13 +157,21 @@ in_place old new byte k done bytes text st at tells fits none part es ep et en e
       tells = tells;
       place_is = at ∙ st.taken_is ∙ ap (λ (l : List ℕ). length l) all;
       part_is = part ∙ none;
-      resets_are = subst (λ (p : Option DumpReset). AreResets st.records st.ended p) (sym ep) st.resets_are;
+      resets_are = subst (λ (p : Option DumpReset). AreResets st.records st.ended p) (sym ep)
+          st.resets_are;
       told = rw (es, et, eb) st.told;
       number_is = en ∙ st.number_is;
-      taken_is = omega (arith, ek, st.taken_is, length-append done (record_bytes bytes), length-record_bytes bytes);
+      taken_is = omega (
+        arith,
+        ek,
+        st.taken_is,
+        length-append done (record_bytes bytes),
+        length-record_bytes bytes,
+      );
     }
 
-whole_done : (records : List (List ℕ)) (bytes done : List ℕ) → done ≡ dump_of records ++ record_bytes bytes →
+whole_done : (records : List (List ℕ)) (bytes done : List ℕ) → done ≡ dump_of records
+    ++ record_bytes bytes →
     done ≡ dump_of (records ++ bytes ∷ []) ++ []
 whole_done records bytes done e =
     e ∙ sym (dump_more records bytes) ∙ sym (append-nil (dump_of (records ++ bytes ∷ [])))
@@ -176,7 +197,8 @@ after_other r byte k done text is a = record {
 
 pub after_packet : (old new : DumpReader) (byte : ℕ) (k : Record) (done text : List ℕ) (quad : ℕ) →
     k ≡ SelfId quad → Awaits old byte k done text → new.pending ≡ with_packet quad old.pending →
-    new.part.items ≡ old.part.items → new.form ≡ old.form → noted new.notes ≡ noted old.notes → new.number ≡ old.number → new.bad ≡ old.bad → new.taken ≡ old.taken →
+    new.part.items ≡ old.part.items → new.form ≡ old.form → noted new.notes ≡ noted old.notes →
+    new.number ≡ old.number → new.bad ≡ old.bad → new.taken ≡ old.taken →
     Knows IsOpen new done text
 after_packet old new byte k done text quad is a ep part es et en eb ek =
     let none : new.part.items ≡ [] = part ∙ a.part_is in
@@ -198,18 +220,23 @@ after_packet old new byte k done text quad is a ep part es et en eb ek =
     with : (p : Option DumpReset) → AreResets a.records a.ended p →
         AreResets (a.records ++ a.bytes ∷ []) a.ended (with_packet quad p)
     with None are = (more ∙ last_none (resets_from 0 a.records) quad are.0, are.1)
-    with (Some p) are = more ∙ ap (λ (l : List DumpReset). last_with quad l) are ∙ last_more a.ended p quad
+    with (Some p) are = more ∙ ap (λ (l : List DumpReset). last_with quad l) are
+        ∙ last_more a.ended p quad
 
 pub after_reset : (old new : DumpReader) (byte time : ℕ) (k : Record) (done text was is : List ℕ) →
     k ≡ Reset time → Awaits old byte k done (text ++ was) → length done ≤ 9223372036854775807 →
-    ShowsBy old.form old.pending old.number (noted old.notes) old.bad new.number (noted new.notes) new.bad was is →
+    ShowsBy old.form old.pending old.number (noted old.notes) old.bad new.number (noted new.notes)
+    new.bad was is →
     new.pending ≡ Some (record { byte = byte; time = time; list = [] }) →
     new.part.items ≡ old.part.items → new.form ≡ old.form → new.taken ≡ old.taken →
     Knows IsOpen new done (text ++ is)
 after_reset old new byte time k done text was is kind a few shows ep part es ek =
-    let number = few_numbers a.records a.ended old.pending done (record_bytes a.bytes) old.number a.resets_are a.done_is a.number_is few in
+    let number = few_numbers a.records a.ended old.pending done (record_bytes a.bytes) old.number
+    a.resets_are a.done_is a.number_is few in
     let all =
-    all_shown old.form a.records a.ended old.pending text was is old.number new.number (noted old.notes) (noted new.notes) old.bad new.bad a.resets_are a.told a.number_is number shows
+    all_shown old.form a.records a.ended old.pending text was is old.number new.number
+    (noted old.notes) (noted new.notes) old.bad new.bad a.resets_are a.told a.number_is number
+    shows
     in
     let place : byte ≡ 0 + length (dump_of a.records) = omega (arith, a.place_is) in
     let none : new.part.items ≡ [] = part ∙ a.part_is in
@@ -234,7 +261,8 @@ came_on done bytes rest at count is =
     ∙ ap (λ (l : List ℕ). done ++ (take at bytes ++ take count l)) is
     ∙ ap (λ (l : List ℕ). done ++ l) (sym (take-add at count bytes))
 
-pub came_all : (done bytes : List ℕ) (at : ℕ) → done ++ bytes ≡ (done ++ take at bytes) ++ drop at bytes
+pub came_all : (done bytes : List ℕ) (at : ℕ) → done ++ bytes ≡ (done ++ take at bytes)
+    ++ drop at bytes
 came_all done bytes at =
     ap (λ (l : List ℕ). done ++ l) (sym (take-append-drop at bytes))
     ∙ sym (append_assoc done (take at bytes) (drop at bytes))
@@ -244,11 +272,14 @@ pub few_left : (done bytes rest : List ℕ) (at : ℕ) → rest ≡ drop at byte
     length done + length bytes ≤ 9223372036854775807 →
     length (done ++ take at bytes) + length rest ≤ 9223372036854775807
 few_left done bytes rest at is less few =
-    let size : length (take at bytes) + length (drop at bytes) ≡ length bytes = sym (length-append (take at bytes) (drop at bytes)) ∙ ap (λ (l : List ℕ). length l) (take-append-drop at bytes) in
+    let size : length (take at bytes) + length (drop at bytes) ≡ length bytes =
+    sym (length-append (take at bytes) (drop at bytes)) ∙ ap (λ (l : List ℕ). length l)
+    (take-append-drop at bytes) in
     let same : length rest ≡ length (drop at bytes) = ap (λ (l : List ℕ). length l) is in
     omega (arith, few, size, same, length-append done (take at bytes))
 
-pub some_left : (bytes rest : List ℕ) (at : ℕ) → rest ≡ drop at bytes → at < length bytes → 0 < length rest
+pub some_left : (bytes rest : List ℕ) (at : ℕ) → rest ≡ drop at bytes → at < length bytes →
+    0 < length rest
 some_left bytes rest at is less =
     let same : length rest ≡ length (drop at bytes) = ap (λ (l : List ℕ). length l) is in
     omega (arith, less, same, length-drop at bytes)
@@ -259,36 +290,44 @@ stays_open None r done text e st = st
 stays_open (Some size) r done text e st = absurd cc
 
 -- a length came within bytes that can't be
-pub stopped : (size : Option ℕ) (r : DumpReader) (done all more text : List ℕ) → is_some size ≡ true →
+pub stopped : (size : Option ℕ) (r : DumpReader) (done all more text : List ℕ) →
+    is_some size ≡ true →
     all ≡ done ++ more → Stays size r done text → Goes size r all text
 stopped None r done all more text e is st = absurd cc
 stopped (Some size) r done all more text e is st = (done, more, is, st)
 
 -- ---- the end
 
-pub shown_now : (Holds : List ℕ → Type 0) (old : DumpReader) (done text was is : List ℕ) (m : ℕ) (u : Noted) (c : Bool) →
+pub shown_now : (Holds : List ℕ → Type 0) (old : DumpReader) (done text was is : List ℕ) (m : ℕ)
+    (u : Noted) (c : Bool) →
     (st : Knows Holds old done (text ++ was)) → length done ≤ 9223372036854775807 →
     ShowsBy old.form old.pending old.number (noted old.notes) old.bad m u c was is →
     AllShown old.form st.records (text ++ is) m u c
 shown_now Holds old done text was is m u c st few shows =
-    let number = few_numbers st.records st.ended old.pending done old.part.items old.number st.resets_are st.done_is st.number_is few in
-    all_shown old.form st.records st.ended old.pending text was is old.number m (noted old.notes) u old.bad c
+    let number = few_numbers st.records st.ended old.pending done old.part.items old.number
+    st.resets_are st.done_is st.number_is few in
+    all_shown old.form st.records st.ended old.pending text was is old.number m (noted old.notes) u
+    old.bad c
     st.resets_are st.told st.number_is number shows
 
-pub all_told : (old : DumpReader) (done more text was mid is : List ℕ) (fault : Option DumpFault) (byte m : ℕ) (u : Noted) (c : Bool) →
+pub all_told : (old : DumpReader) (done more text was mid is : List ℕ) (fault : Option DumpFault)
+    (byte m : ℕ) (u : Noted) (c : Bool) →
     Knows (λ bytes. EndsSo (bytes ++ more) fault) old done (text ++ was) →
     length done ≤ 9223372036854775807 → byte ≡ old.taken - length old.part.items →
     ShowsBy old.form old.pending old.number (noted old.notes) old.bad m u c was mid →
     is ≡ mid ++ last_text old.form byte fault u →
     IsDumpShown old.form (done ++ more) (text ++ is) (c || is_some fault)
 all_told old done more text was mid is fault byte m u c st few at shows last =
-    let all = shown_now (λ bytes. EndsSo (bytes ++ more) fault) old done text was mid m u c st few shows in
-    let place : byte ≡ length (dump_of st.records) = place_of (λ bytes. EndsSo (bytes ++ more) fault) old done (text ++ was) byte st at in
+    let all = shown_now (λ bytes. EndsSo (bytes ++ more) fault) old done text was mid m u c st few
+    shows in
+    let place : byte ≡ length (dump_of st.records) =
+    place_of (λ bytes. EndsSo (bytes ++ more) fault) old done (text ++ was) byte st at in
     record {
       records = st.records;
       rest = old.part.items ++ more;
       fault = fault;
-      dump_is = ap (λ (d : List ℕ). d ++ more) st.done_is ∙ append_assoc (dump_of st.records) old.part.items more;
+      dump_is = ap (λ (d : List ℕ). d ++ more) st.done_is ∙ append_assoc (dump_of st.records)
+          old.part.items more;
       sized = st.sized;
       ends = st.holds;
       resets_text = text ++ mid;
@@ -296,7 +335,8 @@ all_told old done more text was mid is fault byte m u c st few at shows last =
       known = u;
       told = all.told;
       text_is =
-          ap (λ (l : List ℕ). text ++ l) last ∙ sym (append_assoc text mid (last_text old.form byte fault u))
+          ap (λ (l : List ℕ). text ++ l) last
+          ∙ sym (append_assoc text mid (last_text old.form byte fault u))
           ∙ ap (λ (b : ℕ). (text ++ mid) ++ last_text old.form b fault u) place;
       bad_is = refl;
     }
@@ -307,19 +347,23 @@ pub bad_length : (part more : List ℕ) (size : ℕ) → HasBadLength size part 
 bad_length part more size h = (more_size part more size h.0, h.1)
 
 -- so it ends what came so far, whatever comes behind it
-pub front_ends : {K : Type 0} {w : K → Option (List ℕ)} {f : K → ℕ} {t : K → ℕ → Type 0} (s : DumpReader) (done left : List ℕ) (size : ℕ) (start is : K) →
+pub front_ends : {K : Type 0} {w : K → Option (List ℕ)} {f : K → ℕ} {t : K → ℕ → Type 0}
+    (s : DumpReader) (done left : List ℕ) (size : ℕ) (start is : K) →
     (goes : Writes w f t (Goes (Some size) s done) start is) →
-    Writes w f t (Knows (λ bytes. EndsSo (bytes ++ (goes.is.1 ++ left)) (Some (BadLength size))) s goes.is.0) start is
+    Writes w f t (Knows (λ bytes. EndsSo (bytes ++ (goes.is.1 ++ left)) (Some (BadLength size))) s
+    goes.is.0) start is
 front_ends s done left size start is goes = record {
   text = goes.text;
   is =
-      holds_now (HasBadLength size) (λ bytes. EndsSo (bytes ++ (goes.is.1 ++ left)) (Some (BadLength size))) s goes.is.0 goes.text
+      holds_now (HasBadLength size) (λ bytes. EndsSo (bytes ++ (goes.is.1 ++ left))
+      (Some (BadLength size))) s goes.is.0 goes.text
       (bad_length s.part.items (goes.is.1 ++ left) size) goes.is.3;
   wrote = goes.wrote;
 }
 
 -- what is written while a dump goes on
-pub begun : {K : Type 0} {w : K → Option (List ℕ)} {f : K → ℕ} {t : K → ℕ → Type 0} (r : DumpReader) (done : List ℕ) (start was : K) →
+pub begun : {K : Type 0} {w : K → Option (List ℕ)} {f : K → ℕ} {t : K → ℕ → Type 0} (r : DumpReader)
+    (done : List ℕ) (start was : K) →
     Writes w f t (Knows IsOpen r done) start was → IsBegunWritten r.form (w start) (w was) done
 begun r done start was all = record {
   text = all.text;
@@ -332,7 +376,8 @@ begun r done start was all = record {
     bad = r.bad;
     known = noted r.notes;
     told =
-        subst (λ (l : List DumpReset). AreTold (IsResetShown r.form) 1 nothing l all.text r.bad (noted r.notes)) (sym (all_but r.pending all.is.resets_are)) all.is.told;
+        subst (λ (l : List DumpReset). AreTold (IsResetShown r.form) 1 nothing l all.text r.bad
+        (noted r.notes)) (sym (all_but r.pending all.is.resets_are)) all.is.told;
   };
   wrote = all.wrote.appended;
 }

@@ -30,20 +30,24 @@ pub front_taken : (r bytes : List ℕ) → bytes ≡ record_bytes r ++ drop (4 +
     record_bytes r ≡ take (length r + 4) bytes
 front_taken r bytes e =
     let size : length (record_bytes r) ≡ length r + 4 = omega (arith, length-record_bytes r) in
-    sym (ap (λ (l : List ℕ). take (length r + 4) l) e ∙ take_at (record_bytes r) (drop (4 + length r) bytes) (length r + 4) size)
+    sym (ap (λ (l : List ℕ). take (length r + 4) l) e
+    ∙ take_at (record_bytes r) (drop (4 + length r) bytes) (length r + 4) size)
 
 pub front_fits : (r bytes done : List ℕ) → bytes ≡ record_bytes r ++ drop (4 + length r) bytes →
     length done + length bytes ≤ 9223372036854775807 →
     length done + (4 + length r) ≤ 9223372036854775807
 front_fits r bytes done e few =
-    let size : length bytes ≡ length (record_bytes r) + length (drop (4 + length r) bytes) = ap (λ (l : List ℕ). length l) e ∙ length-append (record_bytes r) (drop (4 + length r) bytes) in
+    let size : length bytes ≡ length (record_bytes r) + length (drop (4 + length r) bytes) =
+    ap (λ (l : List ℕ). length l) e ∙ length-append (record_bytes r)
+    (drop (4 + length r) bytes) in
     omega (arith, few, size, length-record_bytes r)
 
 pub few_records : (rs : List (List ℕ)) → length rs ≤ length (dump_of rs)
 few_records [] = omega arith
 few_records (r ∷ rs) =
     let h = few_records rs in
-    let e : length (dump_of (r ∷ rs)) ≡ length (record_bytes r) + length (dump_of rs) = length-append (record_bytes r) (dump_of rs) in
+    let e : length (dump_of (r ∷ rs)) ≡ length (record_bytes r) + length (dump_of rs) =
+    length-append (record_bytes r) (dump_of rs) in
     let f : length (record_bytes r) ≡ 4 + length r = length-record_bytes r in
     omega (arith, h, e, f)
 
@@ -68,21 +72,25 @@ few_bytes (a ∷ b ∷ c ∷ d ∷ xs) size e = omega arith
 packets_other : (rs : List (List ℕ)) (r : List ℕ) → record_of r ≡ Other →
     packets (rs ++ r ∷ []) ≡ packets rs
 packets_other [] r e = ap (λ (k : Record). packets_by k []) e
-packets_other (s ∷ rs) r e = ap (λ (more : List ℕ). packets_by (record_of s) more) (packets_other rs r e)
+packets_other (s ∷ rs) r e = ap (λ (more : List ℕ). packets_by (record_of s) more)
+    (packets_other rs r e)
 
 pub resets_other : (byte : ℕ) (rs : List (List ℕ)) (r : List ℕ) → record_of r ≡ Other →
     resets_from byte (rs ++ r ∷ []) ≡ resets_from byte rs
 resets_other byte [] r e = ap (λ (k : Record). resets_by k byte [] []) e
 resets_other byte (s ∷ rs) r e =
-    ap (λ (list : List ℕ). resets_by (record_of s) byte list (resets_from (byte + (4 + length s)) (rs ++ r ∷ []))) (packets_other rs r e)
-    ∙ ap (λ (more : List DumpReset). resets_by (record_of s) byte (packets rs) more) (resets_other (byte + (4 + length s)) rs r e)
+    ap (λ (list : List ℕ). resets_by (record_of s) byte list
+    (resets_from (byte + (4 + length s)) (rs ++ r ∷ []))) (packets_other rs r e)
+    ∙ ap (λ (more : List DumpReset). resets_by (record_of s) byte (packets rs) more)
+    (resets_other (byte + (4 + length s)) rs r e)
 
 -- ---- a reset
 
 packets_reset : (rs : List (List ℕ)) (r : List ℕ) (time : ℕ) → record_of r ≡ Reset time →
     packets (rs ++ r ∷ []) ≡ packets rs
 packets_reset [] r time e = ap (λ (k : Record). packets_by k []) e
-packets_reset (s ∷ rs) r time e = ap (λ (more : List ℕ). packets_by (record_of s) more) (packets_reset rs r time e)
+packets_reset (s ∷ rs) r time e = ap (λ (more : List ℕ). packets_by (record_of s) more)
+    (packets_reset rs r time e)
 
 abbrev pub fresh : ℕ → ℕ → DumpReset
 fresh byte time = record { byte = byte; time = time; list = [] }
@@ -100,12 +108,17 @@ resets_reset byte [] r time place e at =
     let same : byte ≡ place = omega (arith, at) in
     ap (λ (k : Record). resets_by k byte [] []) e ∙ ap (λ (b : ℕ). fresh b time ∷ []) same
 resets_reset byte (s ∷ rs) r time place e at =
-    let size : length (dump_of (s ∷ rs)) ≡ length (record_bytes s) + length (dump_of rs) = length-append (record_bytes s) (dump_of rs) in
+    let size : length (dump_of (s ∷ rs)) ≡ length (record_bytes s) + length (dump_of rs) =
+    length-append (record_bytes s) (dump_of rs) in
     let head : length (record_bytes s) ≡ 4 + length s = length-record_bytes s in
-    let there : place ≡ byte + (4 + length s) + length (dump_of rs) = omega (arith, at, size, head) in
-    ap (λ (list : List ℕ). resets_by (record_of s) byte list (resets_from (byte + (4 + length s)) (rs ++ r ∷ []))) (packets_reset rs r time e)
-    ∙ ap (λ (more : List DumpReset). resets_by (record_of s) byte (packets rs) more) (resets_reset (byte + (4 + length s)) rs r time place e there)
-    ∙ one_behind (record_of s) byte (packets rs) (resets_from (byte + (4 + length s)) rs) (fresh place time)
+    let there : place ≡ byte + (4 + length s) + length (dump_of rs) =
+    omega (arith, at, size, head) in
+    ap (λ (list : List ℕ). resets_by (record_of s) byte list
+    (resets_from (byte + (4 + length s)) (rs ++ r ∷ []))) (packets_reset rs r time e)
+    ∙ ap (λ (more : List DumpReset). resets_by (record_of s) byte (packets rs) more)
+    (resets_reset (byte + (4 + length s)) rs r time place e there)
+    ∙ one_behind (record_of s) byte (packets rs) (resets_from (byte + (4 + length s)) rs)
+    (fresh place time)
 
 -- ---- a self-ID packet
 
@@ -121,22 +134,28 @@ last_with quad (p ∷ x ∷ xs) = p ∷ last_with quad (x ∷ xs)
 packets_more : (byte : ℕ) (rs : List (List ℕ)) (r : List ℕ) (quad : ℕ) → record_of r ≡ SelfId quad →
     resets_from byte rs ≡ [] → packets (rs ++ r ∷ []) ≡ packets rs ++ quad ∷ []
 packets_more byte [] r quad e none = ap (λ (k : Record). packets_by k []) e
-packets_more byte (s ∷ rs) r quad e none = go (record_of s) none (packets_more (byte + (4 + length s)) rs r quad e)
+packets_more byte (s ∷ rs) r quad e none = go (record_of s) none
+    (packets_more (byte + (4 + length s)) rs r quad e)
   where
-    go : (k : Record) → resets_by k byte (packets rs) (resets_from (byte + (4 + length s)) rs) ≡ [] →
-        (resets_from (byte + (4 + length s)) rs ≡ [] → packets (rs ++ r ∷ []) ≡ packets rs ++ quad ∷ []) →
+    go : (k : Record) → resets_by k byte (packets rs)
+        (resets_from (byte + (4 + length s)) rs) ≡ [] →
+        (resets_from (byte + (4 + length s)) rs ≡ [] → packets (rs ++ r ∷ []) ≡ packets rs
+        ++ quad ∷ []) →
         packets_by k (packets (rs ++ r ∷ [])) ≡ packets_by k (packets rs) ++ quad ∷ []
     go (Reset time) h rest = absurd cc
     go (SelfId x) h rest = ap (λ (more : List ℕ). x ∷ more) (rest h)
     go Other h rest = rest h
 
-packets_same : (byte : ℕ) (rs : List (List ℕ)) (r : List ℕ) (quad : ℕ) (p : DumpReset) (ps : List DumpReset) →
+packets_same : (byte : ℕ) (rs : List (List ℕ)) (r : List ℕ) (quad : ℕ) (p : DumpReset)
+    (ps : List DumpReset) →
     record_of r ≡ SelfId quad → resets_from byte rs ≡ p ∷ ps →
     packets (rs ++ r ∷ []) ≡ packets rs
 packets_same byte [] r quad p ps e some = absurd cc
-packets_same byte (s ∷ rs) r quad p ps e some = go (record_of s) some (packets_same (byte + (4 + length s)) rs r quad p ps e)
+packets_same byte (s ∷ rs) r quad p ps e some =
+    go (record_of s) some (packets_same (byte + (4 + length s)) rs r quad p ps e)
   where
-    go : (k : Record) → resets_by k byte (packets rs) (resets_from (byte + (4 + length s)) rs) ≡ p ∷ ps →
+    go : (k : Record) → resets_by k byte (packets rs)
+        (resets_from (byte + (4 + length s)) rs) ≡ p ∷ ps →
         (resets_from (byte + (4 + length s)) rs ≡ p ∷ ps → packets (rs ++ r ∷ []) ≡ packets rs) →
         packets_by k (packets (rs ++ r ∷ [])) ≡ packets_by k (packets rs)
     go (Reset time) h rest = refl
@@ -148,14 +167,17 @@ pub resets_packet : (byte : ℕ) (rs : List (List ℕ)) (r : List ℕ) (quad : �
     resets_from byte (rs ++ r ∷ []) ≡ last_with quad (resets_from byte rs)
 resets_packet byte [] r quad e = ap (λ (k : Record). resets_by k byte [] []) e
 resets_packet byte (s ∷ rs) r quad e =
-    go (record_of s) (resets_from (byte + (4 + length s)) rs) refl (resets_packet (byte + (4 + length s)) rs r quad e)
+    go (record_of s) (resets_from (byte + (4 + length s)) rs) refl
+    (resets_packet (byte + (4 + length s)) rs r quad e)
   where
     go : (k : Record) (more : List DumpReset) → resets_from (byte + (4 + length s)) rs ≡ more →
         resets_from (byte + (4 + length s)) (rs ++ r ∷ []) ≡ last_with quad more →
-        resets_by k byte (packets (rs ++ r ∷ [])) (resets_from (byte + (4 + length s)) (rs ++ r ∷ []))
+        resets_by k byte (packets (rs ++ r ∷ []))
+        (resets_from (byte + (4 + length s)) (rs ++ r ∷ []))
         ≡ last_with quad (resets_by k byte (packets rs) more)
     go (Reset time) [] is h = rw (h, packets_more (byte + (4 + length s)) rs r quad e is) refl
-    go (Reset time) (p ∷ ps) is h = rw (h, packets_same (byte + (4 + length s)) rs r quad p ps e is) refl
+    go (Reset time) (p ∷ ps) is h = rw (h, packets_same (byte + (4 + length s)) rs r quad p ps e is)
+        refl
     go (SelfId x) more is h = h
     go Other more is h = h
 
@@ -176,12 +198,14 @@ few_resets byte [] = omega arith
 few_resets byte (r ∷ rs) = go (record_of r) (few_resets (byte + (4 + length r)) rs)
   where
     go : (k : Record) → length (resets_from (byte + (4 + length r)) rs) ≤ length rs →
-        length (resets_by k byte (packets rs) (resets_from (byte + (4 + length r)) rs)) ≤ suc (length rs)
+        length (resets_by k byte (packets rs) (resets_from (byte + (4 + length r)) rs)) ≤ suc
+        (length rs)
     go (Reset time) h = omega (arith, h)
     go (SelfId x) h = omega (arith, h)
     go Other h = omega (arith, h)
 
 pub but_last-more : (ended : List DumpReset) (p : DumpReset) → but_last (ended ++ p ∷ []) ≡ ended
 but_last-more ended p =
-    let size : length (ended ++ p ∷ []) - 1 ≡ length ended = omega (arith, length-append ended (p ∷ [])) in
+    let size : length (ended ++ p ∷ []) - 1 ≡ length ended =
+    omega (arith, length-append ended (p ∷ [])) in
     ap (λ (n : ℕ). take n (ended ++ p ∷ [])) size ∙ take_at ended (p ∷ []) (length ended) refl

@@ -17,23 +17,25 @@ use Rattle.nosy_dump.specs.Noted.{Noted, after}
 use Rattle.nosy_dump.specs.codings.Going.{IsWhole, IsFilled, ShowsReset}
 use Rattle.nosy_dump.proofs.Records.{more_size}
 
-pub shows_one : (form : LogForm) (p : DumpReset) (n m : ℕ) (x u : Noted) (b c : Bool) (was is text bytes : List ℕ) (before heard : Option Tree) →
+pub shows_one : (form : LogForm) (p : DumpReset) (n m : ℕ) (x u : Noted) (b c : Bool)
+    (was is text bytes : List ℕ) (before heard : Option Tree) →
     before ≡ x.tree → IsJudged form n before p text heard → bytes ≡ text →
     is ≡ was ++ bytes → u ≡ after x heard → c ≡ (b || is_none heard) →
     (n < 2 ^ 64 - 1 → m ≡ n + 1) → ShowsReset form p n x b m u c was is
-shows_one form p n m x u b c was is text bytes before heard is_before shown same gathered tree bad number = record {
-  text = text;
-  here = is_none heard;
-  shown = record {
-    heard = heard;
-    shown = subst (λ (y : Option Tree). IsJudged form n y p text heard) is_before shown;
-    bad_is = refl;
-    next_is = tree;
-  };
-  bad = bad;
-  gathered = gathered ∙ ap (λ (l : List ℕ). was ++ l) same;
-  number_is = number;
-}
+shows_one form p n m x u b c was is text bytes before heard is_before shown same gathered tree bad
+    number = record {
+      text = text;
+      here = is_none heard;
+      shown = record {
+        heard = heard;
+        shown = subst (λ (y : Option Tree). IsJudged form n y p text heard) is_before shown;
+        bad_is = refl;
+        next_is = tree;
+      };
+      bad = bad;
+      gathered = gathered ∙ ap (λ (l : List ℕ). was ++ l) same;
+      number_is = number;
+    }
 
 -- ---- bytes of a record that were kept
 
@@ -66,7 +68,8 @@ some_lacks xs e = omega (arith, few_none xs e)
 
 pub below_now : (xs : List ℕ) (size : ℕ) → size_of xs ≡ Some size → IsOpen xs → length xs < size + 4
 below_now xs size e goes =
-    let below : IsBelow (Some size) (length xs) = subst (λ (s : Option ℕ). IsBelow s (length xs)) e goes in below.1
+    let below : IsBelow (Some size) (length xs) = subst (λ (s : Option ℕ). IsBelow s (length xs)) e
+    goes in below.1
 
 -- up to its own end
 pub filled_some : (xs more : List ℕ) (size : ℕ) → size_of xs ≡ Some size → IsOpen xs →
@@ -97,7 +100,8 @@ is_whole xs size e fits bytes long =
     }
 
 -- as text
-pub in_text : (standard : Standard) (n : ℕ) (p : DumpReset) (front list text : List ℕ) (before heard : Option Tree) →
+pub in_text : (standard : Standard) (n : ℕ) (p : DumpReset) (front list text : List ℕ)
+    (before heard : Option Tree) →
     front ≡ head n p → list ≡ p.list → IsListShown standard Core front list before text heard →
     IsJudged (Text standard) n before p text heard
 in_text standard n p front list text before heard is_front is_list shown =

@@ -4,7 +4,8 @@ use Rattle.nosy_dump.proofs.dump.last_text.Goals as goal
 
 pub returns-in-Text-clause-json : goal.returns-in-Text-clause-json
 returns-in-Text-clause-json c =
-    map_ok c.end_text.result _ _ (λ text is. not_json c.args.form c.in-Text.field-0 text.items c.in-Text.is) c.end_text.ensures
+    map_ok c.end_text.result _ _ (λ text is. not_json c.args.form c.in-Text.field-0 text.items
+    c.in-Text.is) c.end_text.ensures
 
 pub returns-in-Json-clause-json : goal.returns-in-Json-clause-json
 returns-in-Json-clause-json c =

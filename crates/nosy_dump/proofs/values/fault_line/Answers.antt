@@ -9,10 +9,31 @@ use Rattle.nosy_dump.proofs.values.fault_line.Goals as goal
 
 pub returns-clause-line : goal.returns-clause-line
 returns-clause-line c =
-    let e : c.close_object.new.self ≡ json_tokens (fault_value c.args.byte c.args.fault) = simp (c.in_ok-close_object.ensures, c.in_ok-put_found.ensures, c.in_ok-number_member.ensures, c.in_ok-open_object.ensures, c.in_ok-key.ensures, c.in_ok-open_schema.ensures, c.new-out.ensures, append_assoc) in
+    let e : c.close_object.new.self ≡ json_tokens (fault_value c.args.byte c.args.fault) =
+    simp (
+      c.in_ok-close_object.ensures,
+      c.in_ok-put_found.ensures,
+      c.in_ok-number_member.ensures,
+      c.in_ok-open_object.ensures,
+      c.in_ok-key.ensures,
+      c.in_ok-open_schema.ensures,
+      c.new-out.ensures,
+      append_assoc,
+    ) in
     c.in_ok-line.ensures.line ∙ ap (λ (ts : List Token). print ts ++ 10 ∷ []) e
 
 pub returns-clause-json : goal.returns-clause-json
 returns-clause-json c =
-    let e : c.close_object.new.self ≡ json_tokens (fault_value c.args.byte c.args.fault) = simp (c.in_ok-close_object.ensures, c.in_ok-put_found.ensures, c.in_ok-number_member.ensures, c.in_ok-open_object.ensures, c.in_ok-key.ensures, c.in_ok-open_schema.ensures, c.new-out.ensures, append_assoc) in
-    json_line_of (fault_value c.args.byte c.args.fault) _ _ e c.into_line.ensures.reads_back (fault_shallow c.args.byte c.args.fault) c.in_ok-line.ensures.line
+    let e : c.close_object.new.self ≡ json_tokens (fault_value c.args.byte c.args.fault) =
+    simp (
+      c.in_ok-close_object.ensures,
+      c.in_ok-put_found.ensures,
+      c.in_ok-number_member.ensures,
+      c.in_ok-open_object.ensures,
+      c.in_ok-key.ensures,
+      c.in_ok-open_schema.ensures,
+      c.new-out.ensures,
+      append_assoc,
+    ) in
+    json_line_of (fault_value c.args.byte c.args.fault) _ _ e c.into_line.ensures.reads_back
+    (fault_shallow c.args.byte c.args.fault) c.in_ok-line.ensures.line

@@ -10,10 +10,37 @@ use Rattle.nosy_dump.proofs.values.totals_line.Goals as goal
 
 pub returns-clause-line : goal.returns-clause-line
 returns-clause-line c =
-    let e : c.close_object.new.self ≡ json_tokens (totals_value (noted c.args.notes.now)) = simp (c.in_ok-close_object.ensures, c.in_ok-put_most.ensures, c.most_of.ensures, c.deref.ensures.value, c.in_ok-number_member-2.ensures, c.in_ok-number_member.ensures, c.in_ok-open_object.ensures, c.in_ok-key.ensures, c.in_ok-open_schema.ensures, c.new-out.ensures, append_assoc) in
+    let e : c.close_object.new.self ≡ json_tokens (totals_value (noted c.args.notes.now)) =
+    simp (
+      c.in_ok-close_object.ensures,
+      c.in_ok-put_most.ensures,
+      c.most_of.ensures,
+      c.deref.ensures.value,
+      c.in_ok-number_member-2.ensures,
+      c.in_ok-number_member.ensures,
+      c.in_ok-open_object.ensures,
+      c.in_ok-key.ensures,
+      c.in_ok-open_schema.ensures,
+      c.new-out.ensures,
+      append_assoc,
+    ) in
     c.in_ok-line.ensures.line ∙ ap (λ (ts : List Token). print ts ++ 10 ∷ []) e
 
 pub returns-clause-json : goal.returns-clause-json
 returns-clause-json c =
-    let e : c.close_object.new.self ≡ json_tokens (totals_value (noted c.args.notes.now)) = simp (c.in_ok-close_object.ensures, c.in_ok-put_most.ensures, c.most_of.ensures, c.deref.ensures.value, c.in_ok-number_member-2.ensures, c.in_ok-number_member.ensures, c.in_ok-open_object.ensures, c.in_ok-key.ensures, c.in_ok-open_schema.ensures, c.new-out.ensures, append_assoc) in
-    json_line_of (totals_value (noted c.args.notes.now)) _ _ e c.into_line.ensures.reads_back (totals_shallow (noted c.args.notes.now)) c.in_ok-line.ensures.line
+    let e : c.close_object.new.self ≡ json_tokens (totals_value (noted c.args.notes.now)) =
+    simp (
+      c.in_ok-close_object.ensures,
+      c.in_ok-put_most.ensures,
+      c.most_of.ensures,
+      c.deref.ensures.value,
+      c.in_ok-number_member-2.ensures,
+      c.in_ok-number_member.ensures,
+      c.in_ok-open_object.ensures,
+      c.in_ok-key.ensures,
+      c.in_ok-open_schema.ensures,
+      c.new-out.ensures,
+      append_assoc,
+    ) in
+    json_line_of (totals_value (noted c.args.notes.now)) _ _ e c.into_line.ensures.reads_back
+    (totals_shallow (noted c.args.notes.now)) c.in_ok-line.ensures.line

@@ -5,7 +5,8 @@ use Rattle.nosy_dump.proofs.dump.DumpReader.gather.Given as goal
 
 abbrev pub invariant-loop-at : goal.invariant-loop-at
 invariant-loop-at l =
-    ((done text : List ℕ) → length done + length l.bytes ≤ 9223372036854775807 → Knows IsOpen l.initial.self done (text ++ l.initial.out.items) →
+    ((done text : List ℕ) → length done + length l.bytes ≤ 9223372036854775807 →
+    Knows IsOpen l.initial.self done (text ++ l.initial.out.items) →
     Knows IsOpen l.self (done ++ take l.at l.bytes) (text ++ l.out.items))
     × (l.self.form ≡ l.initial.self.form)
     × (l.at ≤ length l.bytes)
