@@ -1,5 +1,5 @@
 -- What a loop over a source or a sink has done so far.
-use Rattle.std.proofs.Common.{◌≡◌, ℕ, ◌+◌, ◌-◌, ◌≤◌, List, ◌++◌, length, take, Option, Some, None, sym, ap, subst, ◌∙◌, append_assoc, length-append, arith}
+use Rattle.std.proofs.Common.{◌≡◌, ℕ, ◌+◌, ◌-◌, ◌<◌, ◌≤◌, List, ◌++◌, length, take, Option, Some, None, sym, ap, subst, ◌∙◌, append_assoc, length-append, arith}
 use Rattle.std.specs.Io.KnownBytes.{Consumes, Appends}
 use Rattle.io_edges.specs.Told.{StayTold}
 
@@ -9,6 +9,15 @@ pub record Takes (first now : Option (List ℕ)) (bytes : List ℕ) (limit befor
   pub told : StayTold first now
   pub short : length bytes ≤ limit
   pub later : before ≤ after
+
+-- the same, and a read has some room
+pub record TakesOn (first now : Option (List ℕ)) (bytes : List ℕ)
+    (limit before after room : ℕ) : Type 0 where
+  pub came : Consumes first now bytes
+  pub told : StayTold first now
+  pub short : length bytes ≤ limit
+  pub later : before ≤ after
+  pub some : 0 < room
 
 -- the bytes so far came from the source, room is left up to the limit, and a taker has them
 pub record Gives (first now : Option (List ℕ)) (limit room before after : ℕ) (Old New : List ℕ → Type 0) : Type 0 where

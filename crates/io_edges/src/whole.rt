@@ -4,18 +4,28 @@ ghost use Rattle.std.specs.Io.KnownBytes.{Appends, IsAtEnd};
 ghost use Rattle.io_edges.specs.Faults.{Rose};
 ghost use Rattle.io_edges.specs.Told.{StayTold, LeavesEnd, IfTold, TookOver, AppendsStart};
 
-use crate::stop::ReadStop;
+use crate::stop::{OutOfMemory, ReadStop};
 use crate::traits::{Failed, Sink, Source};
 use std::alloc::Global;
 
 /// The most bytes of one read.
 pub(crate) const PIECE: usize = 4096;
 
+/// The most bytes of one read while fewer were read: a short source needs no larger buffer.
+const FIRST: usize = 1024;
+
+/// A place for so many bytes.
+fn room_for(alloc: Global, count: usize) -> Result<Vec<u8>, OutOfMemory>
+    ensures { IfOk result (λ room. vec_len room ≡ count) }
+{
+    vec![in alloc; 0; count]
+}
+
 /// Reads a source to its end. `limit` is the most bytes that are accepted, at most 1,048,576.
 ///
 /// `ReadFault` comes only where the source's count of faults rose in this call, and `TooLong`
 /// exactly where the source gave byte number `limit + 1`. `Memory` is want of memory for the
-/// bytes. After each of them the bytes left are the end of those at the call.
+/// bytes or for a read of them. After each of them the bytes left are the end of those at the call.
 pub fn read_all<S: Source>(alloc: Global, source: &mut S, limit: usize) -> Result<Vec<u8>, ReadStop>
     requires { limit ≤ 1048576 }
     ensures all { IfOk result (λ v. IfSome (S.left source.old) (λ bytes. v.items ≡ bytes)) }
@@ -41,13 +51,25 @@ pub fn read_all<S: Source>(alloc: Global, source: &mut S, limit: usize) -> Resul
         ⊎ (stop ≡ ReadStop.Memory alloc_error))) }
 {
     let mut bytes = Vec::new(alloc);
-    let mut buf = [0u8; PIECE];
+    let mut first = [0u8; FIRST];
+    while bytes.len() < FIRST {
+        let count = source.read(&mut first)?;
+        if count == 0 {
+            return Ok(bytes);
+        }
+        if count > limit - bytes.len() {
+            return Err(ReadStop::TooLong);
+        }
+        bytes.extend_from_slice(&first[..count])?;
+    }
+    let mut buf = room_for(alloc, PIECE)?;
     loop {
         let count = source.read(&mut buf)?;
         if count == 0 {
             return Ok(bytes);
         }
-        if count > limit - bytes.len() {
+        let room = limit - bytes.len();
+        if count > room {
             return Err(ReadStop::TooLong);
         }
         bytes.extend_from_slice(&buf[..count])?;

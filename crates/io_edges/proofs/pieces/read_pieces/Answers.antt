@@ -1,5 +1,5 @@
-use Rattle.std.proofs.Common.{◌≡◌, ◌-◌, length, take, sym, arith}
-use Rattle.io_edges.proofs.Progress.{Gives, Consumes-then, gives_on}
+use Rattle.std.proofs.Common.{◌≡◌, length, take, sym, arith}
+use Rattle.io_edges.proofs.Progress.{Consumes-then, gives_on}
 use Rattle.io_edges.proofs.pieces.read_pieces.Goals as goal
 
 pub returns-then-count-room-clause-rest : goal.returns-then-count-room-clause-rest
