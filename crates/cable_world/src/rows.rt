@@ -134,6 +134,22 @@ fn count_down(held: &mut [u16], turns: u32) -> bool
     left
 }
 
+/// What is under way arrives, in place of what did before, and nothing is under way. Mostly nothing
+/// was, and then only what arrived before goes.
+#[inline(always)]
+fn hand_over(sent: &mut Vec<UnderWay>, cleared: &mut [u32; 16], arrivals: &mut Vec<UnderWay>)
+    ensures none { sent.new.items ≡ [] }
+    ensures arrives { arrivals.new.items ≡ sent.old.items }
+    ensures cleared { (p : ℕ) → slice_index cleared.old p ≤ length sent.old.items
+        → slice_index cleared.new p ≡ 0 }
+{
+    arrivals.clear();
+    if !sent.is_empty() {
+        *cleared = [0; 16];
+        swap(sent, arrivals);
+    }
+}
+
 impl WireRow {
     /// The wires of a node with so many ports: nothing is under way, and none is held.
     pub fn new(alloc: Global, ports: u8) -> Result<WireRow, OutOfMemory>
@@ -197,11 +213,7 @@ impl WireRow {
         ensures ports { length self.new ≡ length self.old }
         ensures rows { length arrivals.new ≡ length arrivals.old }
     {
-        if !self.sent.is_empty() {
-            self.cleared = [0; 16];
-        }
-        arrivals.sent.clear();
-        swap(&mut self.sent, &mut arrivals.sent);
+        hand_over(&mut self.sent, &mut self.cleared, &mut arrivals.sent);
         if !self.holds {
             return Ok(());
         }

@@ -29,6 +29,9 @@ pub struct UnderWay {
     pub age: u8,
 }
 
+/// For so many signals that are under way there is room with the first.
+const ROOM: usize = 16;
+
 /// The ports on whose wires something is under way.
 pub fn ports_of(sent: &[UnderWay]) -> PortSet
     ensures { (p : ℕ) → (has_port result p ≡ false) ↔ (on_port p sent.now ≡ []) }
@@ -120,6 +123,9 @@ fn add_each(sent: &mut Vec<UnderWay>, sends: &[Sent]) -> Result<(), OutOfMemory>
         ≡ on_port p sent.old.items ++ map new_signal (sent_on p (all_sent sends.now))) }
     ensures behind { take (length sent.old.items) sent.new.items ≡ sent.old.items }
 {
+    if sent.capacity() == 0 {
+        sent.reserve(ROOM)?;
+    }
     for entry in sends {
         sent.push(just_sent(entry))?;
     }

@@ -9,6 +9,6 @@ abbrev pub invariant-loop-entry : goal.invariant-loop-entry
 invariant-loop-entry l = record {
   sent :
       (p : ℕ) → on_port p l.sent.items ++ map new_signal (sent_on p (all_sent (drop l.entry-index l.sends)))
-      ≡ on_port p l.initial.sent.items ++ map new_signal (sent_on p (all_sent l.sends));
-  behind : take (length l.initial.sent.items) l.sent.items ≡ l.initial.sent.items;
+      ≡ on_port p l.fn.sent.items ++ map new_signal (sent_on p (all_sent l.sends));
+  behind : take (length l.fn.sent.items) l.sent.items ≡ l.fn.sent.items;
 }
