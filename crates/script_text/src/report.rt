@@ -14,6 +14,9 @@ use topology_stack::{
     BusTree, Name, NameList, OutOfMemory, TreeStop, one_tree, put_number, read_tree, tree_text,
 };
 
+/// For so many bytes of a report there is room from the start.
+const ROOM: usize = 512;
+
 /// Appends a word and a number in decimal digits.
 #[tactic(auto, unfolding(crate::specs::ReportText::numbered))]
 pub fn put_numbered(out: &mut Vec<u8>, word: &[u8], n: u64) -> Result<(), OutOfMemory>
@@ -237,7 +240,7 @@ pub fn report_text(
     requires { IsNamedReport names.now report.now }
     ensures { IfOk result (λ text. IsReportText names.now number report.now text.items) }
 {
-    let mut out = Vec::new(alloc);
+    let mut out = Vec::with_capacity(alloc, ROOM)?;
     put_report_line(&mut out, number, report.turn)?;
     put_parts(&mut out, names.as_slice(), report.parts.as_slice())?;
     Ok(out)
