@@ -23,7 +23,7 @@ use Rattle.cable_world.specs.Lawful.{IsLawful}
 use Rattle.cable_world.specs.StaysLawful.{KeptByActs}
 use Rattle.world_laws.specs.ByNumber.{BeginsReset, Stands, WiresStand, Changes, Configures, ActsByNumber}
 use Rattle.script_text.specs.ReportText.{Names}
-use Rattle.script_trace.specs.Event.{sent_lines}
+use Rattle.script_trace.specs.Event.{head, sent_lines}
 use Rattle.script_trace.specs.Shown.{signal_lines}
 use Rattle.script_trace.specs.ActShown.{BeginsAt, act_sent_lines, ShowsItsResets, ActsShowTheirResets}
 use Rattle.script_trace.proofs.Shown.{new-lines}
@@ -38,22 +38,22 @@ module _ (names : Names) (w v : CableWorld) where
   -- signals were sent behind what was under way
   sent-behind :
       (end : End) (ss : List Signal) → wire_of v end ≡ add_signals ss (wire_of w end) →
-      act_sent_lines names w v end ≡ signal_lines names v.turns end.node end.port ss
+      act_sent_lines names w v end ≡ signal_lines (head names v.turns end.node) end.port ss
   sent-behind end ss is =
-      ap (λ (x : Wire). sent_lines names v.turns end.node end.port (drop (length (wire_of w end).signals) x.signals)) is
-      ∙ ap (sent_lines names v.turns end.node end.port) (drop-append_seam (wire_of w end).signals (map new_signal ss))
-      ∙ new-lines names v.turns end.node end.port ss
+      ap (λ (x : Wire). sent_lines (head names v.turns end.node) end.port (drop (length (wire_of w end).signals) x.signals)) is
+      ∙ ap (sent_lines (head names v.turns end.node) end.port) (drop-append_seam (wire_of w end).signals (map new_signal ss))
+      ∙ new-lines (head names v.turns end.node) end.port ss
 
   -- the wire stands
   none-sent : (end : End) → wire_of v end ≡ wire_of w end → act_sent_lines names w v end ≡ []
   none-sent end is =
-      ap (λ (x : Wire). sent_lines names v.turns end.node end.port (drop (length (wire_of w end).signals) x.signals)) is
-      ∙ ap (sent_lines names v.turns end.node end.port) (drop-length (wire_of w end).signals)
+      ap (λ (x : Wire). sent_lines (head names v.turns end.node) end.port (drop (length (wire_of w end).signals) x.signals)) is
+      ∙ ap (sent_lines (head names v.turns end.node) end.port) (drop-length (wire_of w end).signals)
 
   begun :
       (k : NodeNumber) (step : PortNode → NodeStep) → BeginsReset w v k step → (end other : End) → end.node ≡ k →
       far v.cabling end ≡ Some other →
-      act_sent_lines names w v end ≡ signal_lines names v.turns end.node end.port (signal.Reset ∷ [])
+      act_sent_lines names w v end ≡ signal_lines (head names v.turns end.node) end.port (signal.Reset ∷ [])
   begun k step b end other at joined = sent-behind end (signal.Reset ∷ []) (b.wires end other at joined)
 
   drop-none : (n : ℕ) → ◌≡◌ {A = List Travelling} (drop n []) []
@@ -62,8 +62,8 @@ module _ (names : Names) (w v : CableWorld) where
   none-unplugged : IsLawful v → (end : End) → far v.cabling end ≡ None →
       act_sent_lines names w v end ≡ []
   none-unplugged l end free =
-      ap (λ (x : Wire). sent_lines names v.turns end.node end.port (drop (length (wire_of w end).signals) x.signals)) (l.well_formed.unplugged end free)
-      ∙ ap (sent_lines names v.turns end.node end.port) (drop-none (length (wire_of w end).signals))
+      ap (λ (x : Wire). sent_lines (head names v.turns end.node) end.port (drop (length (wire_of w end).signals) x.signals)) (l.well_formed.unplugged end free)
+      ∙ ap (sent_lines (head names v.turns end.node) end.port) (drop-none (length (wire_of w end).signals))
 
 -- ---- each act
 

@@ -28,7 +28,7 @@ use Rattle.cable_world.proofs.Lemmas.{none-some, some-same, still-silent}
 use Rattle.world_agenda.specs.Alone.{IsLeftAlone, LeavesAloneBut}
 use Rattle.world_agenda.proofs.Lemmas.{still-turn}
 use Rattle.script_text.specs.ReportText.{Names}
-use Rattle.script_trace.specs.Event.{Seen, enters, state_number, state_line, timeout_line, parent_line, child_lines, coin_line, id_line, sent_line, sent_lines, all_sent_lines, node_lines}
+use Rattle.script_trace.specs.Event.{Seen, head, enters, state_number, state_line, timeout_line, parent_line, child_lines, coin_line, id_line, sent_line, sent_lines, all_sent_lines, lines_at, node_lines}
 use Rattle.script_trace.specs.Step.{all_lines, seen_before_turn}
 use Rattle.script_trace.specs.News.{ShowsNothingNew, IsNewWithin}
 use Rattle.script_trace.specs.Voice.{TellsNewsAlone}
@@ -60,23 +60,23 @@ none-then-some : {A : Type 0} → (o : Option A) → (is_none o && is_some o) �
 none-then-some None = refl
 none-then-some (Some x) = refl
 
-module _ (names : Names) (turns k : ℕ) where
+module _ (front : List ℕ) where
   no-child-from :
       (before : List PortView) (j : PortNumber) (ports : List PortView) →
       ((i : ℕ) (p : PortView) → slice_get ports i ≡ Some p → slice_get before (j + i) ≡ Some p) →
-      child_lines names turns k before j ports ≡ []
+      child_lines front before j ports ≡ []
   no-child-from before j [] h = refl
   no-child-from before j (p ∷ ports) h =
       let here : j + 0 ≡ j = omega arith in
       let at : slice_get before j ≡ Some p = subst (λ (n : ℕ). slice_get before n ≡ Some p) here (h 0 p refl) in
-      both-none _ (child_lines names turns k before (j + 1) ports)
+      both-none _ (child_lines front before (j + 1) ports)
       (cond-false (p.child && not (port_is (λ q. q.child) before j)) _ []
       (ap (λ (o : Option PortView). p.child && not (passes (λ q. q.child) o)) at ∙ true-then-none p.child))
       (no-child-from before (j + 1) ports (λ i q e.
       let next : j + suc i ≡ j + 1 + i = omega arith in
       subst (λ (n : ℕ). slice_get before n ≡ Some q) next (h (suc i) q e)))
 
-  no-child : (ports : List PortView) → child_lines names turns k ports 0 ports ≡ []
+  no-child : (ports : List PortView) → child_lines front ports 0 ports ≡ []
   no-child ports = no-child-from ports 0 ports (λ i p e.
       let here : i ≡ 0 + i = omega arith in
       subst (λ (n : ℕ). slice_get ports n ≡ Some p) here e)
@@ -85,19 +85,19 @@ module _ (names : Names) (turns k : ℕ) where
     abbrev later : View
     later = record v { timer = t }
 
-    no-state : state_line names turns k v later ≡ []
+    no-state : state_line front v later ≡ []
     no-state = cond-false (enters v later) _ [] (same-numbers (state_number v.phase) v.resets)
 
-    no-timeout : timeout_line names turns k v later ≡ []
+    no-timeout : timeout_line front v later ≡ []
     no-timeout = cond-false (not v.timed_out && v.timed_out) _ [] (none-then-true v.timed_out)
 
-    no-parent : parent_line names turns k v later ≡ []
+    no-parent : parent_line front v later ≡ []
     no-parent = cond-false (is_none v.parent && is_some v.parent) _ [] (none-then-some v.parent)
 
-    no-coin : coin_line names turns k v later ≡ []
+    no-coin : coin_line front v later ≡ []
     no-coin = cond-false (nat_lt v.draws v.draws) _ [] (no-more v.draws)
 
-    no-id : id_line names turns k v later ≡ []
+    no-id : id_line front v later ≡ []
     no-id = cond-false (is_none v.id && is_some v.id) _ [] (none-then-some v.id)
 
 -- ---- a node that shows nothing new
@@ -105,29 +105,34 @@ module _ (names : Names) (turns k : ℕ) where
 abbrev pub IsOld : Travelling → Type 0
 IsOld t = (t.age == 0) ≡ false
 
-module _ (names : Names) (w : CableWorld) (k : ℕ) where
-  none-sent : (j : PortNumber) (ts : List Travelling) → All IsOld ts → sent_lines names w.turns k j ts ≡ []
+module _ (front : List ℕ) (w : CableWorld) (k : ℕ) where
+  none-sent : (j : PortNumber) (ts : List Travelling) → All IsOld ts → sent_lines front j ts ≡ []
   none-sent j [] h = refl
   none-sent j (t ∷ ts) h =
-      both-none (sent_line names w.turns k j t) (sent_lines names w.turns k j ts)
+      both-none (sent_line front j t) (sent_lines front j ts)
       (cond-false (t.age == 0) _ [] (All-head IsOld t ts h)) (none-sent j ts (All-tail IsOld t ts h))
 
   no-sent :
       (there : List ℕ) (j : PortNumber) (ports : List PortView) →
       ((port : PortNumber) → All IsOld (drop (slice_index_or there port 0) (wire_of w (record { node = k; port = port })).signals)) →
-      all_sent_lines names w k there j ports ≡ []
+      all_sent_lines front w k there j ports ≡ []
   no-sent there j [] h = refl
   no-sent there j (p ∷ ports) h =
-      both-none _ (all_sent_lines names w k there (j + 1) ports) (none-sent j _ (h j)) (no-sent there (j + 1) ports h)
+      both-none _ (all_sent_lines front w k there (j + 1) ports) (none-sent j _ (h j)) (no-sent there (j + 1) ports h)
 
-  pub no-line : (s : Seen) (v : View) → ShowsNothingNew w k s v → node_lines names w k s v ≡ []
-  no-line s v h =
+  no-line-at : (s : Seen) (v : View) → ShowsNothingNew w k s v → lines_at front w k s v ≡ []
+  no-line-at s v h =
       let t = v.timer in
       let u = s.view in
-      subst (λ (z : View). node_lines names w k s z ≡ []) (sym h.view)
-      (both-none _ _ (no-state names w.turns k u t) (both-none _ _ (no-timeout names w.turns k u t)
-      (both-none _ _ (no-parent names w.turns k u t) (both-none _ _ (no-child names w.turns k u.ports)
-      (both-none _ _ (no-coin names w.turns k u t) (both-none _ _ (no-id names w.turns k u t) (no-sent s.there 0 u.ports h.sent)))))))
+      subst (λ (z : View). lines_at front w k s z ≡ []) (sym h.view)
+      (both-none _ _ (no-state front u t) (both-none _ _ (no-timeout front u t)
+      (both-none _ _ (no-parent front u t) (both-none _ _ (no-child front u.ports)
+      (both-none _ _ (no-coin front u t) (both-none _ _ (no-id front u t) (no-sent s.there 0 u.ports h.sent)))))))
+
+pub no-line :
+    (names : Names) (w : CableWorld) (k : ℕ) (s : Seen) (v : View) → ShowsNothingNew w k s v →
+    node_lines names w k s v ≡ []
+no-line names w k s v h = no-line-at (head names w.turns k) w k s v h
 
 -- the nodes from a number on
 abbrev pub IsOldFrom : CableWorld → ℕ → List Seen → List PortNode → Type 0

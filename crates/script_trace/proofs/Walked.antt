@@ -1,6 +1,6 @@
 -- Lists that are gone through by number.
 use Rattle.std.proofs.Common.{◌≡◌, ◌++◌, ◌+◌, ◌<◌, ◌≤◌, ℕ, List, [], ◌∷◌, length, drop, map, get_or, Option, Some, None, zero, suc, refl, sym, ◌∙◌, ap, append_assoc, add-one, arith}
-use Rattle.std.specs.Prelude.{slice_get, slice_index_or}
+use Rattle.std.specs.Prelude.{codes, slice_get, slice_index_or}
 use Rattle.std.specs.Option.{option_to_list}
 use Rattle.std.proofs.Math.Seq.{drop-cons}
 use Rattle.std.specs.Option.{option_map}
@@ -11,8 +11,8 @@ use Rattle.port_state.specs.declared.view.View.{View}
 use Rattle.port_state.specs.Machine.{PortNode}
 use Rattle.cable_world.specs.declared.wire.Travelling.{Travelling}
 use Rattle.cable_world.specs.World.{CableWorld, wire_of}
-use Rattle.script_text.specs.ReportText.{Names}
-use Rattle.script_trace.specs.Event.{Seen, sent_line, sent_lines, all_sent_lines}
+use Rattle.script_text.specs.ReportText.{Names, numbered, spaced}
+use Rattle.script_trace.specs.Event.{Seen, head, sent_line, sent_lines, all_sent_lines}
 use Rattle.script_trace.specs.Step.{counts_from, seen_before_act, seen_before_turn, all_lines}
 use Rattle.script_trace.proofs.NodeShown.{before-act}
 
@@ -56,6 +56,15 @@ past-all [] k e = omega arith
 past-all (x ∷ xs) zero e = absurd cc
 past-all (x ∷ xs) (suc k) e = let h = past-all xs k e in omega (arith, h)
 
+-- ---- the front of a line
+
+pub front-of :
+    (names : Names) (turns node : ℕ) (turn front : List ℕ) → turn ≡ numbered (codes "turn ") turns →
+    front ≡ turn ++ spaced names node → front ≡ head names turns node
+unfolding head
+front-of names turns node turn front is front-is =
+    front-is ∙ ap (λ (l : List ℕ). l ++ spaced names node) is
+
 -- ---- wires
 
 pub next-count :
@@ -70,18 +79,18 @@ next-count w node k n ports before after all h new is so =
     (ap (counts_from w node k) (some-left ports k h).1 ∙ ap (λ (m : ℕ). m ∷ rest) (sym is)) so
 
 pub next-sent :
-    (names : Names) (w : CableWorld) (node k n : ℕ) (there : List ℕ) (ports : List PortView)
+    (front : List ℕ) (w : CableWorld) (node k n : ℕ) (there : List ℕ) (ports : List PortView)
     (before after all : List ℕ) → k < length ports → n ≡ slice_index_or there k 0 →
-    after ≡ before ++ sent_lines names w.turns node k (drop n (wire_of w (record { node = node; port = k })).signals) →
-    before ++ all_sent_lines names w node there k (drop k ports) ≡ all →
-    after ++ all_sent_lines names w node there (k + 1) (drop (k + 1) ports) ≡ all
-next-sent names w node k n there ports before after all h count is so =
+    after ≡ before ++ sent_lines front k (drop n (wire_of w (record { node = node; port = k })).signals) →
+    before ++ all_sent_lines front w node there k (drop k ports) ≡ all →
+    after ++ all_sent_lines front w node there (k + 1) (drop (k + 1) ports) ≡ all
+next-sent front w node k n there ports before after all h count is so =
     let under = (wire_of w (record { node = node; port = k })).signals in
-    let rest = all_sent_lines names w node there (k + 1) (drop (k + 1) ports) in
-    one-more before after (sent_lines names w.turns node k (drop n under)) rest
-    (all_sent_lines names w node there k (drop k ports)) all is
-    (ap (all_sent_lines names w node there k) (some-left ports k h).1
-    ∙ ap (λ (i : ℕ). sent_lines names w.turns node k (drop i under) ++ rest) (sym count))
+    let rest = all_sent_lines front w node there (k + 1) (drop (k + 1) ports) in
+    one-more before after (sent_lines front k (drop n under)) rest
+    (all_sent_lines front w node there k (drop k ports)) all is
+    (ap (all_sent_lines front w node there k) (some-left ports k h).1
+    ∙ ap (λ (i : ℕ). sent_lines front k (drop i under) ++ rest) (sym count))
     so
 
 -- one signal more of a wire, and the rest, where what is written of signals is a text for each
@@ -98,25 +107,24 @@ signal-more text one none signals at None is =
     ∙ sym (rw (past-end signals (at + 1) (omega (arith, past)), none) refl)
 
 pub lines-more :
-    (names : Names) (t now node port : ℕ) (signals : List Travelling) (at : ℕ) (o : Option Travelling)
-    (before after all : List ℕ) → t ≡ now → o ≡ slice_get signals at →
-    after ≡ before ++ sent_lines names t node port (option_to_list o) →
-    before ++ sent_lines names now node port (drop at signals) ≡ all →
-    after ++ sent_lines names now node port (drop (at + 1) signals) ≡ all
-lines-more names t now node port signals at o before after all turns is new so =
-    let text = sent_lines names now node port in
+    (front : List ℕ) (port : ℕ) (signals : List Travelling) (at : ℕ) (o : Option Travelling)
+    (before after all : List ℕ) → o ≡ slice_get signals at →
+    after ≡ before ++ sent_lines front port (option_to_list o) →
+    before ++ sent_lines front port (drop at signals) ≡ all →
+    after ++ sent_lines front port (drop (at + 1) signals) ≡ all
+lines-more front port signals at o before after all is new so =
+    let text = sent_lines front port in
     let one : (s : Travelling) (ss : List Travelling) → text (s ∷ ss) ≡ text (s ∷ []) ++ text ss =
-    λ s ss. ap (λ (l : List ℕ). l ++ text ss) (sym (append-nil (sent_line names now node port s))) in
+    λ s ss. ap (λ (l : List ℕ). l ++ text ss) (sym (append-nil (sent_line front port s))) in
     one-more before after (text (option_to_list o)) (text (drop (at + 1) signals)) (text (drop at signals)) all
-    (new ∙ ap (λ (n : ℕ). before ++ sent_lines names n node port (option_to_list o)) turns)
-    (signal-more text one refl signals at o is) so
+    new (signal-more text one refl signals at o is) so
 
 pub no-lines-left :
-    (names : Names) (now node port : ℕ) (signals : List Travelling) (at : ℕ) (out all : List ℕ) →
-    length signals ≤ at → out ++ sent_lines names now node port (drop at signals) ≡ all → out ≡ all
-no-lines-left names now node port signals at out all past so =
-    all-told out all (sent_lines names now node port (drop at signals))
-    (ap (sent_lines names now node port) (past-end signals at past)) so
+    (front : List ℕ) (port : ℕ) (signals : List Travelling) (at : ℕ) (out all : List ℕ) →
+    length signals ≤ at → out ++ sent_lines front port (drop at signals) ≡ all → out ≡ all
+no-lines-left front port signals at out all past so =
+    all-told out all (sent_lines front port (drop at signals))
+    (ap (sent_lines front port) (past-end signals at past)) so
 
 -- ---- nodes
 

@@ -8,7 +8,7 @@ use Rattle.cable_world.specs.declared.act.Act.TheVariants.{Plug, Pull, Reset, Co
 use Rattle.cable_world.specs.World.{CableWorld, NodeNumber, wire_of}
 use Rattle.world_laws.specs.ByNumber.{InActs}
 use Rattle.script_text.specs.ReportText.{Names}
-use Rattle.script_trace.specs.Event.{sent_lines}
+use Rattle.script_trace.specs.Event.{head, sent_lines}
 use Rattle.script_trace.specs.Shown.{signal_lines}
 
 -- an act begins a reset at this node
@@ -22,7 +22,7 @@ BeginsAt (Config from root_id force gap) w k = k ≡ from
 -- way now, but for the ones that were before
 abbrev pub act_sent_lines : Names → CableWorld → CableWorld → End → List ℕ
 act_sent_lines names w v end =
-    sent_lines names v.turns end.node end.port
+    sent_lines (head names v.turns end.node) end.port
     (drop (length (wire_of w end).signals) (wire_of v end).signals)
 
 -- On each cable of a node at which an act begins a reset one BUS_RESET is shown. At the other nodes,
@@ -31,7 +31,7 @@ pub record ShowsItsResets (names : Names) (a : Act) (w v : CableWorld) : Type 0 
   pub resets :
       (end other : End) → BeginsAt a w end.node → far v.cabling end ≡ Some other →
       act_sent_lines names w v end
-      ≡ signal_lines names v.turns end.node end.port (signal.Reset ∷ [])
+      ≡ signal_lines (head names v.turns end.node) end.port (signal.Reset ∷ [])
   pub others : (end : End) → (BeginsAt a w end.node → ⊥) → act_sent_lines names w v end ≡ []
   pub unplugged : (end : End) → far v.cabling end ≡ None → act_sent_lines names w v end ≡ []
 

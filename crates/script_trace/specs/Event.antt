@@ -15,13 +15,13 @@ use Rattle.script_text.specs.ReportText.{Names, spaced, numbered}
 
 -- ---- lines
 
--- `turn T NAME`
+-- `turn T NAME`: with that the lines of a node begin
 unfoldable pub head : Names → ℕ → NodeNumber → List ℕ
 head names turn node = numbered (codes "turn ") turn ++ spaced names node
 
--- `turn T NAME` and these words
-abbrev pub line_of : Names → ℕ → NodeNumber → List ℕ → List ℕ
-line_of names turn node words = head names turn node ++ (words ++ codes "\n")
+-- a line that begins so, with these words
+abbrev pub line_of : List ℕ → List ℕ → List ℕ
+line_of front words = front ++ (words ++ codes "\n")
 
 -- ---- states
 
@@ -53,35 +53,34 @@ enters before after =
     not (state_number before.phase == state_number after.phase)
     || not (before.resets == after.resets)
 
-abbrev pub state_line : Names → ℕ → NodeNumber → View → View → List ℕ
-state_line names turn node before after =
-    cond (enters before after) (line_of names turn node (state_words after.phase)) []
+abbrev pub state_line : List ℕ → View → View → List ℕ
+state_line front before after = cond (enters before after) (line_of front (state_words after.phase)) []
 
 -- the configuration timed out
-abbrev pub timeout_line : Names → ℕ → NodeNumber → View → View → List ℕ
-timeout_line names turn node before after =
+abbrev pub timeout_line : List ℕ → View → View → List ℕ
+timeout_line front before after =
     cond (not before.timed_out && after.timed_out)
-    (line_of names turn node (codes " configuration timeout")) []
+    (line_of front (codes " configuration timeout")) []
 
 -- ---- roles
 
-abbrev pub parent_line : Names → ℕ → NodeNumber → View → View → List ℕ
-parent_line names turn node before after =
+abbrev pub parent_line : List ℕ → View → View → List ℕ
+parent_line front before after =
     cond (is_none before.parent && is_some after.parent)
-    (line_of names turn node
-    (numbered (codes " port ") (unwrap_or after.parent 0) ++ codes " to its parent")) []
+    (line_of front (numbered (codes " port ") (unwrap_or after.parent 0) ++ codes " to its parent"))
+    []
 
 -- port k came to lead to a child
-abbrev pub child_line : Names → ℕ → NodeNumber → List PortView → PortNumber → PortView → List ℕ
-child_line names turn node before k p =
+abbrev pub child_line : List ℕ → List PortView → PortNumber → PortView → List ℕ
+child_line front before k p =
     cond (p.child && not (port_is (λ q. q.child) before k))
-    (line_of names turn node (numbered (codes " port ") k ++ codes " to a child")) []
+    (line_of front (numbered (codes " port ") k ++ codes " to a child")) []
 
 -- each of the ports from number k on that did
-abbrev pub child_lines : Names → ℕ → NodeNumber → List PortView → PortNumber → List PortView → List ℕ
-child_lines names turn node before k [] = []
-child_lines names turn node before k (p ∷ ports) =
-    child_line names turn node before k p ++ child_lines names turn node before (k + 1) ports
+abbrev pub child_lines : List ℕ → List PortView → PortNumber → List PortView → List ℕ
+child_lines front before k [] = []
+child_lines front before k (p ∷ ports) =
+    child_line front before k p ++ child_lines front before (k + 1) ports
 
 -- ---- coins and IDs
 
@@ -90,16 +89,15 @@ abbrev pub coin_digit : View → List ℕ
 coin_digit v =
     cond (nat_le v.draws 32) (numbered (codes " ") (bit_at v.first_draws (v.draws - 1))) []
 
-abbrev pub coin_line : Names → ℕ → NodeNumber → View → View → List ℕ
-coin_line names turn node before after =
+abbrev pub coin_line : List ℕ → View → View → List ℕ
+coin_line front before after =
     cond (nat_lt before.draws after.draws)
-    (line_of names turn node
-    (codes " coin" ++ (coin_digit after ++ numbered (codes " wait ") after.wait))) []
+    (line_of front (codes " coin" ++ (coin_digit after ++ numbered (codes " wait ") after.wait))) []
 
-abbrev pub id_line : Names → ℕ → NodeNumber → View → View → List ℕ
-id_line names turn node before after =
+abbrev pub id_line : List ℕ → View → View → List ℕ
+id_line front before after =
     cond (is_none before.id && is_some after.id)
-    (line_of names turn node (numbered (codes " phy_ID ") (unwrap_or after.id 0))) []
+    (line_of front (numbered (codes " phy_ID ") (unwrap_or after.id 0))) []
 
 -- ---- signals
 
@@ -114,26 +112,23 @@ signal_words (signal.Packet quad) = codes " packet " ++ hex 8 quad
 signal_words signal.Done = codes " TX_IDENT_DONE"
 
 -- a signal that was sent just now
-abbrev pub sent_line : Names → ℕ → NodeNumber → PortNumber → Travelling → List ℕ
-sent_line names turn node port t =
+abbrev pub sent_line : List ℕ → PortNumber → Travelling → List ℕ
+sent_line front port t =
     cond (t.age == 0)
-    (line_of names turn node
-    (numbered (codes " port ") port ++ (codes " sends" ++ signal_words t.signal))) []
+    (line_of front (numbered (codes " port ") port ++ (codes " sends" ++ signal_words t.signal))) []
 
 -- each of these signals that was, on one port
-abbrev pub sent_lines : Names → ℕ → NodeNumber → PortNumber → List Travelling → List ℕ
-sent_lines names turn node port [] = []
-sent_lines names turn node port (t ∷ ts) =
-    sent_line names turn node port t ++ sent_lines names turn node port ts
+abbrev pub sent_lines : List ℕ → PortNumber → List Travelling → List ℕ
+sent_lines front port [] = []
+sent_lines front port (t ∷ ts) = sent_line front port t ++ sent_lines front port ts
 
 -- the same on the ports from number k on; of what is under way on each wire the first so many
 -- signals were there before
-abbrev pub all_sent_lines : Names → CableWorld → NodeNumber → List ℕ → PortNumber → List PortView → List ℕ
-all_sent_lines names w node there k [] = []
-all_sent_lines names w node there k (p ∷ ports) =
-    sent_lines names w.turns node k
-    (drop (slice_index_or there k 0) (wire_of w (record { node = node; port = k })).signals)
-    ++ all_sent_lines names w node there (k + 1) ports
+abbrev pub all_sent_lines : List ℕ → CableWorld → NodeNumber → List ℕ → PortNumber → List PortView → List ℕ
+all_sent_lines front w node there k [] = []
+all_sent_lines front w node there k (p ∷ ports) =
+    sent_lines front k (drop (slice_index_or there k 0) (wire_of w (record { node = node; port = k })).signals)
+    ++ all_sent_lines front w node there (k + 1) ports
 
 -- ---- a node
 
@@ -142,14 +137,18 @@ pub record Seen : Type 0 where
   pub view : View
   pub there : List ℕ
 
--- A node, which showed this before and now has this view: what state it entered, which roles its
--- ports took, its coin, its ID, and what it sent.
+-- A node, which showed this before and now has this view, in lines that begin so: what state it
+-- entered, which roles its ports took, its coin, its ID, and what it sent.
+abbrev pub lines_at : List ℕ → CableWorld → NodeNumber → Seen → View → List ℕ
+lines_at front w node seen v =
+    state_line front seen.view v
+    ++ (timeout_line front seen.view v
+    ++ (parent_line front seen.view v
+    ++ (child_lines front seen.view.ports 0 v.ports
+    ++ (coin_line front seen.view v
+    ++ (id_line front seen.view v
+    ++ all_sent_lines front w node seen.there 0 v.ports)))))
+
+-- the same in lines that begin with the turn and the name of the node
 abbrev pub node_lines : Names → CableWorld → NodeNumber → Seen → View → List ℕ
-node_lines names w node seen v =
-    state_line names w.turns node seen.view v
-    ++ (timeout_line names w.turns node seen.view v
-    ++ (parent_line names w.turns node seen.view v
-    ++ (child_lines names w.turns node seen.view.ports 0 v.ports
-    ++ (coin_line names w.turns node seen.view v
-    ++ (id_line names w.turns node seen.view v
-    ++ all_sent_lines names w node seen.there 0 v.ports)))))
+node_lines names w node seen v = lines_at (head names w.turns node) w node seen v

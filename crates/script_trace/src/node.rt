@@ -1,38 +1,35 @@
 //! What happens at a node, a line for each thing.
-ghost use Rattle.std.specs.Prelude.{◌≡◌, ◌++◌, ◌<◌, length, OnOk};
+ghost use Rattle.std.specs.Prelude.{◌≡◌, ◌++◌, ◌<◌, codes, length, OnOk};
 ghost use Rattle.std.specs.Option.{option_to_list};
 ghost use Rattle.port_state.specs.Ports.{port_is};
-ghost use Rattle.script_text.specs.ReportText.{numbered};
-ghost use Rattle.script_trace.specs.Event.{head, line_of, state_words, state_number, enters, state_line, timeout_line, parent_line, child_line, child_lines, coin_digit, coin_line, id_line, signal_words, sent_line, sent_lines};
+ghost use Rattle.script_text.specs.ReportText.{numbered, spaced};
+ghost use Rattle.script_trace.specs.Event.{line_of, state_words, state_number, enters, state_line, timeout_line, parent_line, child_line, child_lines, coin_digit, coin_line, id_line, signal_words, sent_line, sent_lines};
 
 use cable_world::Travelling;
-use cabling::End;
 use port_state::{Phase, PortView, PortViews, Signal, View};
 use script_text::{Name, OutOfMemory, put_name, put_numbered};
 use topology_stack::put_hex;
 
-/// Appends `turn T NAME`.
-#[tactic(auto, unfolding(crate::specs::Event::head))]
-fn put_head(out: &mut Vec<u8>, names: &[Name], turn: u32, node: u8) -> Result<(), OutOfMemory>
+/// Makes a text that begins with the name of a node, behind other words.
+pub(crate) fn begin_lines(
+    front: &mut Vec<u8>,
+    words: &[u8],
+    names: &[Name],
+    node: u8,
+) -> Result<(), OutOfMemory>
     requires { node < length names.now }
-    ensures { OnOk result (out.new.items ≡ out.old.items ++ head names.now turn node) }
+    ensures { OnOk result (front.new.items ≡ words.now ++ spaced names.now node) }
 {
-    put_numbered(out, b"turn ", u64::from(turn))?;
-    put_name(out, names, node)
+    front.clear();
+    front.extend_from_slice(words)?;
+    put_name(front, names, node)
 }
 
 /// Appends a line of these words.
-fn put_line(
-    out: &mut Vec<u8>,
-    names: &[Name],
-    turn: u32,
-    node: u8,
-    words: &[u8],
-) -> Result<(), OutOfMemory>
-    requires { node < length names.now }
-    ensures { OnOk result (out.new.items ≡ out.old.items ++ line_of names.now turn node words.now) }
+fn put_line(out: &mut Vec<u8>, front: &[u8], words: &[u8]) -> Result<(), OutOfMemory>
+    ensures { OnOk result (out.new.items ≡ out.old.items ++ line_of front.now words.now) }
 {
-    put_head(out, names, turn, node)?;
+    out.extend_from_slice(front)?;
     out.extend_from_slice(words)?;
     out.push(b'\n')?;
     Ok(())
@@ -41,18 +38,15 @@ fn put_line(
 /// Appends a line of a number between two words.
 fn put_number_line(
     out: &mut Vec<u8>,
-    names: &[Name],
-    turn: u32,
-    node: u8,
+    front: &[u8],
     word: &[u8],
     number: u8,
     words: &[u8],
 ) -> Result<(), OutOfMemory>
-    requires { node < length names.now }
     ensures { OnOk result (out.new.items
-        ≡ out.old.items ++ line_of names.now turn node (numbered word.now number ++ words.now)) }
+        ≡ out.old.items ++ line_of front.now (numbered word.now number ++ words.now)) }
 {
-    put_head(out, names, turn, node)?;
+    out.extend_from_slice(front)?;
     put_numbered(out, word, u64::from(number))?;
     out.extend_from_slice(words)?;
     out.push(b'\n')?;
@@ -101,18 +95,15 @@ fn enters(before: &View, after: &View) -> bool
 /// Appends the line of a state that was entered.
 pub(crate) fn put_state(
     out: &mut Vec<u8>,
-    names: &[Name],
-    turn: u32,
-    node: u8,
+    front: &[u8],
     before: &View,
     after: &View,
 ) -> Result<(), OutOfMemory>
-    requires { node < length names.now }
     ensures { OnOk result (out.new.items
-        ≡ out.old.items ++ state_line names.now turn node before.now after.now) }
+        ≡ out.old.items ++ state_line front.now before.now after.now) }
 {
     if enters(before, after) {
-        put_line(out, names, turn, node, state_words(after.phase))?;
+        put_line(out, front, state_words(after.phase))?;
     }
     Ok(())
 }
@@ -120,18 +111,15 @@ pub(crate) fn put_state(
 /// Appends the line of a configuration timeout.
 pub(crate) fn put_timeout(
     out: &mut Vec<u8>,
-    names: &[Name],
-    turn: u32,
-    node: u8,
+    front: &[u8],
     before: &View,
     after: &View,
 ) -> Result<(), OutOfMemory>
-    requires { node < length names.now }
     ensures { OnOk result (out.new.items
-        ≡ out.old.items ++ timeout_line names.now turn node before.now after.now) }
+        ≡ out.old.items ++ timeout_line front.now before.now after.now) }
 {
     if !before.timed_out && after.timed_out {
-        put_line(out, names, turn, node, b" configuration timeout")?;
+        put_line(out, front, b" configuration timeout")?;
     }
     Ok(())
 }
@@ -139,18 +127,15 @@ pub(crate) fn put_timeout(
 /// Appends the line of a port that came to lead to the parent.
 pub(crate) fn put_parent(
     out: &mut Vec<u8>,
-    names: &[Name],
-    turn: u32,
-    node: u8,
+    front: &[u8],
     before: &View,
     after: &View,
 ) -> Result<(), OutOfMemory>
-    requires { node < length names.now }
     ensures { OnOk result (out.new.items
-        ≡ out.old.items ++ parent_line names.now turn node before.now after.now) }
+        ≡ out.old.items ++ parent_line front.now before.now after.now) }
 {
     if let (None, Some(port)) = (before.parent, after.parent) {
-        put_number_line(out, names, turn, node, b" port ", port, b" to its parent")?;
+        put_number_line(out, front, b" port ", port, b" to its parent")?;
     }
     Ok(())
 }
@@ -166,19 +151,16 @@ fn is_child(ports: &PortViews, port: u8) -> bool
 /// Appends the line of a port that came to lead to a child.
 fn put_child(
     out: &mut Vec<u8>,
-    names: &[Name],
-    turn: u32,
-    node: u8,
+    front: &[u8],
     before: &PortViews,
     port: u8,
     after: PortView,
 ) -> Result<(), OutOfMemory>
-    requires { node < length names.now }
     ensures { OnOk result (out.new.items
-        ≡ out.old.items ++ child_line names.now turn node before.now port after) }
+        ≡ out.old.items ++ child_line front.now before.now port after) }
 {
     if after.child && !is_child(before, port) {
-        put_number_line(out, names, turn, node, b" port ", port, b" to a child")?;
+        put_number_line(out, front, b" port ", port, b" to a child")?;
     }
     Ok(())
 }
@@ -186,18 +168,15 @@ fn put_child(
 /// Appends the lines of the ports that came to lead to a child. A node has 16 ports at most.
 pub(crate) fn put_children(
     out: &mut Vec<u8>,
-    names: &[Name],
-    turn: u32,
-    node: u8,
+    front: &[u8],
     before: &PortViews,
     after: &PortViews,
 ) -> Result<(), OutOfMemory>
-    requires { node < length names.now }
     ensures { OnOk result (out.new.items
-        ≡ out.old.items ++ child_lines names.now turn node before.now 0 after.now) }
+        ≡ out.old.items ++ child_lines front.now before.now 0 after.now) }
 {
     for at in 0..after.len() {
-        put_child(out, names, turn, node, before, at as u8, after.get(at))?;
+        put_child(out, front, before, at as u8, after.get(at))?;
     }
     Ok(())
 }
@@ -217,18 +196,15 @@ fn put_coin_digit(out: &mut Vec<u8>, view: &View) -> Result<(), OutOfMemory>
 /// Appends the line of a coin that was drawn.
 pub(crate) fn put_coin(
     out: &mut Vec<u8>,
-    names: &[Name],
-    turn: u32,
-    node: u8,
+    front: &[u8],
     before: &View,
     after: &View,
 ) -> Result<(), OutOfMemory>
-    requires { node < length names.now }
     ensures { OnOk result (out.new.items
-        ≡ out.old.items ++ coin_line names.now turn node before.now after.now) }
+        ≡ out.old.items ++ coin_line front.now before.now after.now) }
 {
     if before.draws < after.draws {
-        put_head(out, names, turn, node)?;
+        out.extend_from_slice(front)?;
         out.extend_from_slice(b" coin")?;
         put_coin_digit(out, after)?;
         put_numbered(out, b" wait ", u64::from(after.wait))?;
@@ -240,59 +216,54 @@ pub(crate) fn put_coin(
 /// Appends the line of an ID that was taken.
 pub(crate) fn put_id(
     out: &mut Vec<u8>,
-    names: &[Name],
-    turn: u32,
-    node: u8,
+    front: &[u8],
     before: &View,
     after: &View,
 ) -> Result<(), OutOfMemory>
-    requires { node < length names.now }
     ensures { OnOk result (out.new.items
-        ≡ out.old.items ++ id_line names.now turn node before.now after.now) }
+        ≡ out.old.items ++ id_line front.now before.now after.now) }
 {
     if let (None, Some(id)) = (before.id, after.id) {
-        put_head(out, names, turn, node)?;
+        out.extend_from_slice(front)?;
         put_numbered(out, b" phy_ID ", u64::from(id))?;
         out.push(b'\n')?;
     }
     Ok(())
 }
 
-/// Appends the standard's name of a signal.
+/// Appends that a signal is sent, by the standard's name of it.
 fn put_signal(out: &mut Vec<u8>, signal: Signal) -> Result<(), OutOfMemory>
-    ensures { OnOk result (out.new.items ≡ out.old.items ++ signal_words signal) }
+    ensures { OnOk result (out.new.items
+        ≡ out.old.items ++ (codes " sends" ++ signal_words signal)) }
 {
     match signal {
-        Signal::Reset => out.extend_from_slice(b" BUS_RESET"),
-        Signal::Idle => out.extend_from_slice(b" IDLE"),
-        Signal::Parent => out.extend_from_slice(b" TX_PARENT_NOTIFY"),
-        Signal::Child => out.extend_from_slice(b" TX_CHILD_NOTIFY"),
-        Signal::Grant => out.extend_from_slice(b" TX_GRANT"),
+        Signal::Reset => out.extend_from_slice(b" sends BUS_RESET")?,
+        Signal::Idle => out.extend_from_slice(b" sends IDLE")?,
+        Signal::Parent => out.extend_from_slice(b" sends TX_PARENT_NOTIFY")?,
+        Signal::Child => out.extend_from_slice(b" sends TX_CHILD_NOTIFY")?,
+        Signal::Grant => out.extend_from_slice(b" sends TX_GRANT")?,
         Signal::Packet(quad) => {
-            out.extend_from_slice(b" packet ")?;
-            put_hex(out, 8, quad)
+            out.extend_from_slice(b" sends packet ")?;
+            put_hex(out, 8, quad)?
         }
-        Signal::Done => out.extend_from_slice(b" TX_IDENT_DONE"),
+        Signal::Done => out.extend_from_slice(b" sends TX_IDENT_DONE")?,
     }
+    Ok(())
 }
 
 /// Appends the line of a signal, if it was sent just now.
 fn put_sent_one(
     out: &mut Vec<u8>,
-    names: &[Name],
-    turn: u32,
-    node: u8,
+    front: &[u8],
     port: u8,
     travelling: Travelling,
 ) -> Result<(), OutOfMemory>
-    requires { node < length names.now }
     ensures { OnOk result (out.new.items
-        ≡ out.old.items ++ sent_line names.now turn node port travelling) }
+        ≡ out.old.items ++ sent_line front.now port travelling) }
 {
     if travelling.age == 0 {
-        put_head(out, names, turn, node)?;
+        out.extend_from_slice(front)?;
         put_numbered(out, b" port ", u64::from(port))?;
-        out.extend_from_slice(b" sends")?;
         put_signal(out, travelling.signal)?;
         out.push(b'\n')?;
     }
@@ -302,17 +273,15 @@ fn put_sent_one(
 /// Appends the line of a signal, if there is one and it was sent just now.
 pub(crate) fn put_sent_some(
     out: &mut Vec<u8>,
-    names: &[Name],
-    turn: u32,
-    end: End,
+    front: &[u8],
+    port: u8,
     travelling: Option<Travelling>,
 ) -> Result<(), OutOfMemory>
-    requires { end.node < length names.now }
-    ensures { OnOk result (out.new.items ≡ out.old.items
-        ++ sent_lines names.now turn end.node end.port (option_to_list travelling)) }
+    ensures { OnOk result (out.new.items
+        ≡ out.old.items ++ sent_lines front.now port (option_to_list travelling)) }
 {
     match travelling {
         None => Ok(()),
-        Some(travelling) => put_sent_one(out, names, turn, end.node, end.port, travelling),
+        Some(travelling) => put_sent_one(out, front, port, travelling),
     }
 }

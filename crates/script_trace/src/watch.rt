@@ -2,17 +2,17 @@
 ghost use Rattle.std.specs.Prelude.{◌≡◌, ◌<◌, ◌≤◌, ◌++◌, List, Some, true, length, map, slice_get, slice_index_or, drop, IfOk, OnOk};
 ghost use Rattle.port_state.specs.Machine.{PortNode};
 ghost use Rattle.cable_world.specs.World.{wire_of};
-ghost use Rattle.script_trace.specs.Event.{Seen, node_lines, sent_lines, all_sent_lines};
+ghost use Rattle.script_trace.specs.Event.{Seen, lines_at, sent_lines, all_sent_lines};
 ghost use Rattle.script_trace.specs.News.{picked, IsEnough};
 ghost use Rattle.script_trace.specs.Step.{lines_since, seen_before_turn, seen_before_act, counts_from};
 
 use crate::node::{
-    put_children, put_coin, put_id, put_parent, put_sent_some, put_state, put_timeout,
+    begin_lines, put_children, put_coin, put_id, put_parent, put_sent_some, put_state, put_timeout,
 };
 use cable_world::ShowsWires;
 use cabling::End;
 use port_state::{PortViews, View};
-use script_text::{Name, OutOfMemory};
+use script_text::{Name, OutOfMemory, put_numbered};
 use std::alloc::Global;
 use std::marker::Model;
 use world_agenda::NodeMask;
@@ -128,21 +128,20 @@ fn there_at(there: &[usize], port: usize) -> usize
 }
 
 /// Appends a line for each signal that was sent just now on the wire that leaves an end, behind the
-/// first `there`.
+/// first `there`. The lines begin with `front`.
 fn put_sent<W: ShowsWires>(
     out: &mut Vec<u8>,
-    names: &[Name],
+    front: &[u8],
     world: &W,
     end: End,
     there: usize,
 ) -> Result<(), OutOfMemory>
-    requires { end.node < length names.now }
     ensures { OnOk result (out.new.items ≡ out.old.items
-        ++ sent_lines names.now (W.world world.now).turns end.node end.port
+        ++ sent_lines front.now end.port
         (drop there (wire_of (W.world world.now) end).signals)) }
 {
     for at in there..world.count_under_way(end) {
-        put_sent_some(out, names, world.turns(), end, world.under_way(end, at))?;
+        put_sent_some(out, front, end.port, world.under_way(end, at))?;
     }
     Ok(())
 }
@@ -150,70 +149,67 @@ fn put_sent<W: ShowsWires>(
 /// Appends a line for each signal that a node has sent since.
 fn put_all_sent<W: ShowsWires>(
     out: &mut Vec<u8>,
-    names: &[Name],
+    front: &[u8],
     world: &W,
     node: u8,
     there: &[usize],
     ports: &PortViews,
 ) -> Result<(), OutOfMemory>
-    requires { node < length names.now }
     ensures { OnOk result (out.new.items ≡ out.old.items
-        ++ all_sent_lines names.now (W.world world.now) node there.now 0 ports.now) }
+        ++ all_sent_lines front.now (W.world world.now) node there.now 0 ports.now) }
 {
     for port in 0..ports.len() {
         let end = End {
             node,
             port: port as u8,
         };
-        put_sent(out, names, world, end, there_at(there, port))?;
+        put_sent(out, front, world, end, there_at(there, port))?;
     }
     Ok(())
 }
 
-/// Appends what happened at a node since it showed this.
+/// Appends what happened at a node since it showed this, in lines that begin with `front`.
 fn put_node<W: ShowsWires>(
     out: &mut Vec<u8>,
-    names: &[Name],
+    front: &[u8],
     world: &W,
     node: u8,
     seen: &Seen,
     view: &View,
 ) -> Result<(), OutOfMemory>
-    requires there { node < length names.now }
     ensures { OnOk result (out.new.items
-        ≡ out.old.items ++ node_lines names.now (W.world world.now) node seen.now view.now) }
+        ≡ out.old.items ++ lines_at front.now (W.world world.now) node seen.now view.now) }
 {
-    let turn = world.turns();
-    put_state(out, names, turn, node, &seen.view, view)?;
-    put_timeout(out, names, turn, node, &seen.view, view)?;
-    put_parent(out, names, turn, node, &seen.view, view)?;
-    put_children(out, names, turn, node, &seen.view.ports, &view.ports)?;
-    put_coin(out, names, turn, node, &seen.view, view)?;
-    put_id(out, names, turn, node, &seen.view, view)?;
-    put_all_sent(out, names, world, node, &seen.there, &view.ports)
+    put_state(out, front, &seen.view, view)?;
+    put_timeout(out, front, &seen.view, view)?;
+    put_parent(out, front, &seen.view, view)?;
+    put_children(out, front, &seen.view.ports, &view.ports)?;
+    put_coin(out, front, &seen.view, view)?;
+    put_id(out, front, &seen.view, view)?;
+    put_all_sent(out, front, world, node, &seen.there, &view.ports)
 }
 
-/// Appends what happened at a node since it showed what stands at a place, if something does.
+/// Appends what happened at a node since it showed what stands at a place, if something does, in lines that
+/// begin with `front`.
 fn put_seen<W: ShowsWires>(
     out: &mut Vec<u8>,
-    names: &[Name],
+    front: &[u8],
     world: &W,
     node: u8,
     seen: &[Seen],
     at: usize,
 ) -> Result<(), OutOfMemory>
-    requires named { node < length names.now }
-    requires there { node < length (W.world world.now).nodes }
+    requires { node < length (W.world world.now).nodes }
     ensures { OnOk result ((s : Seen) (x : PortNode) → slice_get seen.now at ≡ Some s →
         slice_get (W.world world.now).nodes node ≡ Some x → out.new.items
-        ≡ out.old.items ++ node_lines names.now (W.world world.now) node s x.state.view) }
+        ≡ out.old.items ++ lines_at front.now (W.world world.now) node s x.state.view) }
 {
     let count = seen.len();
     if at >= count {
         return Ok(());
     }
     let view = world.view(node);
-    put_node(out, names, world, node, &seen[at], &view)?;
+    put_node(out, front, world, node, &seen[at], &view)?;
     Ok(())
 }
 
@@ -232,12 +228,16 @@ pub(crate) fn put_since<W: ShowsWires>(
         IsEnough true touched seen.now all (W.world world.now) →
         out.new.items ≡ out.old.items ++ lines_since names.now all (W.world world.now)) }
 {
+    let mut turn = Vec::new(*out.allocator());
+    put_numbered(&mut turn, b"turn ", u64::from(world.turns()))?;
+    let mut front = Vec::new(*out.allocator());
     let mut next = 0;
     for node in 0..names.len() {
         if !touched.has(node as u8) {
             continue;
         }
-        put_seen(out, names, world, node as u8, seen, next)?;
+        begin_lines(&mut front, &turn, names, node as u8)?;
+        put_seen(out, &front, world, node as u8, seen, next)?;
         next += 1;
     }
     Ok(())

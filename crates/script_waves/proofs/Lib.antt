@@ -1,3 +1,4 @@
 pub mod Walked
+mod Digits
 pub mod News
 pub mod OneDump

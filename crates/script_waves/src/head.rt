@@ -1,5 +1,5 @@
 //! What stands before the first change.
-ghost use Rattle.std.specs.Prelude.{◌≡◌, ◌≤◌, ◌<◌, ◌++◌, length, IfOk, OnOk};
+ghost use Rattle.std.specs.Prelude.{◌≡◌, ◌≤◌, ◌<◌, [], ◌∷◌, ◌++◌, length, IfOk, OnOk};
 ghost use Rattle.script_waves.specs.Value.{node_code, port_code};
 ghost use Rattle.script_waves.specs.Head.{all_port_values, all_port_variables, all_scopes, all_values, head, level_variables, node_scope, node_values, node_variables, opening, own_values, picoseconds, port_values, port_variable, port_variables, role_variables, unit, variable};
 
@@ -19,12 +19,12 @@ fn put_variable(
     out: &mut Vec<u8>,
     node: u8,
     kind: &[u8],
-    letter: &[u8],
+    letter: u8,
     name: &[u8],
 ) -> Result<(), OutOfMemory>
     requires { node ≤ 62 }
     ensures { OnOk result (out.new.items
-        ≡ out.old.items ++ variable kind.now (node_code node letter.now) name.now) }
+        ≡ out.old.items ++ variable kind.now (node_code node (letter ∷ [])) name.now) }
 {
     out.extend_from_slice(b"$var ")?;
     out.extend_from_slice(kind)?;
@@ -43,13 +43,13 @@ fn put_port_variable(
     node: u8,
     port: u8,
     kind: &[u8],
-    letter: &[u8],
+    letter: u8,
     word: &[u8],
 ) -> Result<(), OutOfMemory>
     requires node { node ≤ 62 }
     requires port { port ≤ 15 }
     ensures { OnOk result (out.new.items
-        ≡ out.old.items ++ port_variable node port kind.now letter.now word.now) }
+        ≡ out.old.items ++ port_variable node port kind.now (letter ∷ []) word.now) }
 {
     out.extend_from_slice(b"$var ")?;
     out.extend_from_slice(kind)?;
@@ -69,8 +69,8 @@ fn put_role_variables(out: &mut Vec<u8>, node: u8, port: u8) -> Result<(), OutOf
     requires port { port ≤ 15 }
     ensures { OnOk result (out.new.items ≡ out.old.items ++ role_variables node port) }
 {
-    put_port_variable(out, node, port, b"string 1", b"r", b"_role")?;
-    put_port_variable(out, node, port, b"reg 2", b"a", b"_role_code")
+    put_port_variable(out, node, port, b"string 1", b'r', b"_role")?;
+    put_port_variable(out, node, port, b"reg 2", b'a', b"_role_code")
 }
 
 /// Appends the variables of a port's levels.
@@ -80,10 +80,10 @@ fn put_level_variables(out: &mut Vec<u8>, node: u8, port: u8) -> Result<(), OutO
     requires port { port ≤ 15 }
     ensures { OnOk result (out.new.items ≡ out.old.items ++ level_variables node port) }
 {
-    put_port_variable(out, node, port, b"string 1", b"h", b"_shows")?;
-    put_port_variable(out, node, port, b"reg 2", b"b", b"_shows_code")?;
-    put_port_variable(out, node, port, b"string 1", b"s", b"_sends")?;
-    put_port_variable(out, node, port, b"reg 3", b"c", b"_sends_code")
+    put_port_variable(out, node, port, b"string 1", b'h', b"_shows")?;
+    put_port_variable(out, node, port, b"reg 2", b'b', b"_shows_code")?;
+    put_port_variable(out, node, port, b"string 1", b's', b"_sends")?;
+    put_port_variable(out, node, port, b"reg 3", b'c', b"_sends_code")
 }
 
 /// Appends the variables of a port.
@@ -95,9 +95,9 @@ fn put_port_variables(out: &mut Vec<u8>, node: u8, port: u8) -> Result<(), OutOf
 {
     put_role_variables(out, node, port)?;
     put_level_variables(out, node, port)?;
-    put_port_variable(out, node, port, b"event 1", b"g", b"_grant")?;
-    put_port_variable(out, node, port, b"reg 32", b"p", b"_packet")?;
-    put_port_variable(out, node, port, b"event 1", b"d", b"_done")
+    put_port_variable(out, node, port, b"event 1", b'g', b"_grant")?;
+    put_port_variable(out, node, port, b"reg 32", b'p', b"_packet")?;
+    put_port_variable(out, node, port, b"event 1", b'd', b"_done")
 }
 
 /// Appends the first values of a port.
@@ -110,7 +110,7 @@ fn put_port_values(out: &mut Vec<u8>, node: u8, port: u8) -> Result<(), OutOfMem
     put_role_lines(out, node, port, 0)?;
     put_shown_lines(out, node, port, Level::Idle)?;
     put_sent_value(out, node, port, b"s- ", 4)?;
-    put_port_line(out, node, port, b"p", b"bx ")
+    put_port_line(out, node, port, b'p', b"bx ")
 }
 
 /// Appends the variables of so many ports, at most 16.
@@ -142,11 +142,11 @@ fn put_node_variables(out: &mut Vec<u8>, node: u8) -> Result<(), OutOfMemory>
     requires { node ≤ 62 }
     ensures { OnOk result (out.new.items ≡ out.old.items ++ node_variables node) }
 {
-    put_variable(out, node, b"string 1", b"s", b"state")?;
-    put_variable(out, node, b"reg 3", b"c", b"state_code")?;
-    put_variable(out, node, b"reg 6", b"i", b"phy_ID")?;
-    put_variable(out, node, b"reg 1", b"t", b"timeout")?;
-    put_variable(out, node, b"reg 1", b"r", b"root")
+    put_variable(out, node, b"string 1", b's', b"state")?;
+    put_variable(out, node, b"reg 3", b'c', b"state_code")?;
+    put_variable(out, node, b"reg 6", b'i', b"phy_ID")?;
+    put_variable(out, node, b"reg 1", b't', b"timeout")?;
+    put_variable(out, node, b"reg 1", b'r', b"root")
 }
 
 /// Appends the module of a node.
@@ -171,15 +171,14 @@ fn put_scope(
 }
 
 /// Appends the first values of a node's own variables.
-#[tactic(auto, unfolding(crate::specs::Head::own_values))]
 fn put_own_values(out: &mut Vec<u8>, node: u8) -> Result<(), OutOfMemory>
     requires { node ≤ 62 }
     ensures { OnOk result (out.new.items ≡ out.old.items ++ own_values node) }
 {
     put_state_lines(out, node, Phase::ResetStart)?;
-    put_node_line(out, node, b"i", b"bx ")?;
-    put_node_line(out, node, b"t", b"b0 ")?;
-    put_node_line(out, node, b"r", b"b0 ")
+    put_node_line(out, node, b'i', b"bx ")?;
+    put_node_line(out, node, b't', b"b0 ")?;
+    put_node_line(out, node, b'r', b"b0 ")
 }
 
 /// Appends the first values of a node.

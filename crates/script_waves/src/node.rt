@@ -55,8 +55,8 @@ pub(crate) fn put_state_lines(out: &mut Vec<u8>, node: u8, phase: Phase) -> Resu
     requires { node ≤ 62 }
     ensures { OnOk result (out.new.items ≡ out.old.items ++ state_lines node phase) }
 {
-    put_node_line(out, node, b"s", state_value(phase))?;
-    put_node_number(out, node, b"c", 3, u32::from(state_number(phase)))
+    put_node_line(out, node, b's', state_value(phase))?;
+    put_node_number(out, node, b'c', 3, u32::from(state_number(phase)))
 }
 
 /// Appends the state, if it is another.
@@ -90,8 +90,8 @@ pub(crate) fn put_id(
         return Ok(());
     }
     match after.id {
-        None => put_node_line(out, node, b"i", b"bx "),
-        Some(id) => put_node_number(out, node, b"i", 6, u32::from(id)),
+        None => put_node_line(out, node, b'i', b"bx "),
+        Some(id) => put_node_number(out, node, b'i', 6, u32::from(id)),
     }
 }
 
@@ -108,7 +108,7 @@ pub(crate) fn put_timeout(
 {
     let timed_out = flag(after.timed_out);
     if flag(before.timed_out) != timed_out {
-        put_node_number(out, node, b"t", 1, u32::from(timed_out))?;
+        put_node_number(out, node, b't', 1, u32::from(timed_out))?;
     }
     Ok(())
 }
@@ -126,7 +126,7 @@ pub(crate) fn put_root(
 {
     let root = flag(is_root(after));
     if flag(is_root(before)) != root {
-        put_node_number(out, node, b"r", 1, u32::from(root))?;
+        put_node_number(out, node, b'r', 1, u32::from(root))?;
     }
     Ok(())
 }

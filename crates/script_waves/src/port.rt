@@ -99,8 +99,8 @@ pub(crate) fn put_role_lines(
     requires port { port ≤ 15 }
     ensures { OnOk result (out.new.items ≡ out.old.items ++ role_lines node port role) }
 {
-    put_port_line(out, node, port, b"r", role_value(role))?;
-    put_port_number(out, node, port, b"a", 2, u32::from(role))
+    put_port_line(out, node, port, b'r', role_value(role))?;
+    put_port_number(out, node, port, b'a', 2, u32::from(role))
 }
 
 /// Appends a level that is shown, and its number.
@@ -115,8 +115,8 @@ pub(crate) fn put_shown_lines(
     requires port { port ≤ 15 }
     ensures { OnOk result (out.new.items ≡ out.old.items ++ shown_lines node port level) }
 {
-    put_port_line(out, node, port, b"h", level_value(level))?;
-    put_port_number(out, node, port, b"b", 2, u32::from(level_number(level)))
+    put_port_line(out, node, port, b'h', level_value(level))?;
+    put_port_number(out, node, port, b'b', 2, u32::from(level_number(level)))
 }
 
 /// Appends what is sent, and its number, 4 where there is no cable.
@@ -133,8 +133,8 @@ pub(crate) fn put_sent_value(
     ensures { OnOk result (out.new.items
         ≡ out.old.items ++ sent_value node port value.now code) }
 {
-    put_port_line(out, node, port, b"s", value)?;
-    put_port_number(out, node, port, b"c", 3, u32::from(code))
+    put_port_line(out, node, port, b's', value)?;
+    put_port_number(out, node, port, b'c', 3, u32::from(code))
 }
 
 /// Appends the role of a port, if it is another.
@@ -207,9 +207,9 @@ fn put_signal(out: &mut Vec<u8>, node: u8, port: u8, signal: Signal) -> Result<(
         Signal::Idle => put_sent_value(out, node, port, b"sIDLE ", 1),
         Signal::Parent => put_sent_value(out, node, port, b"sTX_PARENT_NOTIFY ", 2),
         Signal::Child => put_sent_value(out, node, port, b"sTX_CHILD_NOTIFY ", 3),
-        Signal::Grant => put_port_line(out, node, port, b"g", b"1"),
-        Signal::Packet(quad) => put_port_number(out, node, port, b"p", 32, quad),
-        Signal::Done => put_port_line(out, node, port, b"d", b"1"),
+        Signal::Grant => put_port_line(out, node, port, b'g', b"1"),
+        Signal::Packet(quad) => put_port_number(out, node, port, b'p', 32, quad),
+        Signal::Done => put_port_line(out, node, port, b'd', b"1"),
     }
 }
 

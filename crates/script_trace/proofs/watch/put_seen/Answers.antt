@@ -4,7 +4,7 @@ use Rattle.port_state.specs.declared.view.View.{View}
 use Rattle.port_state.specs.Machine.{PortNode}
 use Rattle.cable_world.proofs.Lemmas.{some-of, some-same}
 use Rattle.script_trace.specs.Event.{Seen}
-use Rattle.script_trace.specs.Event.{node_lines}
+use Rattle.script_trace.specs.Event.{lines_at}
 use Rattle.script_trace.proofs.watch.put_seen.Goals as goal
 
 pub returns-then-at-count : goal.returns-then-at-count
@@ -19,6 +19,6 @@ returns g c = λ s x here at.
     let read = slice_get_read c.args.seen.now (length c.args.seen.now) c.args.at c.index-seen-at.result refl
     (omega (arith, c.if-at-count.false)) c.index-seen-at.is in
     c.in_ok-put_node.ensures
-    ∙ ap (λ (v : View). out ++ node_lines c.args.names.now w c.args.node c.index-seen-at.result v)
+    ∙ ap (λ (v : View). out ++ lines_at c.args.front.now w c.args.node c.index-seen-at.result v)
     (y.2 ∙ ap (λ (z : PortNode). z.state.view) (some-same y.0 x (sym y.1 ∙ at)))
-    ∙ ap (λ (t : Seen). out ++ node_lines c.args.names.now w c.args.node t x.state.view) (some-same c.index-seen-at.result s (sym read ∙ here))
+    ∙ ap (λ (t : Seen). out ++ lines_at c.args.front.now w c.args.node t x.state.view) (some-same c.index-seen-at.result s (sym read ∙ here))

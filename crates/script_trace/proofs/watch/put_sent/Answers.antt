@@ -6,11 +6,11 @@ use Rattle.script_trace.proofs.watch.put_sent.Goals as goal
 pub loop-at-preserved : goal.loop-at-preserved
 loop-at-preserved g c =
     let w = g.W.WorldRun.world c.args.world.now in
-    lines-more c.args.names.now c.turns.result w.turns c.args.end.node c.args.end.port (wire_of w c.args.end).signals c.loop-at.at c.under_way.result
-    c.loop-at.out.items _ _ c.turns.ensures c.under_way.ensures c.in_ok-put_sent_some.ensures c.loop-at.invariant
+    lines-more c.args.front.now c.args.end.port (wire_of w c.args.end).signals c.loop-at.at c.under_way.result
+    c.loop-at.out.items _ _ c.under_way.ensures c.in_ok-put_sent_some.ensures c.loop-at.invariant
 
 pub returns : goal.returns
 returns g c =
     let w = g.W.WorldRun.world c.args.world.now in
-    no-lines-left c.args.names.now w.turns c.args.end.node c.args.end.port (wire_of w c.args.end).signals c.loop-at.at c.loop-at.out.items _
+    no-lines-left c.args.front.now c.args.end.port (wire_of w c.args.end).signals c.loop-at.at c.loop-at.out.items _
     (omega (arith, c.loop-at-test.false, c.count_under_way-at-end.ensures)) c.loop-at.invariant

@@ -7,5 +7,5 @@ abbrev pub invariant-loop-at : goal.invariant-loop-at
 invariant-loop-at g l =
     let w = g.W.WorldRun.world l.world in
     let signals = (wire_of w l.end).signals in
-    l.out.items ++ sent_lines l.names w.turns l.end.node l.end.port (drop l.at signals)
-    ≡ l.initial.out.items ++ sent_lines l.names w.turns l.end.node l.end.port (drop l.there signals)
+    l.out.items ++ sent_lines l.front l.end.port (drop l.at signals)
+    ≡ l.initial.out.items ++ sent_lines l.front l.end.port (drop l.there signals)

@@ -1,10 +1,11 @@
-use Rattle.std.proofs.Common.{◌∙◌, refl, sym, arith}
+use Rattle.std.proofs.Common.{◌≡◌, ◌++◌, ◌∙◌, codes, ℕ, List, ap, refl, sym, arith}
 use Rattle.std.proofs.lemmas.Bool.{false≢true}
-use Rattle.script_trace.specs.Event.{node_lines}
+use Rattle.script_text.specs.ReportText.{numbered}
+use Rattle.script_trace.specs.Event.{lines_at, node_lines}
 use Rattle.script_trace.specs.Step.{all_lines}
 use Rattle.script_trace.proofs.News.{no-line}
 use Rattle.script_trace.proofs.Picked.{some-there, told-in, told-out}
-use Rattle.script_trace.proofs.Walked.{all-told, none-left}
+use Rattle.script_trace.proofs.Walked.{all-told, front-of, none-left}
 use Rattle.script_trace.proofs.watch.put_since.Goals as goal
 
 pub loop-node-init : goal.loop-node-init
@@ -18,11 +19,18 @@ loop-node-preserved g c =
     let w = g.W.WorldRun.world c.args.world.now in
     let inv = c.loop-node.invariant in
     let x = some-there w.nodes c.loop-node.node (omega (arith, c.loop-node-test.true, c.requires.nodes)) in
+    let said : c.deref.result.now ≡ numbered (codes "turn ") w.turns =
+    rw (c.deref.ensures.value, c.in_ok-put_numbered.ensures, c.new-turn.ensures.items, c.from.ensures, c.turns.ensures) refl in
+    let begun =
+    c.deref-in-loop-node.ensures.value
+    ∙ front-of c.args.names.now w.turns c.loop-node.node c.deref.result.now c.begin_lines.new.front.items said c.in_ok-begin_lines.ensures in
     record {
       place = omega (arith, inv.place);
       told = λ all enough.
           told-in w (node_lines c.args.names.now w) (all_lines c.args.names.now w) (λ k s seen y nodes. refl) c.args.touched c.loop-node.node c.loop-node.next x.0
-          c.args.seen.now all c.loop-node.out.items _ _ enough x.1 (c.has.ensures.0 c.if-not-has.false) c.in_ok-put_seen.ensures (inv.told all enough);
+          c.args.seen.now all c.loop-node.out.items _ _ enough x.1 (c.has.ensures.0 c.if-not-has.false)
+          (λ t y here there. c.in_ok-put_seen.ensures t y here there
+          ∙ ap (λ (l : List ℕ). c.loop-node.out.items ++ lines_at l w c.loop-node.node t y.state.view) begun) (inv.told all enough);
     }
 
 pub loop-node-preserved-then-not-has : goal.loop-node-preserved-then-not-has
