@@ -10,7 +10,7 @@ pub use Rattle.reset_log.proofs.Wrote.{wrote_nothing, wrote_then, front_then, fr
 -- What came and what is written where not all was read.
 pub use Rattle.reset_log.proofs.Answered.{complete_of, exact_of, log_left, still_came}
 pub use Rattle.reset_log.proofs.Fronts.{few_front, on_err, split_at}
--- A line of tokens is a line of JSON, and how deep what a list is told as nests.
-pub use Rattle.reset_log.proofs.Shallow.{json_line_of, told_shallow}
+-- How deep what a list is told as nests.
+pub use Rattle.reset_log.proofs.Shallow.{told_shallow}
 -- That a list is refused is that it is heard as no tree.
 pub use Rattle.reset_log.proofs.Judged.{none_is}

@@ -17,4 +17,5 @@ pub mod Lemmas
 pub mod SomeText
 pub mod Tokens
 pub mod Shallow
+pub mod InJson
 pub mod Ascii

@@ -1,36 +1,22 @@
 -- The values of a log nest a few levels deep, so each of their lines is read back.
-use Rattle.std.proofs.Common.{◌≡◌, ◌+◌, ◌≤◌, ℕ, ◌-◌, Bool, true, false, Option, Some, None, List, [], ◌∷◌, ◌++◌, sym, subst, arith}
+use Rattle.std.proofs.Common.{◌≤◌, ℕ, ◌-◌, Bool, true, false, Option, Some, None, List, [], sym, subst, arith}
 use Rattle.std.specs.Prelude.{if◌then◌else◌, nat_lt, codes}
 use Rattle.self_id.specs.declared.standard.Standard.{Standard}
 use Rattle.topology_stack.specs.Tree.{Tree}
-use Rattle.json.specs.Token.{Token}
-use Rattle.json.specs.Lex.{tokens}
-use Rattle.json.specs.Json.{Json, string, Members, member, max_depth}
-use Rattle.json.specs.Print.{print}
-use Rattle.json.specs.Tree.{json_tokens, depth, members_depth}
+use Rattle.json.specs.Json.{string, Members, member, max_depth}
+use Rattle.json.specs.Tree.{depth, members_depth}
 use Rattle.bus_json.specs.declared.refusal.Counts.{Counts}
 use Rattle.bus_json.specs.Text.{numeral}
-use Rattle.bus_json.specs.Bus.{tree_members}
 use Rattle.bus_json.specs.Refusal.{fault_members, refused_members}
-use Rattle.bus_json.proofs.Lemmas.{reads_back, tree_shallow}
+use Rattle.bus_json.proofs.Lemmas.{tree_shallow}
 use Rattle.reset_log.specs.declared.line.Origin.{Origin}
 use Rattle.reset_log.specs.declared.line.Reset.{Reset}
 use Rattle.reset_log.specs.declared.cards.Known.{Known}
 use Rattle.reset_log.specs.declared.counts.Tally.{Tally}
-use Rattle.reset_log.specs.declared.hear.ListFault.{ListFault}
 use Rattle.reset_log.specs.Device.{device_text}
 use Rattle.reset_log.specs.Noted.{Noted, since, missing, most_of}
 use Rattle.reset_log.specs.Texts.{place, kind, known_counts}
-use Rattle.reset_log.specs.Json.{IsJsonLine, list_fault, IsListTold, told_refused, told_heard, card_value, name_members, known_member, head_members, reset_value, most_members, totals_value}
-
--- what was written as the tokens of a value is a line of it
-pub json_line_of : (v : Json) (out : List Token) (line : List ℕ) → out ≡ json_tokens v → tokens (print out) ≡ out →
-    depth v ≤ max_depth → line ≡ print out ++ 10 ∷ [] → IsJsonLine line
-json_line_of v out line e back shallow is = record {
-  value = v;
-  text_is = subst (λ (ts : List Token). line ≡ print ts ++ 10 ∷ []) e is;
-  read_back = reads_back v (subst (λ (ts : List Token). tokens (print ts) ≡ ts) e back) shallow;
-}
+use Rattle.reset_log.specs.Json.{IsListTold, told_refused, told_heard, card_value, name_members, known_member, head_members, reset_value, most_members, totals_value}
 
 card_shallow : (card : ℕ) → depth (card_value card) ≤ 0
 card_shallow card = go (nat_lt card 4294967296)

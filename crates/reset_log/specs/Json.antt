@@ -2,8 +2,8 @@
 use Rattle.std.specs.Prelude.{◌≡◌, ℕ, ◌-◌, nat_lt, true, if◌then◌else◌, Option, Some, None, List, [], ◌++◌, map, length, codes}
 use Rattle.self_id.specs.declared.standard.Standard.{Standard}
 use Rattle.topology_stack.specs.Tree.{Tree}
-use Rattle.json.specs.Json.{Json, string, boolean, object, Members, no_members, member, document}
-use Rattle.bus_json.specs.Text.{numeral, json_text, json_line}
+use Rattle.json.specs.Json.{Json, string, boolean, object, Members, no_members, member}
+use Rattle.bus_json.specs.Text.{numeral, json_line}
 use Rattle.bus_json.specs.Bus.{with_schema, tree_members}
 use Rattle.bus_json.specs.Refusal.{fault_members, refused_members}
 use Rattle.reset_log.specs.declared.line.Origin.{Origin}
@@ -16,12 +16,6 @@ use Rattle.reset_log.specs.Hear.{IsHeard, IsUnheard}
 use Rattle.reset_log.specs.Device.{device_text}
 use Rattle.reset_log.specs.Noted.{Noted, since, missing, most_of}
 use Rattle.reset_log.specs.Texts.{place, kind, known_counts}
-
--- a line is read as a value by the grammar of JSON (RFC 8259)
-pub record IsJsonLine (line : List ℕ) : Type 0 where
-  pub value : Json
-  pub text_is : line ≡ json_line value
-  pub read_back : document (json_text value) ≡ Some value
 
 -- ---- a list
 

@@ -1,3 +1,4 @@
 pub mod Going
 pub mod Marks
 pub mod Tokens
+pub mod InJson

@@ -1,9 +1,13 @@
 //! Showing a log as it comes.
 ghost use Rattle.std.specs.Prelude.{◌≡◌, ◌≢◌, ◌↔◌, ◌<◌, ◌≤◌, ◌+◌, ◌++◌, ◌∷◌, [], ℕ, Bool, true, List, length, OnOk, OnErr, IfOk, IfErr, IfSome, IfNone, IsErr, IsErrOf};
 ghost use Rattle.std.specs.Io.KnownBytes.{IsAtEnd, Consumes};
+ghost use Rattle.bus_json.specs.Lines.{GathersJsonLines, WritesJsonLines};
 ghost use Rattle.io_edges.specs.Faults.{Rose};
 ghost use Rattle.io_edges.specs.Told.{IfTold, TookOver};
+ghost use Rattle.self_id.specs.declared.standard.Standard.{Standard};
+ghost use Rattle.reset_log.specs.declared.form.LogForm.{LogForm};
 ghost use Rattle.reset_log.specs.codings.Going.{IsNew, Holds, Stands, ShowsLine, ShowsWhole, KeepsBytes, IsOneLine, Begun, BreaksText, Broke, ShowsLines, ShowsAll};
+ghost use Rattle.reset_log.specs.codings.InJson.{IfJson};
 ghost use Rattle.reset_log.specs.Cause.{StoppedWriting};
 ghost use Rattle.reset_log.specs.Log.{parted, lines_of, IsLogShown, AreWritten, AreBegun};
 ghost use Rattle.reset_log.specs.Wrote.{Wrote, WroteFront, WroteFrontOf};
@@ -87,6 +91,7 @@ impl LogReader {
     fn show(&mut self, alloc: Global, out: &mut Vec<u8>) -> Result<(), AllocError>
         ensures ok { OnOk result (ShowsLine self.old self.new out.old.items out.new.items) }
         ensures part { OnErr result (out.new.items ≡ out.old.items) }
+        ensures json { IfJson self.old.form (GathersJsonLines out.old.items out.new.items) }
     {
         let shown = show_line(alloc, self.form, &mut self.notes, self.number, &self.line)?;
         out.extend_from_slice(&shown.text)?;
@@ -114,6 +119,7 @@ impl LogReader {
         ensures ok { OnOk result (ShowsWhole
             self.old self.new line.now out.old.items out.new.items) }
         ensures part { OnErr result (out.new.items ≡ out.old.items) }
+        ensures json { IfJson self.old.form (GathersJsonLines out.old.items out.new.items) }
     {
         let shown = show_line(alloc, self.form, &mut self.notes, self.number, line)?;
         out.extend_from_slice(&shown.text)?;
@@ -140,6 +146,7 @@ impl LogReader {
             Holds self.old done (text ++ out.old.items) →
             Holds self.new (done ++ (bytes.now ++ 10 ∷ [])) (text ++ out.new.items)) }
         ensures part { OnErr result (out.new.items ≡ out.old.items) }
+        ensures json { IfJson self.old.form (GathersJsonLines out.old.items out.new.items) }
         ensures same { OnOk result (self.new.form ≡ self.old.form) }
     {
         if self.is_whole(bytes) {
@@ -162,6 +169,7 @@ impl LogReader {
             length done + length bytes.now ≤ 9223372036854775807 →
             Holds self.old done (text ++ out.old.items) →
             Begun self.old.form (parted (done ++ bytes.now)).lines (text ++ out.new.items) }
+        ensures json { IfJson self.old.form (GathersJsonLines out.old.items out.new.items) }
         ensures same { OnOk result (self.new.form ≡ self.old.form) }
     {
         let mut rest = bytes;
@@ -185,6 +193,8 @@ impl LogReader {
             Stands K.written K.faults K.surely_takes self.old done start sink.old →
             Broke K.written K.faults K.surely_takes
             self.old.form (parted (done ++ bytes.now)).lines start sink.new) }
+        ensures json { OnOk result (IfJson self.old.form
+            (WritesJsonLines (K.written sink.old) (K.written sink.new))) }
         ensures stops { IfErr result (StoppedWriting (K.faults sink.old) (K.faults sink.new)) }
         ensures same { OnOk result (self.new.form ≡ self.old.form) }
         ensures later { K.faults sink.old ≤ K.faults sink.new }
@@ -206,6 +216,8 @@ impl LogReader {
             Stands K.written K.faults K.surely_takes self.old done start sink.old →
             Broke K.written K.faults K.surely_takes
             self.old.form (lines_of done) start sink.new) }
+        ensures json { OnOk result (IfJson self.old.form
+            (WritesJsonLines (K.written sink.old) (K.written sink.new))) }
         ensures stops { IfErr result (StoppedWriting (K.faults sink.old) (K.faults sink.new)) }
         ensures later { K.faults sink.old ≤ K.faults sink.new }
     {
@@ -224,6 +236,8 @@ impl LogReader {
             sink.old sink.new (totals_text form (noted self.now.notes))) }
         ensures part { OnErr result (BreaksText K.written K.faults K.surely_takes
             sink.old sink.new (totals_text form (noted self.now.notes))) }
+        ensures json { OnOk result (IfJson form
+            (WritesJsonLines (K.written sink.old) (K.written sink.new))) }
         ensures stops { IfErr result (StoppedWriting (K.faults sink.old) (K.faults sink.new)) }
         ensures later { K.faults sink.old ≤ K.faults sink.new }
     {
@@ -243,6 +257,8 @@ impl LogReader {
             Stands K.written K.faults K.surely_takes self.old done start sink.old →
             WroteFrontOf K.written K.faults K.surely_takes
             (IsLogShown self.old.form (lines_of done)) start sink.new) }
+        ensures json { OnOk result (IfJson self.old.form
+            (WritesJsonLines (K.written sink.old) (K.written sink.new))) }
         ensures stops { IfErr result (StoppedWriting (K.faults sink.old) (K.faults sink.new)) }
         ensures later { K.faults sink.old ≤ K.faults sink.new }
     {
@@ -273,6 +289,10 @@ pub fn show_log<S: Source, K: Sink>(
     ensures shown { IfOk result (λ bad. IfSome (S.left source.old) (λ log.
         AreWritten form (K.written sink.old) (K.written sink.new) (lines_of log) bad)) }
     ensures end { OnOk result (IsAtEnd (S.left source.new)) }
+
+    // With the form for programs each line that is written is read back as a value.
+    ensures json { (standard : Standard) → form ≡ LogForm.Json standard →
+        OnOk result (WritesJsonLines (K.written sink.old) (K.written sink.new)) }
 
     // When each stop comes, and what was written before a read that failed.
     ensures read_fault { IsErrOf result LogStop.ReadFault →

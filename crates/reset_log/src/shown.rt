@@ -2,6 +2,8 @@
 ghost use Rattle.std.specs.Prelude.{◌≡◌, ◌++◌, IfOk, OnOk, None, is_none, IsTrue, ◌↔◌, true, false, Some, Option, [], codes};
 ghost use Rattle.std.specs.Option.{option_copied};
 ghost use Rattle.topology_stack.specs.Tree.{Tree, walk};
+ghost use Rattle.bus_json.specs.Lines.{AreJsonLines};
+ghost use Rattle.reset_log.specs.codings.InJson.{IfJson};
 ghost use Rattle.reset_log.specs.Noted.{last_of, waiting, taken_by};
 ghost use Rattle.reset_log.specs.Notes.{noted};
 ghost use Rattle.reset_log.specs.Shown.{WasDrawn, WasOther, IsBody, IsTreeShown, IsListShown, IsJudged, unjudged_text, garbled_text, lost_text, told_text, totals_text, IsResetShown, IsPendingShown, IsBegunShown, IsPacketShown, IsLineShown};
@@ -161,8 +163,9 @@ fn show_judged(
     before: Option<&Known>,
     reset: &Reset,
 ) -> Result<ListShown, AllocError>
-    ensures { IfOk result (λ shown. IsJudged form number (option_copied before.entry) reset.now
-        shown.text.items shown.tree) }
+    ensures judged { IfOk result (λ shown. IsJudged form number (option_copied before.entry)
+        reset.now shown.text.items shown.tree) }
+    ensures json { IfOk result (λ shown. IfJson form (AreJsonLines shown.text.items)) }
 {
     match form {
         LogForm::Text(standard) => {
@@ -185,8 +188,9 @@ fn unjudged_text(
     before: Option<&Known>,
     reset: &Reset,
 ) -> Result<Vec<u8>, AllocError>
-    ensures { IfOk result (λ text. text.items
+    ensures text { IfOk result (λ text. text.items
         ≡ unjudged_text form number (option_copied before.entry) reset.now) }
+    ensures json { IfOk result (λ text. IfJson form (AreJsonLines text.items)) }
 {
     match form {
         LogForm::Text(_) => {
@@ -200,7 +204,8 @@ fn unjudged_text(
 
 /// What is shown in a form of a garbled event.
 fn garbled_text(alloc: Global, form: LogForm, number: u64) -> Result<Vec<u8>, AllocError>
-    ensures { IfOk result (λ text. text.items ≡ garbled_text form number) }
+    ensures text { IfOk result (λ text. text.items ≡ garbled_text form number) }
+    ensures json { IfOk result (λ text. IfJson form (AreJsonLines text.items)) }
 {
     match form {
         LogForm::Text(_) => {
@@ -214,7 +219,8 @@ fn garbled_text(alloc: Global, form: LogForm, number: u64) -> Result<Vec<u8>, Al
 
 /// What is shown in a form of events that were lost.
 fn lost_text(alloc: Global, form: LogForm, number: u64) -> Result<Vec<u8>, AllocError>
-    ensures { IfOk result (λ text. text.items ≡ lost_text form number) }
+    ensures text { IfOk result (λ text. text.items ≡ lost_text form number) }
+    ensures json { IfOk result (λ text. IfJson form (AreJsonLines text.items)) }
 {
     match form {
         LogForm::Text(_) => {
@@ -228,7 +234,8 @@ fn lost_text(alloc: Global, form: LogForm, number: u64) -> Result<Vec<u8>, Alloc
 
 /// What is shown in a form of what the kernel says.
 fn told_text(alloc: Global, form: LogForm, number: u64, words: &[u8]) -> Result<Vec<u8>, AllocError>
-    ensures { IfOk result (λ text. text.items ≡ told_text form number words.now) }
+    ensures text { IfOk result (λ text. text.items ≡ told_text form number words.now) }
+    ensures json { IfOk result (λ text. IfJson form (AreJsonLines text.items)) }
 {
     match form {
         LogForm::Text(_) => {
@@ -246,7 +253,8 @@ pub(crate) fn totals_text(
     form: LogForm,
     notes: &Notes,
 ) -> Result<Vec<u8>, AllocError>
-    ensures { IfOk result (λ text. text.items ≡ totals_text form (noted notes.now)) }
+    ensures text { IfOk result (λ text. text.items ≡ totals_text form (noted notes.now)) }
+    ensures json { IfOk result (λ text. IfJson form (AreJsonLines text.items)) }
 {
     match form {
         LogForm::Text(_) => last_line(alloc, notes),
@@ -262,9 +270,10 @@ fn show_reset(
     number: u64,
     reset: &Reset,
 ) -> Result<Shown, AllocError>
-    ensures { IfOk result (λ shown. IsResetShown form number
+    ensures shown { IfOk result (λ shown. IsResetShown form number
         (last_of reset.now.card notes.old.cards.items) (noted notes.old) reset.now
         shown.text.items shown.bad (noted notes.new)) }
+    ensures json { IfOk result (λ shown. IfJson form (AreJsonLines shown.text.items)) }
 {
     let before = last_of(&notes.cards, reset.card);
     if is_repeated(before, reset) {
@@ -286,8 +295,9 @@ fn show_reset(
 
 /// Shows the reset that waited for its packets, if one did.
 fn show_pending(alloc: Global, form: LogForm, notes: &mut Notes) -> Result<Shown, AllocError>
-    ensures { IfOk result (λ shown. IsPendingShown form notes.old.pending
+    ensures shown { IfOk result (λ shown. IsPendingShown form notes.old.pending
         (waiting None (noted notes.old)) shown.text.items shown.bad (noted notes.new)) }
+    ensures json { IfOk result (λ shown. IfJson form (AreJsonLines shown.text.items)) }
 {
     match notes.take() {
         Some(pending) => show_reset(alloc, form, notes, pending.number, &pending.reset),
@@ -306,8 +316,9 @@ fn show_begun(
     number: u64,
     begun: Begun,
 ) -> Result<Shown, AllocError>
-    ensures { IfOk result (λ shown. IsBegunShown form number (noted notes.old) begun
+    ensures shown { IfOk result (λ shown. IsBegunShown form number (noted notes.old) begun
         shown.text.items shown.bad (noted notes.new)) }
+    ensures json { IfOk result (λ shown. IfJson form (AreJsonLines shown.text.items)) }
 {
     let shown = show_pending(alloc, form, notes)?;
     notes.begin(alloc, number, begun);
@@ -322,9 +333,10 @@ fn show_packet(
     card: u64,
     quad: u32,
 ) -> Result<Shown, AllocError>
-    ensures { IfOk result (λ shown. IsPacketShown form
+    ensures shown { IfOk result (λ shown. IsPacketShown form
         (taken_by notes.old.pending card quad) (noted notes.old)
         shown.text.items shown.bad (noted notes.new)) }
+    ensures json { IfOk result (λ shown. IfJson form (AreJsonLines shown.text.items)) }
 {
     if notes.push(card, quad)? {
         return show_pending(alloc, form, notes);
@@ -343,8 +355,9 @@ pub(crate) fn show_line(
     number: u64,
     line: &[u8],
 ) -> Result<Shown, AllocError>
-    ensures { IfOk result (λ shown. IsLineShown form number (noted notes.old) line.now
+    ensures shown { IfOk result (λ shown. IsLineShown form number (noted notes.old) line.now
         shown.text.items shown.bad (noted notes.new)) }
+    ensures json { IfOk result (λ shown. IfJson form (AreJsonLines shown.text.items)) }
 {
     match line_of(alloc, line)? {
         LogLine::Other => Ok(Shown {

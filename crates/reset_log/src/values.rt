@@ -5,10 +5,11 @@ ghost use Rattle.json.specs.Token.{string};
 ghost use Rattle.json.specs.Json.{Members};
 ghost use Rattle.json.specs.Tree.{json_tokens, members_tokens};
 ghost use Rattle.bus_json.specs.Text.{json_line};
+ghost use Rattle.bus_json.specs.Lines.{IsJsonLine, AreJsonLines};
 ghost use Rattle.reset_log.specs.Noted.{since, missing};
 ghost use Rattle.reset_log.specs.Notes.{noted};
 ghost use Rattle.reset_log.specs.codings.Tokens.{name_tokens, known_tokens, head_tokens};
-ghost use Rattle.reset_log.specs.Json.{IsJsonLine, list_fault, IsListTold, card_value, ascii, IsResetTold, unjudged_value, cut_off_value, garbled_value, lost_value, told_value, most_members, totals_value, cut_off_lines, totals_lines};
+ghost use Rattle.reset_log.specs.Json.{list_fault, IsListTold, card_value, ascii, IsResetTold, unjudged_value, cut_off_value, garbled_value, lost_value, told_value, most_members, totals_value, cut_off_lines, totals_lines};
 
 use crate::cards::{Known, missing, since};
 use crate::counts::{Tally, most_of};
@@ -262,7 +263,9 @@ fn cut_off_line(alloc: Global, pending: &Pending) -> Result<Vec<u8>, AllocError>
 
 /// The same where there is one.
 fn cut_off_lines(alloc: Global, pending: Option<&Pending>) -> Result<Vec<u8>, AllocError>
-    ensures { IfOk result (λ text. text.items ≡ cut_off_lines (option_copied pending.entry)) }
+    ensures lines { IfOk result (λ text. text.items
+        ≡ cut_off_lines (option_copied pending.entry)) }
+    ensures json { IfOk result (λ text. AreJsonLines text.items) }
 {
     match pending {
         Some(pending) => cut_off_line(alloc, pending),
@@ -315,7 +318,8 @@ fn totals_line(alloc: Global, notes: &Notes) -> Result<Vec<u8>, AllocError>
 
 /// The last lines of a log.
 pub(crate) fn totals_lines(alloc: Global, notes: &Notes) -> Result<Vec<u8>, AllocError>
-    ensures { IfOk result (λ text. text.items ≡ totals_lines (noted notes.now)) }
+    ensures lines { IfOk result (λ text. text.items ≡ totals_lines (noted notes.now)) }
+    ensures json { IfOk result (λ text. AreJsonLines text.items) }
 {
     let mut text = cut_off_lines(alloc, notes.pending.as_ref())?;
     let line = totals_line(alloc, notes)?;

@@ -9,7 +9,8 @@ use Rattle.reset_log.specs.declared.notes.Pending.{Pending}
 use Rattle.reset_log.specs.Json.{cut_off_value}
 use Rattle.reset_log.specs.codings.Tokens.{name_tokens}
 use Rattle.reset_log.proofs.Tokens.{name_written}
-use Rattle.reset_log.proofs.Shallow.{json_line_of, name_shallow}
+use Rattle.bus_json.proofs.Lemmas.{json_line_of}
+use Rattle.reset_log.proofs.Shallow.{name_shallow}
 use Rattle.reset_log.proofs.values.cut_off_line.Goals as goal
 
 written : (p : Pending) (a b c d : List Token) → a ≡ begin_object ∷ key (codes "schema") ∷ number (decimal 1) ∷ [] →

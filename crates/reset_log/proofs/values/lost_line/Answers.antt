@@ -3,7 +3,7 @@ use Rattle.json.specs.Token.{Token}
 use Rattle.json.specs.Print.{print}
 use Rattle.json.specs.Tree.{json_tokens}
 use Rattle.reset_log.specs.Json.{lost_value}
-use Rattle.reset_log.proofs.Shallow.{json_line_of}
+use Rattle.bus_json.proofs.Lemmas.{json_line_of}
 use Rattle.reset_log.proofs.values.lost_line.Goals as goal
 
 pub returns-clause-line : goal.returns-clause-line

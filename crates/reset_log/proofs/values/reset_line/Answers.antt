@@ -5,7 +5,8 @@ use Rattle.json.specs.Print.{print}
 use Rattle.json.specs.Tree.{json_tokens}
 use Rattle.reset_log.specs.Json.{IsListTold, reset_value}
 use Rattle.reset_log.proofs.Tokens.{head_written}
-use Rattle.reset_log.proofs.Shallow.{json_line_of, reset_shallow}
+use Rattle.bus_json.proofs.Lemmas.{json_line_of}
+use Rattle.reset_log.proofs.Shallow.{reset_shallow}
 use Rattle.reset_log.proofs.values.reset_line.Goals as goal
 
 pub returns-clause-told : goal.returns-clause-told

@@ -2,7 +2,8 @@ use Rattle.std.proofs.Common.{◌≡◌, ◌∙◌, List, [], ◌∷◌, ◌++�
 use Rattle.json.specs.Token.{Token}
 use Rattle.json.specs.Print.{print}
 use Rattle.json.specs.Tree.{json_tokens}
-use Rattle.reset_log.proofs.Shallow.{json_line_of, totals_shallow}
+use Rattle.bus_json.proofs.Lemmas.{json_line_of}
+use Rattle.reset_log.proofs.Shallow.{totals_shallow}
 use Rattle.reset_log.specs.Notes.{noted}
 use Rattle.reset_log.specs.Json.{totals_value}
 use Rattle.reset_log.proofs.values.totals_line.Goals as goal

@@ -7,7 +7,8 @@ use Rattle.std.specs.Option.{option_copied}
 use Rattle.json.specs.Json.{boolean, member, no_members}
 use Rattle.reset_log.specs.Json.{unjudged_value}
 use Rattle.reset_log.proofs.Tokens.{head_written}
-use Rattle.reset_log.proofs.Shallow.{json_line_of, head_shallow}
+use Rattle.bus_json.proofs.Lemmas.{json_line_of}
+use Rattle.reset_log.proofs.Shallow.{head_shallow}
 use Rattle.reset_log.proofs.values.unjudged_line.Goals as goal
 
 pub returns-clause-line : goal.returns-clause-line

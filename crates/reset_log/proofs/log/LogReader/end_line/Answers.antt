@@ -1,6 +1,7 @@
 use Rattle.std.proofs.Common.{◌≡◌, ◌+◌, ◌++◌, ◌∷◌, [], ℕ, List, refl, subst, append_assoc, length-append, arith}
 use Rattle.reset_log.specs.codings.Going.{Holds}
 use Rattle.reset_log.proofs.Standing.{after_bytes, after_line, after_whole}
+use Rattle.reset_log.proofs.InJson.{gathered_none}
 use Rattle.reset_log.proofs.log.LogReader.end_line.Goals as goal
 
 pub returns-clause-ok : goal.returns-clause-ok
@@ -14,3 +15,6 @@ returns-clause-ok c = λ done text one few h.
 pub returns-then-is_whole-clause-ok : goal.returns-then-is_whole-clause-ok
 returns-then-is_whole-clause-ok c = λ done text one few h.
     after_whole c.args.self.now c.show_whole.new.self done c.args.bytes.now text c.args.out.now.items c.show_whole.new.out.items one few (c.is_whole.ensures.few c.if-is_whole.true) (c.is_whole.ensures.kept c.if-is_whole.true) h c.in_ok-show_whole.ensures.ok
+
+pub returns-in_err-keep-clause-json : goal.returns-in_err-keep-clause-json
+returns-in_err-keep-clause-json c = gathered_none c.args.self.now.form c.args.out.now.items _ refl

@@ -1,8 +1,9 @@
-use Rattle.std.proofs.Common.{◌≡◌, ◌∙◌, ◌++◌, ◌∷◌, [], ℕ, List, refl, sym, ap, subst, append_assoc, append-nil}
+use Rattle.std.proofs.Common.{◌∙◌, ◌++◌, ◌∷◌, [], ℕ, List, refl, sym, ap, subst, append_assoc, append-nil}
 use Rattle.reset_log.specs.codings.Going.{Holds}
 use Rattle.reset_log.proofs.Standing.{after_bytes}
 use Rattle.reset_log.proofs.Fronts.{begun_so_far}
 use Rattle.reset_log.proofs.Going.{took_on, few_on, few_left, few_next}
+use Rattle.reset_log.proofs.InJson.{gathered_none, gathered_next}
 use Rattle.reset_log.proofs.log.LogReader.gather.Goals as goal
 
 pub loop-line-init : goal.loop-line-init
@@ -11,6 +12,7 @@ loop-line-init c = (
   refl,
   λ done text few h. subst (λ (l : List ℕ). Holds c.args.self.now l (text ++ c.args.out.now.items)) (sym (append-nil done)) h,
   refl,
+  gathered_none c.args.self.now.form c.args.out.now.items _ refl,
 )
 
 pub loop-line-preserved : goal.loop-line-preserved
@@ -23,6 +25,7 @@ loop-line-preserved c =
           subst (λ (l : List ℕ). Holds c.end_line.new.self l (text ++ c.end_line.new.out.items)) (append_assoc done so.0 (c.in-Some.line.now ++ 10 ∷ []))
           (c.in_ok-end_line.ensures.ok (done ++ so.0) text c.in-Some.ensures.first (few_next done c.args.bytes.now so.0 c.loop-line.rest.now c.in-Some.line.now c.in-Some.behind.now so.1 c.in-Some.ensures.cut few) (so.2 done text few h)),
       c.in_ok-end_line.ensures.same ∙ so.3,
+      gathered_next c.args.self.now.form c.loop-line.self.form c.args.out.now.items c.loop-line.out.items _ so.3 so.4 c.in_ok-end_line.ensures.json,
     )
 
 pub loop-line-smaller : goal.loop-line-smaller
@@ -50,3 +53,14 @@ pub returns-in_err-keep-clause-begun : goal.returns-in_err-keep-clause-begun
 returns-in_err-keep-clause-begun c = λ done text few h.
     let so = c.loop-line.invariant in
     begun_so_far c.args.self.now.form c.loop-line.self done c.args.bytes.now so.0 c.loop-line.rest.now text c.loop-line.out.items (so.2 done text few h) so.1 so.3
+
+pub returns-in_err-end_line-clause-json : goal.returns-in_err-end_line-clause-json
+returns-in_err-end_line-clause-json c =
+    let so = c.loop-line.invariant in
+    gathered_next c.args.self.now.form c.loop-line.self.form c.args.out.now.items c.loop-line.out.items _ so.3 so.4 c.in_err-end_line.ensures.json
+
+pub returns-in_err-keep-clause-json : goal.returns-in_err-keep-clause-json
+returns-in_err-keep-clause-json c = c.loop-line.invariant.4
+
+pub returns-clause-json : goal.returns-clause-json
+returns-clause-json c = c.loop-line.invariant.4

@@ -1,5 +1,7 @@
 use Rattle.std.proofs.Common.{◌≡◌, ◌+◌, ◌≤◌, ℕ, List, ◌++◌, length}
+use Rattle.bus_json.specs.Lines.{GathersJsonLines}
 use Rattle.reset_log.specs.codings.Going.{Holds}
+use Rattle.reset_log.specs.codings.InJson.{IfJson}
 use Rattle.reset_log.proofs.log.LogReader.gather.Given as goal
 
 abbrev pub invariant-loop-line : goal.invariant-loop-line
@@ -8,6 +10,7 @@ invariant-loop-line l =
     × ((done text : List ℕ) → length done + length l.bytes ≤ 9223372036854775807 → Holds l.initial.self done (text ++ l.initial.out.items) →
     Holds l.self (done ++ took) (text ++ l.out.items))
     × (l.self.form ≡ l.initial.self.form)
+    × IfJson l.initial.self.form (GathersJsonLines l.initial.out.items l.out.items)
 
 abbrev pub decreases-loop-line : goal.decreases-loop-line
 decreases-loop-line l = length l.rest

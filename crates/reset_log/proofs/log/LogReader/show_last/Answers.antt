@@ -1,6 +1,7 @@
 use Rattle.std.proofs.Common.{inl, refl}
 use Rattle.reset_log.proofs.Reading.{ended, ended_line, is_none, is_some}
 use Rattle.reset_log.proofs.Fronts.{on_err, broke_last, broke_line}
+use Rattle.reset_log.proofs.InJson.{written_none, written_gathered}
 use Rattle.reset_log.proofs.log.LogReader.show_last.Goals as goal
 
 pub returns-then-is_empty-clause-ok : goal.returns-then-is_empty-clause-ok
@@ -27,3 +28,12 @@ returns-in_err-put-clause-part g c =
     (broke_line c.args.self.now c.show.new.self c.show.new.out.items c.args.sink.now c.put.new.sink
     (rw c.new-out.ensures.items at c.in_ok-show.ensures.ok) (rw c.deref.ensures.value at c.in_err-put.ensures.part))
     (is_some _ _ _ c.is_empty.ensures c.if-is_empty.false c.args.self.now.line.ok.0))
+
+pub returns-then-is_empty-clause-json : goal.returns-then-is_empty-clause-json
+returns-then-is_empty-clause-json g c = written_none c.args.self.now.form (g.K.Sink.written c.args.sink.now)
+
+pub returns-clause-json : goal.returns-clause-json
+returns-clause-json g c =
+    let whole = rw c.deref.ensures.value at c.in_ok-put.ensures.ok in
+    written_gathered c.args.self.now.form _ _ c.new-out.result.items c.show.new.out.items c.new-out.ensures.items
+    c.in_ok-show.ensures.json whole.appended

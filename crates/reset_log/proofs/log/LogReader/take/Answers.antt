@@ -1,6 +1,7 @@
 use Rattle.reset_log.specs.Log.{parted}
 use Rattle.std.specs.Prelude.{◌++◌}
 use Rattle.reset_log.proofs.Fronts.{on_err, broke_front, broke_whole, holds_none, stands_on}
+use Rattle.reset_log.proofs.InJson.{written_gathered}
 use Rattle.reset_log.proofs.log.LogReader.take.Goals as goal
 
 pub returns-clause-ok : goal.returns-clause-ok
@@ -22,3 +23,9 @@ returns-in_err-gathered-clause-part g c =
     let none = holds_none c.args.self.now done st.text c.new-out.result.items c.new-out.ensures.items st.holds in
     broke_whole c.args.self.now.form (parted (done ++ c.args.bytes.now)).lines st.text c.gather-gathered.new.out.items start c.args.sink.now c.put.new.sink st.wrote
     (c.gather-gathered.ensures.begun done st.text few none) (rw c.deref.ensures.value at c.in_ok-put.ensures.ok))
+
+pub returns-clause-json : goal.returns-clause-json
+returns-clause-json g c =
+    let whole = rw c.deref.ensures.value at c.in_ok-put.ensures.ok in
+    written_gathered c.args.self.now.form _ _ c.new-out.result.items c.gather-gathered.new.out.items c.new-out.ensures.items
+    c.in_ok-gathered.ensures.json whole.appended
