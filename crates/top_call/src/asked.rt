@@ -36,6 +36,9 @@ pub trait Asked: Drop {
     // the bytes are answered by this status and this text
     ghost answers: { Self → List ℕ → ℕ → List ℕ → Type 0 };
 
+    // what else is promised of such an answer
+    ghost tells: { Self → List ℕ → ℕ → List ℕ → Type 0 } = { λ _ _ _ _. Unit {0} };
+
     // no bytes are read for it
     ghost is_unread: { Self → Type 0 };
 
@@ -55,7 +58,8 @@ pub trait Asked: Drop {
         requires { is_held self }
         ensures answer { IfOk result (λ answer. (bytes : List ℕ)
             × AreLeft (S.left source.old) bytes
-            × answers self bytes (Self.Answer.status_of answer) (Self.Answer.text_of answer)) }
+            × answers self bytes (Self.Answer.status_of answer) (Self.Answer.text_of answer)
+            × tells self bytes (Self.Answer.status_of answer) (Self.Answer.text_of answer)) }
         ensures end { OnOk result ((¬ is_unread self) → IsAtEnd (S.left source.new)) }
         ensures unread { is_unread self → source.new ≡ source.old }
         ensures unfailing { is_unread self → IsOkUnless result (ReadStop.Memory alloc_error) }

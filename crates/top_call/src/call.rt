@@ -2,7 +2,7 @@
 ghost use Rattle.std.specs.Prelude.{◌≡◌, ◌≢◌, ℕ, ◌≤◌, ◌⊎◌, ◌↔◌, List, [], length, IfSome};
 ghost use Rattle.std.specs.Io.KnownBytes.{Appends, IsAtEnd};
 ghost use Rattle.io_edges.specs.Faults.{Rose};
-ghost use Rattle.io_edges.specs.Told.{AppendsStart, IfTold, TookOver};
+ghost use Rattle.io_edges.specs.Told.{AppendsStart, AreLeft, IfTold, TookOver};
 ghost use Rattle.io_edges.specs.Streams.{IsWritten, KeepsStreams, Writes};
 ghost use Rattle.top_call.specs.Asked.{AnswersAsked, AsksSome, AsksUnread};
 ghost use Rattle.top_call.specs.Asked.{EachHasAnAnswer, NoneHasTwoAnswers};
@@ -25,6 +25,9 @@ fn answer_asked<A: Asked, S: Source, K: Sink>(
     ensures form { result ≢ 2 }
     ensures answer { IsWritten (A.answers asked) result
         (S.left source.old) (K.written sink.old) (K.written sink.new) }
+    ensures tells { (result ≡ 0) ⊎ (result ≡ 1) → (bytes : List ℕ)
+        × AreLeft (S.left source.old) bytes × (text : List ℕ) × A.tells asked bytes result text
+        × Appends (K.written sink.old) (K.written sink.new) text }
     ensures end { (result ≡ 0) ⊎ (result ≡ 1) ⊎ (result ≡ 4) →
         (¬ A.is_unread asked) → IsAtEnd (S.left source.new) }
     ensures read_fault { result ≡ 3 → Rose (S.faults source.old) (S.faults source.new) }
@@ -85,6 +88,11 @@ pub fn answer<A: Asked, S: Source, K: Sink>(
     ensures streams { KeepsStreams S.left S.faults K.written K.faults K.surely_takes
         (AsksUnread (A.asks words.now) A.is_unread) (AnswersAsked (A.asks words.now) A.answers)
         result source.old source.new sink.old sink.new }
+    // What is promised of it beside that it is the answer holds of what is written.
+    ensures tells { (result ≡ 0) ⊎ (result ≡ 1) → (asked : A) → A.asks words.now asked →
+        (bytes : List ℕ) × AreLeft (S.left source.old) bytes
+        × (text : List ℕ) × A.tells asked bytes result text
+        × Appends (K.written sink.old) (K.written sink.new) text }
     ensures no_form { (result ≡ 2) ↔ (¬ AsksSome (A.asks words.now)) }
     ensures unfailing { AsksUnread (A.asks words.now) A.is_unread →
         (result ≢ 1) × (result ≢ 3) × (result ≢ 6) }

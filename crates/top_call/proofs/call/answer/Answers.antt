@@ -1,4 +1,4 @@
-use Rattle.std.proofs.Common.{inl, inr, ◌<◌, [], refl}
+use Rattle.std.proofs.Common.{inl, inr, ◌<◌, [], refl, subst}
 use Rattle.std.proofs.lemmas.List.Elements.{All-nil}
 use Rattle.top_call.proofs.Answering.{of_told, only_one, of_asked, of_unread}
 use Rattle.top_call.proofs.call.answer.Goals as goal
@@ -43,3 +43,11 @@ returns-in-Some-clause-unfailing g c = λ un.
     let Asks = g.A.Asked.asks c.args.words.now in
     let only = only_one Asks c.in-Some.asked c.in-Some.ensures in
     c.answer_asked.ensures.unfailing (of_unread Asks g.A.Asked.is_unread c.in-Some.asked only un)
+
+pub returns-in-Some-clause-tells : goal.returns-in-Some-clause-tells
+returns-in-Some-clause-tells g c = λ which asked asks.
+    let only = only_one (g.A.Asked.asks c.args.words.now) c.in-Some.asked c.in-Some.ensures in
+    let told = c.answer_asked.ensures.tells which in
+    let status = c.answer_asked.result in
+    let tells = subst (λ (a : _). g.A.Asked.tells a told.0 status told.2) (only asked asks) told.3 in
+    (told.0, told.1, told.2, tells, told.4)
