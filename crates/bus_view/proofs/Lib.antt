@@ -10,3 +10,4 @@ pub mod Fitting
 pub mod Printed
 pub mod Captured
 pub mod TheLine
+pub mod ReadBack

@@ -4,6 +4,7 @@ pub mod Explained
 pub mod Json
 pub mod Log
 pub mod Answer
+pub mod ReadBack
 pub mod OneAnswer
 pub mod Summed
 pub mod Captured

@@ -9,6 +9,8 @@ ghost use Rattle.bus_view.specs.Explained.{explanation_in, explanation, line_sai
 ghost use Rattle.script_words.specs.Before.{feed_lines};
 ghost use Rattle.bus_view.specs.codings.Reading.{IsRead};
 ghost use Rattle.capture_reading.specs.Line.{fault_line};
+ghost use Rattle.bus_json.specs.Lines.{IsJsonLine};
+ghost use Rattle.bus_view.specs.ReadBack.{AreReports, ReadsBack};
 
 use crate::form::{CaptureView, ViewForm};
 use crate::help::VIEW_HELP;
@@ -146,8 +148,9 @@ fn view_dot(alloc: Global, standard: Standard, bytes: &[u8]) -> Result<View, Out
 
 /// The same as a line of JSON.
 fn view_json(alloc: Global, standard: Standard, bytes: &[u8]) -> Result<View, OutOfMemory>
-    ensures { IfOk result (λ view.
+    ensures view { IfOk result (λ view.
         IsCaptureView CaptureView.Json standard bytes.now view.status view.text.items) }
+    ensures json { IfOk result (λ view. IsJsonLine view.text.items) }
 {
     match read_capture(alloc, standard, bytes) {
         Ok(tree) => Ok(View {
@@ -322,7 +325,8 @@ fn view_graph(alloc: Global, bytes: &[u8]) -> Result<View, OutOfMemory>
 /// The reports of a script as JSON.
 fn view_reports(alloc: Global, bytes: &[u8]) -> Result<View, OutOfMemory>
     requires { length bytes.now ≤ 1048576 }
-    ensures { IfOk result (λ view. IsReportsView bytes.now view.status view.text.items) }
+    ensures view { IfOk result (λ view. IsReportsView bytes.now view.status view.text.items) }
+    ensures json { IfOk result (λ view. AreReports bytes.now view.status view.text.items) }
 {
     match json_script(alloc, bytes) {
         Ok(text) => Ok(View {
@@ -381,7 +385,8 @@ pub(crate) fn view_of_itself(alloc: Global, about: About) -> Result<View, OutOfM
 fn view_of(alloc: Global, form: ViewForm, bytes: &[u8]) -> Result<View, OutOfMemory>
     requires read { IsRead form }
     requires few { length bytes.now ≤ 1048576 }
-    ensures { IfOk result (λ view. IsView form bytes.now view.status view.text.items) }
+    ensures view { IfOk result (λ view. IsView form bytes.now view.status view.text.items) }
+    ensures tells { IfOk result (λ view. ReadsBack form bytes.now view.status view.text.items) }
 {
     match form {
         ViewForm::Capture(CaptureView::Packets, standard) => view_packets(alloc, standard, bytes),
@@ -409,7 +414,8 @@ pub(crate) fn view_all<S: Source>(
 ) -> Result<View, ReadStop>
     requires { IsRead form }
     ensures answer { IfOk result (λ view. (bytes : List ℕ) × AreLeft (S.left source.old) bytes
-        × IsView form bytes view.status view.text.items) }
+        × IsView form bytes view.status view.text.items
+        × ReadsBack form bytes view.status view.text.items) }
     ensures end { OnOk result (IsAtEnd (S.left source.new)) }
     ensures fault { IsErrOf result ReadStop.ReadFault →
         Rose (S.faults source.old) (S.faults source.new) }

@@ -2,6 +2,7 @@
 //! are answered elsewhere.
 ghost use Rattle.bus_view.specs.Form.{Asks};
 ghost use Rattle.bus_view.specs.Answer.{IsView};
+ghost use Rattle.bus_view.specs.ReadBack.{ReadsBack};
 ghost use Rattle.bus_view.specs.codings.Asked.{few_status, unread_alone, unread_status};
 ghost use Rattle.bus_view.specs.codings.Reading.{IsHeld, IsUnread};
 
@@ -17,6 +18,8 @@ impl Asked for ViewForm {
     ghost asks = { Asks };
 
     ghost answers = { IsView };
+
+    ghost tells = { ReadsBack };
 
     ghost is_unread = { IsUnread };
 

@@ -1,5 +1,8 @@
 //! Logs and dumps, which are written as they come.
 ghost use Rattle.std.specs.Prelude.{◌≡◌, ◌⊎◌};
+ghost use Rattle.self_id.specs.declared.standard.Standard.{Standard};
+ghost use Rattle.bus_json.specs.Lines.{WritesJsonLines};
+ghost use Rattle.reset_log.specs.declared.form.LogForm.{LogForm};
 ghost use Rattle.nosy_dump.specs.Dump.{IsBegun};
 ghost use Rattle.bus_view.specs.Log.{IsLogView, IsDumpView, IsLogBegun, ShowsAsItComes};
 ghost use Rattle.bus_view.specs.codings.Log.{log_status};
@@ -31,9 +34,11 @@ pub(crate) fn show_resets<S: Source, K: Sink>(
     source: &mut S,
     sink: &mut K,
 ) -> u8
-    ensures { ShowsAsItComes S.left S.faults K.written K.faults K.surely_takes
+    ensures shown { ShowsAsItComes S.left S.faults K.written K.faults K.surely_takes
         ((result ≡ 0) ⊎ (result ≡ 1)) (IsLogView form) (IsLogBegun form)
         result source.old source.new sink.old sink.new }
+    ensures json { (standard : Standard) → form ≡ LogForm.Json standard →
+        (result ≡ 0) ⊎ (result ≡ 1) → WritesJsonLines (K.written sink.old) (K.written sink.new) }
 {
     logs_have_one_text();
     status_shown(show_log(alloc, form, source, sink))

@@ -1,5 +1,5 @@
 //! The top call.
-ghost use Rattle.std.specs.Prelude.{◌≡◌, ◌≢◌, ℕ, ◌⊎◌, ◌↔◌, List};
+ghost use Rattle.std.specs.Prelude.{◌≡◌, ◌≢◌, ℕ, ◌⊎◌, ◌↔◌, List, IfSome};
 ghost use Rattle.std.specs.Io.KnownBytes.{Appends};
 ghost use Rattle.script_made.specs.Made.{made_script};
 ghost use Rattle.about.specs.declared.asked.About.{About};
@@ -16,6 +16,9 @@ ghost use Rattle.bus_view.specs.Answer.{Answers, IsViewOfItself};
 ghost use Rattle.bus_view.specs.Log.{IsLogView, IsDumpView, IsLogBegun, ShowsAsItComes};
 ghost use Rattle.bus_view.specs.Captured.{AnswersCapture};
 ghost use Rattle.bus_view.specs.Summed.{IsSummedScript};
+ghost use Rattle.bus_view.specs.ReadBack.{AsksJson};
+ghost use Rattle.bus_json.specs.Lines.{WritesJsonLines};
+ghost use Rattle.script_run.specs.Viewed.{AreReadBack};
 
 use crate::form::ViewForm;
 use crate::laws::{captures_are_of_reports, make_sums_up_the_script, one_view};
@@ -45,6 +48,11 @@ fn view_asked<S: Source, K: Sink>(
         ShowsAsItComes S.left S.faults K.written K.faults K.surely_takes
         (result ≡ 0) (IsDumpView form) (IsBegun form)
         result source.old source.new sink.old sink.new }
+    ensures json_lines { AsksJson words.now → (result ≡ 0) ⊎ (result ≡ 1) →
+        WritesJsonLines (K.written sink.old) (K.written sink.new) }
+    ensures reports { Asks words.now ViewForm.JsonRun → result ≡ 0 →
+        IfSome (S.left source.old) (λ bytes. (text : List ℕ) × AreReadBack bytes text
+        × Appends (K.written sink.old) (K.written sink.new) text) }
     ensures unfailing { AsksNoInput words.now → (result ≢ 1) × (result ≢ 3) × (result ≢ 6) }
     ensures script { (nodes seed : ℕ) → Asks words.now (ViewForm.Script nodes seed) → result ≡ 0 →
         Appends (K.written sink.old) (K.written sink.new) (made_script nodes seed) }
@@ -142,6 +150,14 @@ pub fn view_main<S: Source, K: Sink>(
         ShowsAsItComes S.left S.faults K.written K.faults K.surely_takes
         (result ≡ 0) (IsDumpView form) (IsBegun form)
         result source.old source.new sink.old sink.new }
+
+    // With `json`, `json-run` and `resets --json` it is lines of JSON (RFC 8259), each of which is read
+    // back as a value: those of `json-run` as the values of the script's reports.
+    ensures json_lines { AsksJson words.now → (result ≡ 0) ⊎ (result ≡ 1) →
+        WritesJsonLines (K.written sink.old) (K.written sink.new) }
+    ensures reports { Asks words.now ViewForm.JsonRun → result ≡ 0 →
+        IfSome (S.left source.old) (λ bytes. (text : List ℕ) × AreReadBack bytes text
+        × Appends (K.written sink.old) (K.written sink.new) text) }
 
     // With `script` there is no fault, and what is written at status 0 is the script that is made for
     // the nodes and the seed. What `busconf run` answers to it has no fault, and `busconf make` writes

@@ -5,7 +5,9 @@ use Rattle.reset_log.specs.declared.form.LogForm.{LogForm}
 use Rattle.reset_log.specs.declared.stop.LogStop.{LogStop}
 use Rattle.reset_log.specs.Log.{lines_of, IsLogShown, AreWritten}
 use Rattle.bus_view.specs.Log.{IsLogView, IsLogBegun, ShowsAsItComes}
+use Rattle.bus_json.specs.Lines.{WritesJsonLines}
 use Rattle.bus_view.proofs.Shown.{answered, shows}
+use Rattle.bus_view.proofs.ReadBack.{shown_so}
 use Rattle.bus_view.proofs.logs.show_resets.Goals as goal
 
 written : (form : LogForm) (r : Result Bool LogStop) (left old new : Option (List ℕ)) →
@@ -19,8 +21,8 @@ at_end : (r : Result Bool LogStop) (P : Type 0) → OnOk r P → IfOk r (λ bad.
 at_end (Ok bad) P ok = ok
 at_end (Err stop) P ok = tt
 
-pub returns : goal.returns
-returns g c =
+pub returns-clause-shown : goal.returns-clause-shown
+returns-clause-shown g c =
     let is = c.show_log.ensures in
     let r = c.show_log.result in
     let left = g.S.Source.left in
@@ -45,3 +47,9 @@ returns g c =
       some = λ bytes fit. c.logs_have_one_text.ensures.some c.args.form bytes;
       fit = g.met.S.Source.fit source;
     })
+
+pub returns-clause-json : goal.returns-clause-json
+returns-clause-json g c = λ standard e which.
+    let r = c.show_log.result in
+    let lines = WritesJsonLines (g.K.Sink.written c.args.sink.now) (g.K.Sink.written c.show_log.new.sink) in
+    answered r lines (shown_so r lines (c.show_log.ensures.json standard e)) (rw c.status_shown.ensures at which)

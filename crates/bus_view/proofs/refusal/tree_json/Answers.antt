@@ -1,14 +1,14 @@
 use Rattle.bus_view.specs.Json.{fault_value}
 use Rattle.bus_view.proofs.refusal.tree_json.Goals as goal
 
-pub returns-in-Empty : goal.returns-in-Empty
+pub returns-in-Empty-clause-line : goal.returns-in-Empty-clause-line
 unfolding fault_value
-returns-in-Empty c = rw c.in-Empty.is c.refusal_line.ensures.line
+returns-in-Empty-clause-line c = rw c.in-Empty.is c.refused_line.ensures.line
 
-pub returns-in-TooFewChildren : goal.returns-in-TooFewChildren
+pub returns-in-TooFewChildren-clause-line : goal.returns-in-TooFewChildren-clause-line
 unfolding fault_value
-returns-in-TooFewChildren c = rw c.in-TooFewChildren.is c.refusal_line-in-TooFewChildren.ensures.line
+returns-in-TooFewChildren-clause-line c = rw c.in-TooFewChildren.is c.refused_line-in-TooFewChildren.ensures.line
 
-pub returns-in-TooMany : goal.returns-in-TooMany
+pub returns-in-TooMany-clause-line : goal.returns-in-TooMany-clause-line
 unfolding fault_value
-returns-in-TooMany c = rw c.in-TooMany.is c.refusal_line-in-TooMany.ensures.line
+returns-in-TooMany-clause-line c = rw c.in-TooMany.is c.refused_line-in-TooMany.ensures.line

@@ -1,12 +1,16 @@
 use Rattle.std.proofs.Common.{◌≡◌, ◌⊎◌, inl, inr, [], refl, subst}
 use Rattle.std.specs.Io.KnownBytes.{Appends}
+use Rattle.bus_json.proofs.Lemmas.{one_line}
 use Rattle.reset_log.specs.declared.form.LogForm.{LogForm}
+use Rattle.reset_log.specs.declared.form.LogForm.TheVariants.{Json as Lines}
 use Rattle.nosy_dump.specs.Dump.{IsBegun}
 use Rattle.top_call.proofs.Lemmas.{unread_as, unread_written}
-use Rattle.bus_view.specs.declared.form.ViewForm.TheVariants.{Script, Resets, Nosy, OfItself}
+use Rattle.bus_view.specs.declared.form.ViewForm.TheVariants.{Capture, JsonRun, Script, Resets, Nosy, OfItself}
 use Rattle.bus_view.specs.Log.{IsLogView, IsDumpView, IsLogBegun, ShowsAsItComes}
 use Rattle.bus_view.proofs.Ends.{of_form}
-use Rattle.bus_view.proofs.Forms.{input_apart, is_held, one_resets, one_nosy, no_dump, unread_form, form_unread}
+use Rattle.bus_view.specs.declared.form.CaptureView.TheVariants.{Json}
+use Rattle.bus_view.proofs.ReadBack.{read_reports}
+use Rattle.bus_view.proofs.Forms.{log_apart, input_apart, is_held, one_resets, one_nosy, no_dump, unread_form, form_unread}
 use Rattle.bus_view.proofs.top.view_asked.Goals as goal
 
 pub returns-in-Some-clause-streams : goal.returns-in-Some-clause-streams
@@ -17,7 +21,7 @@ returns-in-Some-clause-streams g c = λ no_log.
 pub returns-in-Some-clause-no_form : goal.returns-in-Some-clause-no_form
 returns-in-Some-clause-no_form g c =
     let asks = (c.in-Some.ensures c.in-Some.form).0 refl in
-    (λ two. absurd (c.show_resets.ensures.is_form two), λ none. absurd (none (Resets c.in-Some.form, asks)))
+    (λ two. absurd (c.show_resets.ensures.shown.is_form two), λ none. absurd (none (Resets c.in-Some.form, asks)))
 
 pub returns-in-Some-clause-resets : goal.returns-in-Some-clause-resets
 returns-in-Some-clause-resets g c = λ form again.
@@ -25,7 +29,7 @@ returns-in-Some-clause-resets g c = λ form again.
     let left = g.S.Source.left in
     let status = c.show_resets.result in
     subst (λ (s : LogForm). ShowsAsItComes left g.S.Source.faults g.K.Sink.written g.K.Sink.faults g.K.Sink.surely_takes ((status ≡ 0) ⊎ (status ≡ 1)) (IsLogView s) (IsLogBegun s) status c.args.source.now c.show_resets.new.source c.args.sink.now c.show_resets.new.sink)
-    (one_resets c.args.words.now c.in-Some.form form asks again) c.show_resets.ensures
+    (one_resets c.args.words.now c.in-Some.form form asks again) c.show_resets.ensures.shown
 
 pub returns-in-Some-clause-nosy : goal.returns-in-Some-clause-nosy
 returns-in-Some-clause-nosy g c = λ form again.
@@ -120,3 +124,45 @@ returns-clause-resets g c = λ form resets. absurd (let e = (c.in_default.ensure
 
 pub returns-clause-nosy : goal.returns-clause-nosy
 returns-clause-nosy g c = λ form nosy. absurd (let e = (c.in_default-dump_form.ensures form).1 nosy in cc)
+
+-- ---- lines of JSON
+
+pub returns-in-Some-clause-json_lines : goal.returns-in-Some-clause-json_lines
+returns-in-Some-clause-json_lines g c = λ json which.
+    let asks = (c.in-Some.ensures c.in-Some.form).0 refl in
+    elim json [
+      | inl bus ↦ absurd (log_apart c.args.words.now (Capture Json bus.0) tt bus.1 (c.in-Some.form, inl asks))
+      | inr (inl run) ↦ absurd (log_apart c.args.words.now JsonRun tt run (c.in-Some.form, inl asks))
+      | inr (inr log) ↦ c.show_resets.ensures.json log.0 (one_resets c.args.words.now c.in-Some.form (Lines log.0) asks log.1) which
+    ]
+
+pub returns-in-Some-clause-reports : goal.returns-in-Some-clause-reports
+returns-in-Some-clause-reports g c = λ run zero.
+    let asks = (c.in-Some.ensures c.in-Some.form).0 refl in
+    absurd (log_apart c.args.words.now JsonRun tt run (c.in-Some.form, inl asks))
+
+pub returns-in-Some-dump_form-clause-json_lines : goal.returns-in-Some-dump_form-clause-json_lines
+returns-in-Some-dump_form-clause-json_lines g c = λ json which.
+    let asks = (c.in-Some-dump_form.ensures c.in-Some-dump_form.form).0 refl in
+    elim json [
+      | inl bus ↦ absurd (log_apart c.args.words.now (Capture Json bus.0) tt bus.1 (c.in-Some-dump_form.form, inr asks))
+      | inr (inl run) ↦ absurd (log_apart c.args.words.now JsonRun tt run (c.in-Some-dump_form.form, inr asks))
+      | inr (inr log) ↦ absurd (no_dump c.args.words.now (Lines log.0) c.in-Some-dump_form.form log.1 asks)
+    ]
+
+pub returns-in-Some-dump_form-clause-reports : goal.returns-in-Some-dump_form-clause-reports
+returns-in-Some-dump_form-clause-reports g c = λ run zero.
+    let asks = (c.in-Some-dump_form.ensures c.in-Some-dump_form.form).0 refl in
+    absurd (log_apart c.args.words.now JsonRun tt run (c.in-Some-dump_form.form, inr asks))
+
+pub returns-clause-json_lines : goal.returns-clause-json_lines
+returns-clause-json_lines g c = λ json which. elim json [
+  | inl bus ↦ let told = c.answer.ensures.tells which (Capture Json bus.0) bus.1 in record { text = told.2; lines = one_line told.2 told.3; wrote = told.4 }
+  | inr (inl run) ↦ let told = c.answer.ensures.tells which JsonRun run in record { text = told.2; lines = told.3.lines; wrote = told.4 }
+  | inr (inr log) ↦ absurd (let e = (c.in_default.ensures (Lines log.0)).1 log.1 in cc)
+]
+
+pub returns-clause-reports : goal.returns-clause-reports
+returns-clause-reports g c = λ run zero.
+    let told = c.answer.ensures.tells (inl zero) JsonRun run in
+    read_reports (g.S.Source.left c.args.source.now) _ _ _ told.0 told.2 told.1 told.3 zero told.4

@@ -1,0 +1,28 @@
+-- What is written for programs: lines of JSON, each of which is read back as a value.
+use Rattle.std.specs.Prelude.{◌≡◌, ◌⊎◌, ℕ, List, String}
+use Rattle.std.specs.Global.{Global}
+use Rattle.self_id.specs.declared.standard.Standard.{Standard}
+use Rattle.bus_json.specs.Lines.{IsJsonLine, AreJsonLines}
+use Rattle.script_run.specs.Viewed.{AreReadBack}
+use Rattle.reset_log.specs.declared.form.LogForm.TheVariants.{Json as Lines}
+use Rattle.bus_view.specs.declared.form.CaptureView.TheVariants.{Json}
+use Rattle.bus_view.specs.declared.form.ViewForm.{ViewForm}
+use Rattle.bus_view.specs.declared.form.ViewForm.TheVariants.{Capture, JsonRun, Resets}
+use Rattle.bus_view.specs.Form.{Asks}
+
+-- the lines of a script's reports, which are read back as the values of the reports, or that of its fault
+pub record AreReports (bytes : List ℕ) (status : ℕ) (text : List ℕ) : Type 0 where
+  pub lines : AreJsonLines text
+  pub reports : status ≡ 0 → AreReadBack bytes text
+
+-- what else is promised of the view of bytes in a form
+abbrev pub ReadsBack : ViewForm → List ℕ → ℕ → List ℕ → Type 0
+ReadsBack (Capture Json standard) bytes status text = IsJsonLine text
+ReadsBack JsonRun bytes status text = AreReports bytes status text
+ReadsBack form bytes status text = Unit {0}
+
+-- the words ask for lines of JSON: those of a capture, of a script's reports, or of a log
+abbrev pub AsksJson : List (String Global) → Type 0
+AsksJson words =
+    ((standard : Standard) × Asks words (Capture Json standard)) ⊎ Asks words JsonRun
+    ⊎ ((standard : Standard) × Asks words (Resets (Lines standard)))
