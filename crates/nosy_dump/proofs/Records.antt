@@ -60,13 +60,6 @@ more_size (a ∷ b ∷ []) ys size e = absurd cc
 more_size (a ∷ b ∷ c ∷ []) ys size e = absurd cc
 more_size (a ∷ b ∷ c ∷ d ∷ xs) ys size e = e
 
-pub few_bytes : (xs : List ℕ) (size : ℕ) → size_of xs ≡ Some size → 4 ≤ length xs
-few_bytes [] size e = absurd cc
-few_bytes (a ∷ []) size e = absurd cc
-few_bytes (a ∷ b ∷ []) size e = absurd cc
-few_bytes (a ∷ b ∷ c ∷ []) size e = absurd cc
-few_bytes (a ∷ b ∷ c ∷ d ∷ xs) size e = omega arith
-
 -- ---- a record that is neither a reset nor a self-ID packet
 
 packets_other : (rs : List (List ℕ)) (r : List ℕ) → record_of r ≡ Other →

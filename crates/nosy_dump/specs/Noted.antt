@@ -1,5 +1,5 @@
 -- What is noted behind the resets of a dump so far: the tree that was heard last, and what is counted.
-use Rattle.std.specs.Prelude.{ℕ, false, is_none, Option, Some, None, List, []}
+use Rattle.std.specs.Prelude.{false, is_none, Option, Some, None, List, []}
 use Rattle.topology_stack.specs.Tree.{Tree}
 use Rattle.reset_log.specs.declared.counts.Counts.{Counts}
 use Rattle.reset_log.specs.declared.counts.Tally.{Tally}

@@ -31,8 +31,8 @@ pub record IsNew (r : DumpReader) : Type 0 where
   pub taken_is : r.taken ≡ 0
   pub bad_is : r.bad ≡ false
 
--- it was given these bytes, this is what is shown of the resets that another one followed, and of the
--- bytes behind the whole records this holds
+-- it was given these bytes, this is what is shown of the resets that another one followed, and
+-- of the bytes behind the whole records this holds
 pub record Knows (Holds : List ℕ → Type 0) (r : DumpReader) (done text : List ℕ) : Type 0 where
   pub records : List (List ℕ)
   pub ended : List DumpReset
@@ -44,7 +44,7 @@ pub record Knows (Holds : List ℕ → Type 0) (r : DumpReader) (done text : Lis
   pub number_is : r.number ≡ length ended + 1
   pub taken_is : r.taken ≡ length done
 
--- the same but for the last record, which began at this byte, and of which it isn't known what it tells
+-- the same, but the last record isn't judged yet: it began at this byte, and tells this
 pub record Awaits (r : DumpReader) (byte : ℕ) (last : Record) (done text : List ℕ) : Type 0 where
   pub records : List (List ℕ)
   pub bytes : List ℕ
@@ -167,8 +167,8 @@ WritesAsJson form old new =
 
 -- ---- a call
 
--- what was read so far, and what was written of it; and the counts of faults of the source and of the
--- sink, before and now
+-- what was read so far, and what was written of it; and the counts of faults of the source and
+-- of the sink, before and now
 pub record Reads {K : Type 0} (written : K → Option (List ℕ)) (faults : K → ℕ)
     (surely_takes : K → ℕ → Type 0) (r : DumpReader) (form : LogForm)
     (first now : Option (List ℕ)) (was is : K) (reads reading : ℕ) : Type 0
