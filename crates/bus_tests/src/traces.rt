@@ -5,7 +5,7 @@ ghost use Rattle.cable_world.specs.Act.{IsAct};
 use crate::nodes::{ONES, USUAL, agenda, world};
 use crate::quiet::can_settle;
 use cable_world::{Act, ShowsWires, WorldRun};
-use cabling::End;
+use cabling::{End, NodeSet};
 use script_lines::{Command, Name};
 use script_run::{Kind, ScriptFault, ScriptStop, trace_script};
 use script_trace::{Legend, Listener, hear_turns, put_command, seen_before_act};
@@ -13,7 +13,7 @@ use settle::{Report, settle};
 use std::alloc::{AllocError, Global};
 use std::process::Abort;
 use std::test::Fail;
-use world_agenda::{NodeMask, TellsStillTurns};
+use world_agenda::TellsStillTurns;
 
 /// One node, which is alone.
 const ALONE: [&str; 7] = [
@@ -183,7 +183,7 @@ fn traced<W: TellsStillTurns>(
         names: names.as_slice(),
         nanoseconds: None,
     };
-    let touched = NodeMask::first(2);
+    let touched = NodeSet::first(2);
     let mut text = Vec::new(alloc);
     let seen = seen_before_act(alloc, &*world, 2, touched)?;
     put_command(&mut text, world.turns(), command)?;

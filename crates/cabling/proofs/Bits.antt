@@ -1,10 +1,10 @@
--- One node put into a set or taken out of it, two sets, and sets of small numbers.
+-- One node put into a set or taken out of it, the first nodes, two sets, and sets of small numbers.
 use Rattle.std.proofs.Common.{◌≡◌, ◌≢◌, ℕ, zero, suc, ◌+◌, ◌-◌, ◌*◌, ◌%◌, ◌^◌, ◌<◌, ◌≤◌, ◌⊎◌, inl, inr, ◌↔◌, arith, sym, ◌∙◌, refl, bit_and, bit_or}
 use Rattle.std.specs.Int.{bit_at, bit_not, w64, trailing_zeros}
 use Rattle.std.proofs.lemmas.Bool.{cases_lt}
 use Rattle.std.proofs.lemmas.Nat.{pow_pos, one_shl, or_disjoint, or_lt, and_comm, and-not, and_le_l, and_le_r}
 use Rattle.std.proofs.Math.Pow.{pow-lt}
-use Rattle.std.proofs.lemmas.Nat.Bits.{bit_at_set_same, bit_at_set_other, bit_at_clear_same, bit_at_clear_other, bit_at-lt, bit_at_above, bit_at-zero, bit_at_or, bit_at_and, bit_at_not, bit_at_ones, and_pow, bit_at-trailing_zeros, same_from_bits}
+use Rattle.std.proofs.lemmas.Nat.Bits.{bit_at_set_same, bit_at_set_other, bit_at_clear_same, bit_at_clear_other, bit_at-lt, bit_at_above, bit_at_ones_above, bit_at-zero, bit_at_or, bit_at_and, bit_at_not, bit_at_ones, and_pow, bit_at-trailing_zeros, same_from_bits}
 use Rattle.cabling.specs.NodeSet.{Holds}
 
 -- a bit is 0 or 1
@@ -86,6 +86,22 @@ removed n k small h has =
     let parted : bit_and (2 ^ 64 - 1 - 2 ^ k) n + bit_and (2 ^ k) n ≡ n = and-not 64 (2 ^ k) n power small in
     let one : bit_and n (2 ^ k) ≡ 2 ^ k = rw (and_pow n k, has) (omega arith) in
     rw (one_shl k 64 h) (omega (arith, parted, one, and_comm n (2 ^ k), and_comm n (2 ^ 64 - 1 - 2 ^ k)))
+
+-- a set without one of its nodes is less
+pub removed-less : (n k : ℕ) → n < 2 ^ 64 → k < 64 → Holds n k →
+    bit_and n (bit_not w64 (1 * 2 ^ k % 2 ^ 64)) < n
+removed-less n k small h has = omega (arith, removed n k small h has, pow_pos k)
+
+-- ---- the first nodes
+
+pub first-nodes : (n k : ℕ) → n < 64 → Holds (1 * 2 ^ n % 2 ^ 64 - 1) k ↔ k < n
+first-nodes n k small = rw (one_shl n 64 small) (
+  λ h. elim (cases_lt k n) [
+    | inl less ↦ less
+    | inr more ↦ let z = bit_at_ones_above n k more in absurd (omega (arith, z, h))
+  ],
+  λ less. bit_at_ones n k less,
+)
 
 -- ---- two sets
 

@@ -1,7 +1,7 @@
 -- What crates above use of the proofs of this one, by what it is about.
 
--- One node put into a set or taken out of it, two sets, and sets of small numbers.
-pub use Rattle.cabling.proofs.Bits.{below, clear_bit, in_both, in_union, inserted-holds, inserted-others, inserted-small, none_of_zero, removed-gone, removed-others, removed-small, small-set, some_node, union-small}
+-- One node put into a set or taken out of it, the first nodes, two sets, and sets of small numbers.
+pub use Rattle.cabling.proofs.Bits.{below, clear_bit, in_both, inserted-holds, inserted-others, inserted-small, none_of_zero, small-set, some_node}
 -- Where no part of a set is looped, a node with at most one cable into the rest can be taken away, and
 -- it needn't be the root.
 pub use Rattle.cabling.proofs.Cascade.{Less, holds_or_not, less_by, less_within, not_gone, two_of, weak_or_all}

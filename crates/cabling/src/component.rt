@@ -13,7 +13,7 @@ impl Cabling {
         ensures members { (other : ℕ) → (Holds result other ↔ IsNeighbour self.now node other) }
         ensures small { result < 2 ^ 63 }
     {
-        let mut found = NodeSet::new();
+        let mut found = NodeSet::none();
         for end in self.ends(node) {
             match end {
                 Some(other) => found.insert(other.node),
@@ -32,8 +32,8 @@ impl Cabling {
         ensures small { result < 2 ^ 63 }
     {
         cables_are_two_ended(self);
-        let mut done = NodeSet::new();
-        let mut waiting = NodeSet::new();
+        let mut done = NodeSet::none();
+        let mut waiting = NodeSet::none();
         waiting.insert(node);
         while let Some(next) = waiting.least() {
             done.insert(next);

@@ -24,10 +24,20 @@ impl Model for NodeSet {
 
 impl NodeSet {
     /// The set of no node.
-    pub(crate) fn new() -> NodeSet
+    pub fn none() -> NodeSet
         ensures { result ≡ 0 }
     {
         NodeSet { bits: 0 }
+    }
+
+    /// The set of the first nodes, so many of them, at most 63.
+    pub fn first(count: u8) -> NodeSet
+        requires { count ≤ 63 }
+        ensures { (k : ℕ) → Holds result k ↔ k < count }
+    {
+        NodeSet {
+            bits: (1 << count) - 1,
+        }
     }
 
     /// Whether the node is in the set.
@@ -71,8 +81,8 @@ impl NodeSet {
         }
     }
 
-    /// Takes a node into the set.
-    pub(crate) fn insert(&mut self, node: u8)
+    /// Takes a node, 0 to 62, into the set.
+    pub fn insert(&mut self, node: u8)
         requires { node < 63 }
         ensures holds { Holds self.new node }
         ensures others { AgreeBut self.old self.new node }
@@ -94,8 +104,25 @@ impl NodeSet {
         self.bits &= !(1 << node);
     }
 
+    /// Takes the lowest node out of the set; `None` where it is empty.
+    pub fn take_least(&mut self) -> Option<u8>
+        ensures held { IfSome result (λ node. Holds self.old node) }
+        ensures gone { IfSome result (λ node. Holds self.new node → ⊥) }
+        ensures others { IfSome result (λ node. AgreeBut self.old self.new node) }
+        ensures fewer { IfSome result (λ node. self.new < self.old) }
+        ensures none { IfNone result (IsEmpty self.old) }
+        ensures same { IfNone result (self.new ≡ self.old) }
+    {
+        if self.bits == 0 {
+            return None;
+        }
+        let node = self.bits.trailing_zeros();
+        self.bits &= !(1 << node);
+        Some(node as u8)
+    }
+
     /// The nodes that are in this set or in the other.
-    pub(crate) fn union(self, other: NodeSet) -> NodeSet
+    pub fn union(self, other: NodeSet) -> NodeSet
         ensures members { (node : ℕ) → (Holds result node ↔ (Holds self node ⊎ Holds other node)) }
         ensures small { result < 2 ^ 63 }
     {

@@ -3,10 +3,10 @@ ghost use Rattle.std.specs.Prelude.{[], false};
 ghost use Rattle.script_bus.specs.Heard.{silence};
 
 use cable_world::ShowsWires;
+use cabling::NodeSet;
 use script_lines::Command;
 use script_trace::{Legend, Listener, Seen};
 use topology_stack::OutOfMemory;
-use world_agenda::NodeMask;
 
 /// Writes nothing, and passes over turns in which nothing happens where the world does.
 #[derive(Clone, Copy, Drop)]
@@ -26,7 +26,7 @@ impl Listener for Silent {
     fn since<W: ShowsWires>(
         &mut self,
         _legend: &Legend,
-        _touched: NodeMask,
+        _touched: NodeSet,
         _seen: &[Seen],
         _world: &W,
     ) -> Result<(), OutOfMemory> {

@@ -20,7 +20,7 @@ ghost use Rattle.script_lines.specs.declared.command.Command.TheVariants as comm
 use crate::bus::{Bus, Reported};
 use crate::managed::Asked;
 use cable_world::{Act, acts_keep};
-use cabling::{Walk, components_exist};
+use cabling::{NodeSet, Walk, components_exist};
 use outcomes::trees_stay;
 use resource_manager::Register;
 use root_plan::{RootPlan, choose, expect};
@@ -31,7 +31,6 @@ use settle::quiet_turns_settle;
 use settle_plan::plans_suit;
 use std::alloc::Global;
 use topology_stack::{BusTree, Name, OutOfMemory, one_tree};
-use world_agenda::NodeMask;
 
 /// A plan and its line.
 #[derive(Drop)]
@@ -151,7 +150,7 @@ impl Bus {
         alloc: Global,
         name: &Name,
         plan: &RootPlan,
-        touched: NodeMask,
+        touched: NodeSet,
         listener: &mut L,
     ) -> Result<Vec<Seen>, OutOfMemory>
         ensures seen { IfOk result (λ seen. IsTrue L.looks → seen.items
@@ -197,7 +196,7 @@ impl Bus {
         ensures passed { IfOk result (λ bus. TurnsPass 0 self.world bus.world) }
     {
         self.is_sound();
-        let touched = NodeMask::first(self.cabling().nodes());
+        let touched = NodeSet::first(self.cabling().nodes());
         let seen = self.tell_packet(alloc, name, plan, touched, listener)?;
         let bus = self.send_packet(node, plan)?;
         bus.tell_after(touched, &seen, listener)?;

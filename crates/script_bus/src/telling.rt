@@ -6,11 +6,11 @@ ghost use Rattle.script_trace.specs.Event.{Seen};
 ghost use Rattle.script_trace.specs.News.{picked, IsEnough};
 
 use crate::bus::Bus;
+use cabling::NodeSet;
 use script_lines::Command;
 use script_trace::{Listener, Seen, see_before_act};
 use std::alloc::Global;
 use topology_stack::OutOfMemory;
-use world_agenda::NodeMask;
 
 impl Bus {
     /// An act comes. Answers what the nodes of a set show before it, where the listener looks at it.
@@ -18,7 +18,7 @@ impl Bus {
         &self,
         alloc: Global,
         command: &Command,
-        touched: NodeMask,
+        touched: NodeSet,
         listener: &mut L,
     ) -> Result<Vec<Seen>, OutOfMemory>
         ensures seen { IfOk result (λ seen. IsTrue L.looks → seen.items
@@ -36,7 +36,7 @@ impl Bus {
     /// An act was done, before which the nodes of a set showed `seen`; the others show nothing new.
     pub(crate) fn tell_after<L: Listener>(
         &self,
-        touched: NodeMask,
+        touched: NodeSet,
         seen: &[Seen],
         listener: &mut L,
     ) -> Result<(), OutOfMemory>

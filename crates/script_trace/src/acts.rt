@@ -5,12 +5,11 @@ ghost use Rattle.cabling.specs.Wiring.{far};
 ghost use Rattle.script_trace.specs.ActTouches.{TakesTouched, TouchesAtMost};
 
 use cable_world::Act;
-use cabling::{Cabling, End};
-use world_agenda::NodeMask;
+use cabling::{Cabling, End, NodeSet};
 use world_laws::acts_by_number;
 
 /// Takes a node into a set, if it is one of 63.
-fn take(nodes: &mut NodeMask, node: u8)
+fn take(nodes: &mut NodeSet, node: u8)
     ensures holds { node < 63 → Holds nodes.new node }
     ensures kept { IsWithin nodes.old nodes.new }
 {
@@ -20,10 +19,10 @@ fn take(nodes: &mut NodeMask, node: u8)
 }
 
 /// The set of two nodes of 63.
-fn pair(a: u8, b: u8) -> NodeMask
+fn pair(a: u8, b: u8) -> NodeSet
     ensures { (k : ℕ) → k < 63 → (k ≡ a) ⊎ (k ≡ b) → Holds result k }
 {
-    let mut nodes = NodeMask::none();
+    let mut nodes = NodeSet::none();
     take(&mut nodes, a);
     take(&mut nodes, b);
     nodes
@@ -42,7 +41,7 @@ fn far_node(cabling: &Cabling, end: End) -> u8
 }
 
 /// The set of the two nodes of the cable at an end, of 63 nodes; of the end's own where there is none.
-fn cable_nodes(cabling: &Cabling, end: End) -> NodeMask
+fn cable_nodes(cabling: &Cabling, end: End) -> NodeSet
     ensures { (k : ℕ) → k < 63 →
         (k ≡ end.node) ⊎ IsSomeAnd (far cabling.now end) (λ b. k ≡ b.node) → Holds result k }
 {
@@ -50,7 +49,7 @@ fn cable_nodes(cabling: &Cabling, end: End) -> NodeMask
 }
 
 /// The nodes at which an act may do something, of 63 at most.
-fn nodes_of(cabling: &Cabling, act: &Act) -> NodeMask
+fn nodes_of(cabling: &Cabling, act: &Act) -> NodeSet
     ensures { TakesTouched act.now cabling.now result }
 {
     let count = cabling.nodes();
@@ -58,13 +57,13 @@ fn nodes_of(cabling: &Cabling, act: &Act) -> NodeMask
         Act::Plug { a, b } => pair(a.node, b.node),
         Act::Pull { end } => cable_nodes(cabling, *end),
         Act::Reset { node } => pair(*node, *node),
-        Act::Config { .. } => NodeMask::first(count),
+        Act::Config { .. } => NodeSet::first(count),
     }
 }
 
 /// The nodes at which something may happen in an act between two turns. It is known of the others that they
 /// show nothing new after it.
-pub fn touched_by(cabling: &Cabling, act: &Act) -> NodeMask
+pub fn touched_by(cabling: &Cabling, act: &Act) -> NodeSet
     ensures { TouchesAtMost act.now cabling.now result }
 {
     acts_by_number();

@@ -8,10 +8,10 @@ ghost use Rattle.script_trace.specs.Voice.{Voice, TellsNewsAlone, TellsNothing};
 use crate::legend::Legend;
 use crate::watch::{Seen, seen_before_act};
 use cable_world::ShowsWires;
+use cabling::NodeSet;
 use script_lines::Command;
 use script_text::OutOfMemory;
 use std::alloc::Global;
-use world_agenda::NodeMask;
 
 /// Hears the acts, the holds and the turns of a bus, and writes down what its voice tells of them, which
 /// may be nothing. The legend has the name of each node by its number, 63 at most. Each call fails for want
@@ -36,7 +36,7 @@ pub trait Listener {
     fn since<W: ShowsWires>(
         &mut self,
         legend: &Legend,
-        touched: NodeMask,
+        touched: NodeSet,
         seen: &[Seen],
         world: &W,
     ) -> Result<(), OutOfMemory>
@@ -63,7 +63,7 @@ pub fn see_before_act<W: ShowsWires, L: Listener>(
     alloc: Global,
     world: &W,
     nodes: usize,
-    touched: NodeMask,
+    touched: NodeSet,
     listener: &L,
 ) -> Result<Vec<Seen>, OutOfMemory>
     requires few { nodes ≤ 63 }

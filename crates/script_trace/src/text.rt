@@ -7,9 +7,9 @@ use crate::legend::Legend;
 use crate::listener::Listener;
 use crate::watch::{Seen, put_since};
 use cable_world::ShowsWires;
+use cabling::NodeSet;
 use script_lines::Command;
 use script_text::OutOfMemory;
-use world_agenda::NodeMask;
 
 /// A text to which the trace is appended.
 impl Listener for Vec<u8> {
@@ -26,7 +26,7 @@ impl Listener for Vec<u8> {
     fn since<W: ShowsWires>(
         &mut self,
         legend: &Legend,
-        touched: NodeMask,
+        touched: NodeSet,
         seen: &[Seen],
         world: &W,
     ) -> Result<(), OutOfMemory> {

@@ -10,12 +10,11 @@ use crate::node::{
     begin_lines, put_children, put_coin, put_id, put_parent, put_sent_some, put_state, put_timeout,
 };
 use cable_world::ShowsWires;
-use cabling::End;
+use cabling::{End, NodeSet};
 use port_state::{PortViews, View};
 use script_text::{Name, OutOfMemory, put_numbered};
 use std::alloc::Global;
 use std::marker::Model;
-use world_agenda::NodeMask;
 
 /// What a node shows, and how many signals are under way on each of its wires.
 #[derive(Drop)]
@@ -53,7 +52,7 @@ pub fn seen_before_turn<W: ShowsWires>(
     alloc: Global,
     world: &W,
     nodes: usize,
-    touched: NodeMask,
+    touched: NodeSet,
 ) -> Result<Vec<Seen>, OutOfMemory>
     requires few { nodes ≤ 63 }
     requires nodes { nodes ≡ length (W.world world.now).nodes }
@@ -98,7 +97,7 @@ pub fn seen_before_act<W: ShowsWires>(
     alloc: Global,
     world: &W,
     nodes: usize,
-    touched: NodeMask,
+    touched: NodeSet,
 ) -> Result<Vec<Seen>, OutOfMemory>
     requires few { nodes ≤ 63 }
     requires nodes { nodes ≡ length (W.world world.now).nodes }
@@ -218,7 +217,7 @@ fn put_seen<W: ShowsWires>(
 pub(crate) fn put_since<W: ShowsWires>(
     out: &mut Vec<u8>,
     names: &[Name],
-    touched: NodeMask,
+    touched: NodeSet,
     seen: &[Seen],
     world: &W,
 ) -> Result<(), OutOfMemory>

@@ -10,14 +10,13 @@ ghost use Rattle.script_waves.specs.Moment.{all_changes, at_time, time_of, waves
 use crate::node::{put_id, put_root, put_state, put_timeout};
 use crate::port::{put_gone, put_role, put_sent_some, put_shown, there_at};
 use cable_world::ShowsWires;
-use cabling::End;
+use cabling::{End, NodeSet};
 use port_state::{PortView, View};
 use script_lines::Command;
 use script_text::{OutOfMemory, put_numbered};
 use script_trace::{Legend, Listener, Seen};
 use std::alloc::Global;
 use std::marker::Model;
-use world_agenda::NodeMask;
 
 /// The changes of a dump so far. In a contract it is their text.
 #[derive(Drop)]
@@ -143,7 +142,7 @@ fn put_seen<W: ShowsWires>(
 fn put_all<W: ShowsWires>(
     out: &mut Vec<u8>,
     nodes: usize,
-    touched: NodeMask,
+    touched: NodeSet,
     seen: &[Seen],
     world: &W,
 ) -> Result<(), OutOfMemory>
@@ -218,7 +217,7 @@ impl Listener for Waves {
     fn since<W: ShowsWires>(
         &mut self,
         legend: &Legend,
-        touched: NodeMask,
+        touched: NodeSet,
         seen: &[Seen],
         world: &W,
     ) -> Result<(), OutOfMemory> {

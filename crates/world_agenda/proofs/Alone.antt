@@ -1,6 +1,6 @@
 -- Nodes that hear nothing in the next turn and aren't due: the turn leaves them alone.
 use Rattle.std.proofs.Common.{◌≡◌, ◌⊎◌, inl, inr, Bool, true, false, ℕ, suc, ◌+◌, ◌<◌, ◌≤◌, ◌++◌, List, [], ◌∷◌, All, Option, Some, None, length, map, get_or, slice_get, slice_index_or, refl, sym, ◌∙◌, ap, subst, arith, if◌then◌else◌}
-use Rattle.std.proofs.lemmas.List.{get_or-map, length-map, get_or_past}
+use Rattle.std.proofs.lemmas.List.{get_or-map, length-map}
 use Rattle.std.proofs.lemmas.Option.{slice_get_within, get_or_from_slice_get}
 use Rattle.cabling.specs.NodeSet.{Holds}
 use Rattle.cabling.specs.declared.cable.End.{End}
@@ -12,14 +12,14 @@ use Rattle.port_state.specs.Sends.{PortSignal}
 use Rattle.port_state.specs.Machine.{PortNode}
 use Rattle.port_state.specs.Idle.{IsIdleTick, IsIdleFor}
 use Rattle.cable_world.specs.declared.wire.Travelling.{Travelling}
-use Rattle.cable_world.specs.Wire.{Wire, age_signal, age_wire, gives, arrives, empty_wire}
+use Rattle.cable_world.specs.Wire.{Wire, age_signal, age_wire, gives, arrives}
 use Rattle.cable_world.specs.World.{CableWorld, wire_of}
 use Rattle.cable_world.specs.Turn.{signals_from, inbox, node_turn}
 use Rattle.cable_world.specs.running.Hearing.{on_one}
 use Rattle.cable_world.specs.Parts.{world_record}
 use Rattle.world_agenda.specs.Clock.{caught_up}
 use Rattle.world_agenda.specs.Agenda.{IdlesBut}
-use Rattle.world_agenda.specs.Heard.{SendsBut, AwaitNoneBut}
+use Rattle.world_agenda.specs.Heard.{AwaitNoneBut}
 use Rattle.world_agenda.specs.Alone.{IsLeftAlone, LeavesAloneBut}
 use Rattle.world_agenda.proofs.Late.{still-idle}
 use Rattle.world_agenda.proofs.Blend.{some-at}

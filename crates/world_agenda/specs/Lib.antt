@@ -3,3 +3,4 @@ pub mod Agenda
 pub mod Live
 pub mod Heard
 pub mod Alone
+pub mod Now

@@ -7,13 +7,12 @@ ghost use Rattle.cable_world.specs.Run.{IsReached};
 ghost use Rattle.cable_world.specs.Parts.{world_record};
 ghost use Rattle.cable_world.specs.Still.{AreSilent};
 ghost use Rattle.cable_world.specs.Turn.{turns_after};
-ghost use Rattle.world_agenda.specs.Clock.{caught_up};
+ghost use Rattle.world_agenda.specs.Now.{now_at};
 ghost use Rattle.world_agenda.specs.Agenda.{Knows};
 ghost use Rattle.world_agenda.specs.Live.{HasLive};
 
 use crate::heard::awaiting;
 use crate::live::{live_silent, pass_live};
-use crate::mask::NodeMask;
 use crate::node::AgendaNode;
 use crate::nodes::{Agenda, act_agenda, due_nodes, turn_agenda};
 use crate::still::TellsStillTurns;
@@ -22,7 +21,7 @@ use cable_world::{
     Act, ActStop, ShowsWires, Travelling, WorldRun, still_turns_pass, worlds_stay_lawful,
     worlds_stay_reached,
 };
-use cabling::{CableFault, Cabling, End, OutOfMemory};
+use cabling::{CableFault, Cabling, End, NodeSet, OutOfMemory};
 use port_state::{PortMachine, Sends, TimeRanges, Timing, View};
 use self_id::Attrs;
 use std::alloc::{AllocError, Global};
@@ -43,12 +42,11 @@ pub struct AgendaWorld<M: PortMachine> {
     // Which nodes are due.
     agenda: Agenda,
     // The nodes on whose wires something may be under way or arrive, or of which one may be held.
-    live: NodeMask,
+    live: NodeSet,
     out: Sends,
     spent: bool,
     ghost reached: { IsFalse spent → ∥ IsReached (world_record delay longest cabling
-        (map (λ n. caught_up turns n.clock (M.record_of n.machine)) nodes.items) wires.items
-        changed.items turns) ∥₁ },
+        (now_at turns nodes.items) wires.items changed.items turns) ∥₁ },
     ghost behind: { IsFalse spent → All (λ n. n.clock ≤ turns) nodes.items },
     ghost idle: { All (λ n. turns ≤ n.clock + n.idle) nodes.items },
     ghost marks: { length changed.items ≡ length nodes.items },
@@ -115,7 +113,7 @@ impl<M: PortMachine + Drop> AgendaWorld<M> {
             delay,
             longest,
             agenda: Agenda::unknown(),
-            live: NodeMask::first(machines.len() as u8),
+            live: NodeSet::first(machines.len() as u8),
             cabling: Cabling::new(alloc, ports)?,
             wires: wire_rows(alloc, ports)?,
             arrivals: arrival_rows(alloc, ports)?,
@@ -156,11 +154,11 @@ impl<M: PortMachine> AgendaWorld<M> {
         requires few { self.old.turns + most ≤ 4000000000 }
         ensures most { result ≤ most }
         ensures done { world_record self.new.delay self.new.longest self.new.cabling
-            (map (λ n. caught_up self.new.turns n.clock (M.record_of n.machine))
-            self.new.nodes.items) self.new.wires.items self.new.changed.items self.new.turns
+            (now_at self.new.turns self.new.nodes.items) self.new.wires.items
+            self.new.changed.items self.new.turns
             ≡ turns_after result (world_record self.old.delay self.old.longest self.old.cabling
-            (map (λ n. caught_up self.old.turns n.clock (M.record_of n.machine))
-            self.old.nodes.items) self.old.wires.items self.old.changed.items self.old.turns) }
+            (now_at self.old.turns self.old.nodes.items) self.old.wires.items
+            self.old.changed.items self.old.turns) }
         ensures nodes { length self.new.nodes.items ≡ length self.old.nodes.items }
         ensures turns { self.new.turns ≡ self.old.turns + result }
         ensures sound { IsFalse self.new.spent }
@@ -180,8 +178,7 @@ impl<M: PortMachine> AgendaWorld<M> {
 
 impl<M: PortMachine> WorldRun for AgendaWorld<M> {
     ghost world = { λ w. world_record w.delay w.longest w.cabling
-        (map (λ n. caught_up w.turns n.clock (M.record_of n.machine)) w.nodes.items) w.wires.items
-        w.changed.items w.turns };
+        (now_at w.turns w.nodes.items) w.wires.items w.changed.items w.turns };
 
     ghost is_spent = { λ w. w.spent };
 
@@ -193,7 +190,7 @@ impl<M: PortMachine> WorldRun for AgendaWorld<M> {
         worlds_stay_reached();
         self.spent = true;
         self.agenda = Agenda::unknown();
-        self.live = NodeMask::first(self.cabling.nodes());
+        self.live = NodeSet::first(self.cabling.nodes());
         let done = act_agenda(
             act,
             &mut self.cabling,
@@ -338,9 +335,9 @@ impl<M: PortMachine> TellsStillTurns for AgendaWorld<M> {
         self.rest(most)
     }
 
-    fn touched(&self) -> NodeMask {
+    fn touched(&self) -> NodeSet {
         if self.spent {
-            return NodeMask::none();
+            return NodeSet::none();
         }
         worlds_stay_lawful();
         let mut agenda = self.agenda;

@@ -5,15 +5,14 @@ ghost use Rattle.world_agenda.specs.Agenda.{AreBelow};
 ghost use Rattle.world_agenda.specs.Live.{GiveNoneBut, RestBut};
 ghost use Rattle.world_agenda.specs.Heard.{IsHeard, StayHeard, GivesBut, AreSparedBut, SendsBut, AwaitNoneBut};
 
-use crate::mask::NodeMask;
 use cable_world::parts::{ArrivalRow, WireRow};
-use cabling::{Cabling, End, cables_are_two_ended};
+use cabling::{Cabling, End, NodeSet, cables_are_two_ended};
 use port_state::PortSet;
 
 /// The nodes that hear something in a turn, and for each node the ports at which it does.
 #[derive(Drop)]
 pub struct Heard {
-    pub nodes: NodeMask,
+    pub nodes: NodeSet,
     ports: [PortSet; 63],
 }
 
@@ -23,7 +22,7 @@ impl Heard {
         ensures { result.nodes ≡ 0 }
     {
         Heard {
-            nodes: NodeMask::none(),
+            nodes: NodeSet::none(),
             ports: [PortSet::none(); 63],
         }
     }
@@ -75,7 +74,7 @@ fn mark_from(cabling: &Cabling, node: u8, row: &ArrivalRow, heard: &mut Heard)
 
 /// Marks in `heard`, where nothing is marked yet, which nodes hear something, and at which ports. From
 /// the wires of the nodes that aren't in `live` nothing arrives.
-pub fn hearers(cabling: &Cabling, arrivals: &[ArrivalRow], live: NodeMask, heard: &mut Heard)
+pub fn hearers(cabling: &Cabling, arrivals: &[ArrivalRow], live: NodeSet, heard: &mut Heard)
     requires unmarked { heard.old.nodes ≡ 0 }
     requires nodes { length arrivals.now ≡ length cabling.now }
     requires near { AreBelow live (length arrivals.now) }
@@ -94,7 +93,7 @@ pub fn hearers(cabling: &Cabling, arrivals: &[ArrivalRow], live: NodeMask, heard
 
 /// Takes the node at the far end of a wire, if there is one, into a set where so many signals are under
 /// way on the wire.
-fn mark_far(far: Option<End>, count: usize, nodes: &mut NodeMask)
+fn mark_far(far: Option<End>, count: usize, nodes: &mut NodeSet)
     requires { IfSome far (λ end. end.node < 63) }
     ensures holds { 0 < count → IfSome far (λ end. Holds nodes.new end.node) }
     ensures kept { IsWithin nodes.old nodes.new }
@@ -107,7 +106,7 @@ fn mark_far(far: Option<End>, count: usize, nodes: &mut NodeMask)
 }
 
 /// Takes the nodes to which something is under way on the wires of a node into a set. The node exists.
-fn mark_awaiting(cabling: &Cabling, node: u8, row: &WireRow, nodes: &mut NodeMask)
+fn mark_awaiting(cabling: &Cabling, node: u8, row: &WireRow, nodes: &mut NodeSet)
     requires exists { node < length cabling.now }
     ensures sends { SendsBut nodes.new cabling.now node row.now }
     ensures kept { IsWithin nodes.old nodes.new }
@@ -119,13 +118,13 @@ fn mark_awaiting(cabling: &Cabling, node: u8, row: &WireRow, nodes: &mut NodeMas
 }
 
 /// The nodes to which something is under way. The wires of the nodes that aren't in `live` are at rest.
-pub fn awaiting(cabling: &Cabling, wires: &[WireRow], live: NodeMask) -> NodeMask
+pub fn awaiting(cabling: &Cabling, wires: &[WireRow], live: NodeSet) -> NodeSet
     requires nodes { length wires.now ≡ length cabling.now }
     requires near { AreBelow live (length wires.now) }
     requires rest { RestBut live wires.now }
     ensures { AwaitNoneBut result wires.now cabling.now }
 {
-    let mut nodes = NodeMask::none();
+    let mut nodes = NodeSet::none();
     let mut left = live;
     while let Some(node) = left.take_least() {
         mark_awaiting(cabling, node, &wires[node as usize], &mut nodes);

@@ -5,12 +5,10 @@
 mod agenda;
 mod heard;
 mod live;
-mod mask;
 mod node;
 mod nodes;
 mod still;
 
 pub use agenda::AgendaWorld;
 pub use cabling::OutOfMemory;
-pub use mask::NodeMask;
 pub use still::TellsStillTurns;

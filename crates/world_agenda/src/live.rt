@@ -8,12 +8,11 @@ ghost use Rattle.cable_world.specs.running.Rest.{AreAtRest, AreNone};
 ghost use Rattle.world_agenda.specs.Agenda.{AreBelow};
 ghost use Rattle.world_agenda.specs.Live.{RestBut, HasLive};
 
-use crate::mask::NodeMask;
 use cable_world::parts::{ArrivalRow, WireRow};
-use cabling::OutOfMemory;
+use cabling::{NodeSet, OutOfMemory};
 
 /// Takes a node into the live ones, unless its wires are at rest and nothing arrives from them.
-pub fn note_live(row: &WireRow, arrivals: &ArrivalRow, node: u8, live: &mut NodeMask)
+pub fn note_live(row: &WireRow, arrivals: &ArrivalRow, node: u8, live: &mut NodeSet)
     requires { node < 63 }
     ensures rest { (Holds live.new node → ⊥) → AreAtRest row.now }
     ensures none { (Holds live.new node → ⊥) → AreNone arrivals.now }
@@ -32,7 +31,7 @@ pub fn turn_live(
     wires: &mut [WireRow],
     delay: u8,
     arrivals: &mut [ArrivalRow],
-    live: &mut NodeMask,
+    live: &mut NodeSet,
 ) -> Result<(), OutOfMemory>
     requires few { length wires.old ≤ 63 }
     requires young { All (λ row. All AreYoung row) wires.old }
@@ -43,7 +42,7 @@ pub fn turn_live(
     ensures live { OnOk result (HasLive live.new wires.new arrivals.new) }
 {
     let mut left = *live;
-    let mut still = NodeMask::none();
+    let mut still = NodeSet::none();
     while let Some(node) = left.take_least() {
         let at = node as usize;
         wires[at].turn(delay, &mut arrivals[at])?;
@@ -54,7 +53,7 @@ pub fn turn_live(
 }
 
 /// Whether no signal is under way. The wires of the nodes that aren't in `live` are at rest.
-pub fn live_silent(wires: &[WireRow], live: NodeMask) -> bool
+pub fn live_silent(wires: &[WireRow], live: NodeSet) -> bool
     requires near { AreBelow live (length wires.now) }
     requires rest { RestBut live wires.now }
     ensures { IsTrue result → AreSilent wires.now }
@@ -70,7 +69,7 @@ pub fn live_silent(wires: &[WireRow], live: NodeMask) -> bool
 
 /// So many turns of the wires pass, on which nothing is under way. The wires of the nodes that aren't
 /// in `live` are at rest.
-pub fn pass_live(wires: &mut [WireRow], turns: u32, live: NodeMask)
+pub fn pass_live(wires: &mut [WireRow], turns: u32, live: NodeSet)
     requires near { AreBelow live (length wires.old) }
     requires rest { RestBut live wires.old }
     ensures { wires.new ≡ map (map (hold_less turns)) wires.old }

@@ -14,17 +14,17 @@ ghost use Rattle.cable_world.specs.running.NodeActs.{AreLawful};
 ghost use Rattle.cable_world.specs.running.Steps.{turns_of, HasItsPorts};
 ghost use Rattle.cabling.specs.NodeSet.{Holds, IsEmpty, AgreeBut, IsWithin};
 ghost use Rattle.world_agenda.specs.Clock.{caught_up};
+ghost use Rattle.world_agenda.specs.Now.{now_at};
 ghost use Rattle.world_agenda.specs.Agenda.{AreBelow, IdlesBut, Knows};
 ghost use Rattle.world_agenda.specs.Heard.{AreSparedBut};
 ghost use Rattle.world_agenda.specs.Live.{HasLive};
 
 use crate::heard::{Heard, hearers};
 use crate::live::{note_live, turn_live};
-use crate::mask::NodeMask;
 use crate::node::AgendaNode;
 use cable_world::parts::{ArrivalRow, WireRow, act_world, turn_one};
 use cable_world::{Act, ActStop};
-use cabling::{Cabling, OutOfMemory};
+use cabling::{Cabling, NodeSet, OutOfMemory};
 use port_state::{PortMachine, PortSet, Sends};
 
 // ---- between turns
@@ -32,8 +32,7 @@ use port_state::{PortMachine, PortSet, Sends};
 /// Every machine comes to the end of turn number `turns`.
 fn catch_up<M: PortMachine>(nodes: &mut [AgendaNode<M>], turns: u32)
     requires { All (λ n. turns ≤ n.clock + n.idle) nodes.old }
-    ensures { map (λ n. M.record_of n.machine) nodes.new
-        ≡ map (λ n. caught_up turns n.clock (M.record_of n.machine)) nodes.old }
+    ensures { map (λ n. M.record_of n.machine) nodes.new ≡ now_at turns nodes.old }
 {
     for at in 0..nodes.len() {
         nodes[at].catch_up(turns);
@@ -63,33 +62,22 @@ pub fn act_agenda<M: PortMachine>(
 ) -> Result<(), ActStop>
     requires is { IsAct act.now }
     requires idle { All (λ n. turns ≤ n.clock + n.idle) nodes.old }
-    requires lawful { AreLawful cabling.old
-        (map (λ n. caught_up turns n.clock (M.record_of n.machine)) nodes.old) wires.old changed.old
-        turns }
+    requires lawful { AreLawful cabling.old (now_at turns nodes.old) wires.old changed.old turns }
     ensures done { OnOk result ((d : ℕ) (t : Timing) → ActLeads act.now
-        (world_record d t cabling.old
-        (map (λ n. caught_up turns n.clock (M.record_of n.machine)) nodes.old) wires.old changed.old
-        turns)
-        (world_record d t cabling.new
-        (map (λ n. caught_up turns n.clock (M.record_of n.machine)) nodes.new) wires.new changed.new
-        turns)) }
+        (world_record d t cabling.old (now_at turns nodes.old) wires.old changed.old turns)
+        (world_record d t cabling.new (now_at turns nodes.new) wires.new changed.new turns)) }
     ensures accepted { OnOk result ((d : ℕ) (t : Timing) → act_fault act.now
-        (world_record d t cabling.old
-        (map (λ n. caught_up turns n.clock (M.record_of n.machine)) nodes.old) wires.old changed.old
-        turns) ≡ None) }
+        (world_record d t cabling.old (now_at turns nodes.old) wires.old changed.old turns)
+        ≡ None) }
     ensures rows { OnOk result (map length wires.new ≡ map length wires.old) }
     ensures refused { IfFault result (λ f. (d : ℕ) (t : Timing) → act_fault act.now
-        (world_record d t cabling.old
-        (map (λ n. caught_up turns n.clock (M.record_of n.machine)) nodes.old) wires.old changed.old
-        turns) ≡ Some f) }
+        (world_record d t cabling.old (now_at turns nodes.old) wires.old changed.old turns)
+        ≡ Some f) }
     ensures same { IfFault result (λ f. (cabling.new ≡ cabling.old)
-        × (map (λ n. caught_up turns n.clock (M.record_of n.machine)) nodes.new
-        ≡ map (λ n. caught_up turns n.clock (M.record_of n.machine)) nodes.old)
+        × (now_at turns nodes.new ≡ now_at turns nodes.old)
         × (wires.new ≡ wires.old) × (changed.new ≡ changed.old)) }
     ensures memory { IsMemory result → (d : ℕ) (t : Timing) → act_fault act.now
-        (world_record d t cabling.old
-        (map (λ n. caught_up turns n.clock (M.record_of n.machine)) nodes.old) wires.old changed.old
-        turns) ≡ None }
+        (world_record d t cabling.old (now_at turns nodes.old) wires.old changed.old turns) ≡ None }
     ensures clocks { All (λ n. n.clock ≡ turns) nodes.new }
 {
     catch_up(nodes, turns);
@@ -104,7 +92,7 @@ pub fn act_agenda<M: PortMachine>(
 /// others are idle to the end of turn number `next`, unless they hear something.
 #[derive(Clone, Copy)]
 pub struct Agenda {
-    pub soon: NodeMask,
+    pub soon: NodeSet,
     pub next: u32,
 }
 
@@ -115,7 +103,7 @@ impl Agenda {
         ensures soon { result.soon ≡ 0 }
     {
         Agenda {
-            soon: NodeMask::none(),
+            soon: NodeSet::none(),
             next: 0,
         }
     }
@@ -126,7 +114,7 @@ impl Agenda {
         ensures none { 0 < result → IsEmpty self.now.soon }
         ensures end { 0 < result → turns + result ≤ self.now.next }
     {
-        if !self.soon.is_none() {
+        if !self.soon.is_empty() {
             return 0;
         }
         most.min(self.next.saturating_sub(turns))
@@ -150,7 +138,7 @@ impl Agenda {
 
 /// Takes a node into the set of those that are due after `turns` turns, if it may be: it is idle to the
 /// end of this turn. Else `next` isn't past this turn.
-fn note_due(node: u8, end: u32, turns: u32, next: u32, due: &mut NodeMask) -> u32
+fn note_due(node: u8, end: u32, turns: u32, next: u32, due: &mut NodeSet) -> u32
     requires { node < 63 }
     ensures others { AgreeBut due.old due.new node }
     ensures idle { (Holds due.new node → ⊥) → turns + 1 ≤ end }
@@ -170,7 +158,7 @@ pub fn due_nodes<M: PortMachine>(
     nodes: &[AgendaNode<M>],
     turns: u32,
     agenda: &mut Agenda,
-) -> NodeMask
+) -> NodeSet
     requires few { length nodes.now ≤ 63 }
     requires early { turns < 4000000000 }
     requires below { AreBelow agenda.old.soon (length nodes.now) }
@@ -183,7 +171,7 @@ pub fn due_nodes<M: PortMachine>(
     if turns < agenda.next {
         return agenda.soon;
     }
-    let mut due = NodeMask::none();
+    let mut due = NodeSet::none();
     let mut next = u32::MAX;
     for at in 0..nodes.len() {
         next = note_due(at as u8, nodes[at].end(), turns, next, &mut due);
@@ -258,13 +246,13 @@ fn turn_nodes<M: PortMachine>(
     cabling: &Cabling,
     arrivals: &[ArrivalRow],
     heard: &Heard,
-    visited: NodeMask,
+    visited: NodeSet,
     turns: u32,
     changed: &mut [u32],
     out: &mut Sends,
     wires: &mut [WireRow],
     agenda: &mut Agenda,
-    live: &mut NodeMask,
+    live: &mut NodeSet,
 ) -> Result<(), OutOfMemory>
     requires early { turns < 4000000000 }
     requires few { length nodes.old ≤ 63 }
@@ -278,22 +266,16 @@ fn turn_nodes<M: PortMachine>(
     requires rows { length wires.old ≡ length cabling.now }
     requires behind { All (λ n. n.clock ≤ turns) nodes.old }
     requires idle { All (λ n. turns ≤ n.clock + n.idle) nodes.old }
-    requires ports { HasItsPorts cabling.now
-        (map (λ n. caught_up turns n.clock (M.record_of n.machine)) nodes.old) }
+    requires ports { HasItsPorts cabling.now (now_at turns nodes.old) }
     requires arrivals { length arrivals.now ≡ length cabling.now }
     requires live { HasLive live.old wires.old arrivals.now }
-    ensures node { OnOk result (
-        map (λ n. caught_up (turns + 1) n.clock (M.record_of n.machine)) nodes.new
-        ≡ map (λ (s : NodeStep). s.node) (turns_of arrivals.now cabling.now
-        (map (λ n. caught_up turns n.clock (M.record_of n.machine)) nodes.old))) }
-    ensures changes { OnOk result (changed.new
-        ≡ last_changes (turns + 1)
-        (map (λ n. caught_up turns n.clock (M.record_of n.machine)) nodes.old)
-        (map (λ n. caught_up (turns + 1) n.clock (M.record_of n.machine)) nodes.new)
-        changed.old) }
-    ensures wires { OnOk result (wires.new
-        ≡ all_wires_after_sends (turns_of arrivals.now cabling.now
-        (map (λ n. caught_up turns n.clock (M.record_of n.machine)) nodes.old)) wires.old) }
+    ensures node { OnOk result (now_at (turns + 1) nodes.new
+        ≡ map (λ (s : NodeStep). s.node)
+        (turns_of arrivals.now cabling.now (now_at turns nodes.old))) }
+    ensures changes { OnOk result (changed.new ≡ last_changes (turns + 1)
+        (now_at turns nodes.old) (now_at (turns + 1) nodes.new) changed.old) }
+    ensures wires { OnOk result (wires.new ≡ all_wires_after_sends
+        (turns_of arrivals.now cabling.now (now_at turns nodes.old)) wires.old) }
     ensures behind { OnOk result (All (λ n. n.clock ≤ turns + 1) nodes.new) }
     ensures idle { All (λ n. turns ≤ n.clock + n.idle) nodes.new }
     ensures ahead { OnOk result (All (λ n. turns + 1 ≤ n.clock + n.idle) nodes.new) }
@@ -302,7 +284,7 @@ fn turn_nodes<M: PortMachine>(
     ensures near { OnOk result (AreBelow agenda.new.soon (length nodes.old)) }
     ensures live { OnOk result (HasLive live.new wires.new arrivals.now) }
 {
-    agenda.soon = NodeMask::none();
+    agenda.soon = NodeSet::none();
     let mut left = visited;
     while let Some(node) = left.take_least() {
         let at = node as usize;
@@ -335,12 +317,11 @@ pub fn turn_agenda<M: PortMachine>(
     arrivals: &mut [ArrivalRow],
     out: &mut Sends,
     agenda: &mut Agenda,
-    live: &mut NodeMask,
+    live: &mut NodeSet,
 ) -> Result<(), OutOfMemory>
     requires few { turns < 4000000000 }
     requires lawful { (t : Timing) × IsLawful (world_record delay t cabling.now
-        (map (λ n. caught_up turns n.clock (M.record_of n.machine)) nodes.old) wires.old changed.old
-        turns) }
+        (now_at turns nodes.old) wires.old changed.old turns) }
     requires same { map length arrivals.old ≡ map length wires.old }
     requires behind { All (λ n. n.clock ≤ turns) nodes.old }
     requires idle { All (λ n. turns ≤ n.clock + n.idle) nodes.old }
@@ -348,11 +329,9 @@ pub fn turn_agenda<M: PortMachine>(
     requires live { HasLive live.old wires.old arrivals.old }
     ensures done { OnOk result ((t : Timing) →
         world_record delay t cabling.now
-        (map (λ n. caught_up (turns + 1) n.clock (M.record_of n.machine)) nodes.new) wires.new
-        changed.new (turns + 1)
+        (now_at (turns + 1) nodes.new) wires.new changed.new (turns + 1)
         ≡ turn (world_record delay t cabling.now
-        (map (λ n. caught_up turns n.clock (M.record_of n.machine)) nodes.old) wires.old changed.old
-        turns)) }
+        (now_at turns nodes.old) wires.old changed.old turns)) }
     ensures same { OnOk result (map length arrivals.new ≡ map length wires.new) }
     ensures behind { OnOk result (All (λ n. n.clock ≤ turns + 1) nodes.new) }
     ensures idle { All (λ n. turns ≤ n.clock + n.idle) nodes.new }

@@ -3,8 +3,8 @@ ghost use Rattle.std.specs.Prelude.{◌≤◌, ◌<◌, IsFalse};
 ghost use Rattle.cable_world.specs.Still.{IsStillFor};
 ghost use Rattle.world_agenda.specs.Alone.{LeavesAloneBut};
 
-use crate::mask::NodeMask;
 use cable_world::{ShowsWires, World, WorldRun, worlds_stay_lawful};
+use cabling::NodeSet;
 use port_state::PortMachine;
 
 /// A world that tells for how many turns nothing happens, and at which nodes something may in a turn.
@@ -19,7 +19,7 @@ pub trait TellsStillTurns: ShowsWires {
     /// The nodes at which something may happen in the next turn. It is known of each other node that no
     /// more than its timer changes in it, and that it sends nothing. Fewer than 4,000,000,000 turns were
     /// done before. A spent world may tell any nodes.
-    fn touched(&self) -> NodeMask
+    fn touched(&self) -> NodeSet
         requires { (Self.world self.now).turns < 4000000000 }
         ensures { IsFalse (Self.is_spent self.now) →
             LeavesAloneBut result (Self.world self.now) };
@@ -31,8 +31,8 @@ impl<M: PortMachine> TellsStillTurns for World<M> {
         0
     }
 
-    fn touched(&self) -> NodeMask {
+    fn touched(&self) -> NodeSet {
         worlds_stay_lawful();
-        NodeMask::first(self.cabling().nodes())
+        NodeSet::first(self.cabling().nodes())
     }
 }

@@ -83,22 +83,22 @@ pub turn_nodes-requires-clause-below : goal.turn_nodes-requires-clause-below
 turn_nodes-requires-clause-below g c =
     let f : AgendaNode g.row.M.Denot g.M.PortMachine → PortNode = λ n. caught_up c.args.turns n.clock (g.M.PortMachine.record_of n.machine) in
     let w = c.requires.lawful.1.well_formed in
-    λ k has. elim ((c.union-visited.ensures k).0 has) [
+    λ k has. elim ((c.union-visited.ensures.members k).0 has) [
       | inl due ↦ c.due_nodes.ensures.below k due
       | inr heard ↦ let less = c.hearers.ensures.below k heard in omega (arith, less, length-map c.args.nodes.now f, w.count)
     ]
 
 pub turn_nodes-requires-clause-within : goal.turn_nodes-requires-clause-within
 turn_nodes-requires-clause-within g c =
-    λ k has. (c.union-visited.ensures k).1 (inr has)
+    λ k has. (c.union-visited.ensures.members k).1 (inr has)
 
 pub turn_nodes-requires-clause-due : goal.turn_nodes-requires-clause-due
 turn_nodes-requires-clause-due g c =
-    λ k inside out. c.due_nodes.ensures.due k inside (λ has. out ((c.union-visited.ensures k).1 (inl has)))
+    λ k inside out. c.due_nodes.ensures.due k inside (λ has. out ((c.union-visited.ensures.members k).1 (inl has)))
 
 pub turn_nodes-requires-clause-later : goal.turn_nodes-requires-clause-later
 turn_nodes-requires-clause-later g c =
-    λ k inside out. c.due_nodes.ensures.later k inside (λ has. out ((c.union-visited.ensures k).1 (inl has)))
+    λ k inside out. c.due_nodes.ensures.later k inside (λ has. out ((c.union-visited.ensures.members k).1 (inl has)))
 
 pub returns-clause-knows : goal.returns-clause-knows
 returns-clause-knows g c =

@@ -8,8 +8,8 @@ insert-requires c = omega (arith, c.requires, c.cables_are_two_ended.ensures.few
 
 pub loop-next-init : goal.loop-next-init
 loop-next-init c = record {
-  growing = growing_first c.args.self.now c.args.node c.new-done.result c.insert.new.self c.requires c.new-done.ensures c.insert.ensures.holds (rw c.new-waiting.ensures at c.insert.ensures.others);
-  small = rw c.new-done.ensures (omega arith);
+  growing = growing_first c.args.self.now c.args.node c.none-done.result c.insert.new.self c.requires c.none-done.ensures c.insert.ensures.holds (rw c.none-waiting.ensures at c.insert.ensures.others);
+  small = rw c.none-done.ensures (omega arith);
 }
 
 pub loop-next-preserved : goal.loop-next-preserved

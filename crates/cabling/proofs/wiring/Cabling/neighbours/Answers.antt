@@ -9,7 +9,7 @@ insert-requires c =
     (at_row c.args.self.now c.ends-end-items.result.now c.args.node c.loop-end.end-index (Some c.in-Some.other) c.ends-end-items.ensures.value c.in-Some.is)
 
 pub loop-end-init : goal.loop-end-init
-loop-end-init c = record { near = near_none c.args.self.now c.args.node c.new-found.result c.new-found.ensures; small = rw c.new-found.ensures (omega arith) }
+loop-end-init c = record { near = near_none c.args.self.now c.args.node c.none-found.result c.none-found.ensures; small = rw c.none-found.ensures (omega arith) }
 
 pub loop-end-preserved : goal.loop-end-preserved
 loop-end-preserved c = elim c.match-end.branch [

@@ -1,4 +1,4 @@
-use Rattle.std.proofs.Common.{◌+◌, ℕ, List, length, map, subst, sym}
+use Rattle.std.proofs.Common.{◌+◌, ℕ, List, map, subst}
 use Rattle.port_state.specs.Machine.{PortNode}
 use Rattle.cable_world.specs.Wire.{Wire}
 use Rattle.cable_world.specs.World.{CableWorld}
@@ -32,4 +32,4 @@ returns g c fine k x at out =
     lawful.well_formed.cabling
     (subst (λ ns. IdlesBut c.due_nodes-due.result (self.turns + 1) (map ends ns)) c.deref.ensures.value c.due_nodes-due.ensures.due)
     (subst (λ (ws : List (List Wire)). AwaitNoneBut c.awaiting.result ws self.cabling) c.deref-2.ensures.value c.awaiting.ensures)
-    (λ j has. (c.union.ensures j).1 has) k x at out
+    (λ j has. (c.union.ensures.members j).1 has) k x at out

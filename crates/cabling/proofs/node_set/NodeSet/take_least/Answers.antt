@@ -1,7 +1,6 @@
 use Rattle.std.proofs.Common.{arith}
-use Rattle.cabling.proofs.Lemmas.{below, some_node, removed-gone, removed-others, removed-small}
-use Rattle.world_agenda.proofs.Bits.{removed-less}
-use Rattle.world_agenda.proofs.mask.NodeMask.take_least.Goals as goal
+use Rattle.cabling.proofs.Bits.{below, some_node, removed-gone, removed-less, removed-others, removed-small}
+use Rattle.cabling.proofs.node_set.NodeSet.take_least.Goals as goal
 
 pub invariant_of-self : goal.invariant_of-self
 invariant_of-self c = removed-small c.self.inside.bits _ c.self.invariant
