@@ -148,6 +148,20 @@ pub(crate) struct Links {
     pub children: ChildLists,
 }
 
+/// The same links. It takes no memory.
+impl Clone for Links {
+    ghost is_clone = { λ links copy. copy ≡ links };
+
+    ghost is_infallible = { λ _. Unit {0} };
+
+    fn clone(&self) -> Result<Links, AllocError> {
+        Ok(Links {
+            parents: self.parents.clone()?,
+            children: self.children.clone()?,
+        })
+    }
+}
+
 impl Links {
     /// The links of no nodes.
     pub(crate) fn new() -> Links

@@ -14,9 +14,8 @@ ghost use Rattle.topology_stack.specs.declared.fault.TreeFault.{TreeFault};
 
 use crate::fault::TreeStop;
 use crate::links::{ChildLists, Links};
-use crate::reading::{MAX_NODES, nodes_of};
+use crate::reading::nodes_of;
 use crate::slots::far_end;
-use arrayvec::ArrayVec;
 use self_id::{SelfId, Standard};
 use std::alloc::{AllocError, Global};
 use std::marker::Model;
@@ -27,8 +26,7 @@ use std::marker::Model;
 #[derive(Debug, Drop)]
 pub struct BusTree {
     nodes: Vec<SelfId>,
-    parents: ArrayVec<u8, MAX_NODES>,
-    children: ChildLists,
+    links: Links,
 }
 
 impl Model for BusTree {
@@ -42,8 +40,8 @@ impl Model for BusTree {
 
     ghost view = { λ b. tree_of b.nodes.items };
 
-    ghost invariant = { λ b. Stored (tree_of b.nodes.items) b.nodes.items b.parents.items
-        b.children };
+    ghost invariant = { λ b. Stored (tree_of b.nodes.items) b.nodes.items b.links.parents.items
+        b.links.children };
 }
 
 /// The same bus tree. It takes memory for its nodes.
@@ -55,8 +53,7 @@ impl Clone for BusTree {
     fn clone(&self) -> Result<BusTree, AllocError> {
         Ok(BusTree {
             nodes: self.nodes.clone()?,
-            parents: self.parents.clone()?,
-            children: self.children.clone()?,
+            links: self.links.clone()?,
         })
     }
 }
@@ -87,11 +84,7 @@ fn read_tree_of(alloc: Global, standard: Standard, quads: &[u32]) -> Result<BusT
 {
     let mut links = Links::new();
     let nodes = nodes_of(alloc, standard, quads, &mut links)?;
-    Ok(BusTree {
-        nodes,
-        parents: links.parents,
-        children: links.children,
-    })
+    Ok(BusTree { nodes, links })
 }
 
 /// The bus tree of IEEE 1394a-2000 whose nodes emit `quads`, the first quadlets of the self-ID
@@ -161,7 +154,12 @@ impl BusTree {
     {
         let id = id as usize;
         let ports = self.nodes[id].ports.as_slice();
-        far_end(ports, slot as usize, self.parents[id], self.children.of(id))
+        far_end(
+            ports,
+            slot as usize,
+            self.links.parents[id],
+            self.links.children.of(id),
+        )
     }
 
     /// The ID of the parent of the node with this ID, which is less than `len`. `None` where the node
@@ -177,7 +175,7 @@ impl BusTree {
         if id + 1 == len {
             return None;
         }
-        Some(self.parents[id as usize])
+        Some(self.links.parents[id as usize])
     }
 
     /// The nodes by ID.
@@ -194,7 +192,7 @@ impl BusTree {
         ensures value { result.now ≡ parents_from 0 63 self.now }
         ensures len { length result.now ≡ length (walk self.now) }
     {
-        &self.parents
+        &self.links.parents
     }
 
     /// The IDs of each node's children.
@@ -202,6 +200,6 @@ impl BusTree {
         ensures value { result.now ≡ children_from 0 self.now }
         ensures len { length result.now ≡ length (walk self.now) }
     {
-        &self.children
+        &self.links.children
     }
 }

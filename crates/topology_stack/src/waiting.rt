@@ -1,9 +1,10 @@
 //! The trees that wait for a parent while a list is read.
-ghost use Rattle.std.specs.Prelude.{◌≡◌, ◌≤◌};
+ghost use Rattle.std.specs.Prelude.{◌≡◌, ◌≤◌, length};
+ghost use Rattle.self_id.specs.Node.{ups, downs};
 ghost use Rattle.topology_stack.specs.Waiting.{after_node};
 
 use crate::fault::TreeFault;
-use self_id::{SelfId, count_down, count_up};
+use self_id::{PortStatus, SelfId};
 
 /// How many trees wait for a parent, and whether the last of them is the root's, which waits for
 /// none.
@@ -11,6 +12,25 @@ use self_id::{SelfId, count_down, count_up};
 pub(crate) struct Waiting {
     pub trees: u8,
     pub rooted: bool,
+}
+
+/// How many slots lead to a child, and how many to the parent.
+#[inline]
+fn count_ends(slots: &[PortStatus]) -> (usize, usize)
+    ensures downs { result.0 ≡ downs slots.now }
+    ensures ups { result.1 ≡ ups slots.now }
+    ensures few { result.0 ≤ length slots.now }
+{
+    let mut downs = 0;
+    let mut ups = 0;
+    for slot in slots {
+        match slot {
+            PortStatus::Down => downs += 1,
+            PortStatus::Up => ups += 1,
+            PortStatus::Absent | PortStatus::Unplugged => {}
+        }
+    }
+    (downs, ups)
 }
 
 /// What waits after the node of the group at `at`, where so many trees waited before. The node's
@@ -21,8 +41,9 @@ pub(crate) fn after_node(at: usize, found: u8, node: &SelfId) -> Result<Waiting,
     ensures { result ≡ after_node at found node.now }
 {
     let slots = node.ports.as_slice();
-    let wanted = count_down(slots) as u8;
-    let rooted = count_up(slots) == 0;
+    let (downs, ups) = count_ends(slots);
+    let wanted = downs as u8;
+    let rooted = ups == 0;
     if found < wanted {
         return Err(TreeFault::TooFewChildren { at, found, wanted });
     }

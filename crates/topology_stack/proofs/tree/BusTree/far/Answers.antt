@@ -32,7 +32,10 @@ returns-clause-end c =
     let small : c.args.id < length c.self.inside.nodes.items = omega (arith, c.requires.id, ap length c.self.invariant.walk_is, ap (λ (t : Tree). length (walk t)) c.self.view_is) in
     let parents = length-parents _ _ _ _ c.self.invariant in
     let node = slice_get_read c.self.inside.nodes.items (length c.self.inside.nodes.items) c.args.id c.index.result.now refl small c.index.ensures in
-    let parent : slice_get c.self.inside.parents.items c.args.id ≡ Some (get_or c.deref.result.now c.args.id 0) = rw c.deref.ensures.0 (slice_get-get_or c.self.inside.parents.items c.args.id 0 (omega (arith, parents))) in
+    let parent : slice_get c.self.inside.links.parents.items c.args.id
+    ≡ Some (get_or c.deref.result.now c.args.id 0) =
+    rw c.deref.ensures.0 (slice_get-get_or c.self.inside.links.parents.items c.args.id 0
+    (omega (arith, parents))) in
     let ports = c.as_slice-ports.ensures.value ∙ ap (λ (n : Node). n.ports) c.behind-self.view_is in
     rw (← c.self.view_is) (far_is _ _ _ _ c.args.id c.args.slot c.index.result.now (get_or c.deref.result.now c.args.id 0) c.of.result.now c.far_end.result c.self.invariant node parent c.of.ensures
     (rw ports at c.far_end.ensures.end))

@@ -21,12 +21,18 @@ pub returns-clause-parent : goal.returns-clause-parent
 returns-clause-parent c =
     let parents = length-parents _ _ _ _ c.self.invariant in
     let len : length c.self.inside.nodes.items ≡ length (walk c.args.self.now) = ap length c.self.invariant.walk_is ∙ ap (λ (t : Tree). length (walk t)) c.self.view_is in
-    let parent : slice_get c.self.inside.parents.items c.args.id ≡ Some (get_or c.deref.result.now c.args.id 0) = rw c.deref.ensures.0 (slice_get-get_or c.self.inside.parents.items c.args.id 0 (omega (arith, parents, len, c.requires))) in
+    let parent : slice_get c.self.inside.links.parents.items c.args.id
+    ≡ Some (get_or c.deref.result.now c.args.id 0) =
+    rw c.deref.ensures.0 (slice_get-get_or c.self.inside.links.parents.items c.args.id 0
+    (omega (arith, parents, len, c.requires))) in
     rw (← c.self.view_is) (is_parent _ _ _ _ c.args.id (get_or c.deref.result.now c.args.id 0) c.self.invariant (omega (arith, len, c.requires, c.len-len.ensures.value, c.if-id-len.false)) parent)
 
 pub returns-clause-only : goal.returns-clause-only
 returns-clause-only c = λ parent is.
     let parents = length-parents _ _ _ _ c.self.invariant in
     let len : length c.self.inside.nodes.items ≡ length (walk c.args.self.now) = ap length c.self.invariant.walk_is ∙ ap (λ (t : Tree). length (walk t)) c.self.view_is in
-    let kept : slice_get c.self.inside.parents.items c.args.id ≡ Some (get_or c.deref.result.now c.args.id 0) = rw c.deref.ensures.0 (slice_get-get_or c.self.inside.parents.items c.args.id 0 (omega (arith, parents, len, c.requires))) in
+    let kept : slice_get c.self.inside.links.parents.items c.args.id
+    ≡ Some (get_or c.deref.result.now c.args.id 0) =
+    rw c.deref.ensures.0 (slice_get-get_or c.self.inside.links.parents.items c.args.id 0
+    (omega (arith, parents, len, c.requires))) in
     ap (λ x. Some x) (one_parent _ _ _ _ c.args.id (get_or c.deref.result.now c.args.id 0) parent c.self.invariant (omega (arith, len, c.requires)) kept (rw (c.self.view_is) is))
