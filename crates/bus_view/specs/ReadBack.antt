@@ -7,7 +7,7 @@ use Rattle.script_run.specs.Viewed.{AreReadBack}
 use Rattle.reset_log.specs.declared.form.LogForm.TheVariants.{Json as Lines}
 use Rattle.bus_view.specs.declared.form.CaptureView.TheVariants.{Json}
 use Rattle.bus_view.specs.declared.form.ViewForm.{ViewForm}
-use Rattle.bus_view.specs.declared.form.ViewForm.TheVariants.{Capture, JsonRun, Resets}
+use Rattle.bus_view.specs.declared.form.ViewForm.TheVariants.{Capture, JsonRun, Resets, Nosy}
 use Rattle.bus_view.specs.Form.{Asks}
 
 -- the lines of a script's reports, which are read back as the values of the reports, or that of its fault
@@ -21,8 +21,9 @@ ReadsBack (Capture Json standard) bytes status text = IsJsonLine text
 ReadsBack JsonRun bytes status text = AreReports bytes status text
 ReadsBack form bytes status text = Unit {0}
 
--- the words ask for lines of JSON: those of a capture, of a script's reports, or of a log
+-- the words ask for lines of JSON: those of a capture, of a script's reports, of a log, or of a dump
 abbrev pub AsksJson : List (String Global) → Type 0
 AsksJson words =
     ((standard : Standard) × Asks words (Capture Json standard)) ⊎ Asks words JsonRun
     ⊎ ((standard : Standard) × Asks words (Resets (Lines standard)))
+    ⊎ ((standard : Standard) × Asks words (Nosy (Lines standard)))

@@ -51,9 +51,11 @@ pub(crate) fn show_nosy<S: Source, K: Sink>(
     source: &mut S,
     sink: &mut K,
 ) -> u8
-    ensures { ShowsAsItComes S.left S.faults K.written K.faults K.surely_takes
+    ensures shown { ShowsAsItComes S.left S.faults K.written K.faults K.surely_takes
         (result ≡ 0) (IsDumpView form) (IsBegun form)
         result source.old source.new sink.old sink.new }
+    ensures json { (standard : Standard) → form ≡ LogForm.Json standard →
+        (result ≡ 0) ⊎ (result ≡ 1) → WritesJsonLines (K.written sink.old) (K.written sink.new) }
 {
     dumps_have_one_text();
     status_shown(show_dump(alloc, form, source, sink))

@@ -151,8 +151,8 @@ pub fn view_main<S: Source, K: Sink>(
         (result ≡ 0) (IsDumpView form) (IsBegun form)
         result source.old source.new sink.old sink.new }
 
-    // With `json`, `json-run` and `resets --json` it is lines of JSON (RFC 8259), each of which is read
-    // back as a value: those of `json-run` as the values of the script's reports.
+    // With `json`, `json-run`, `resets --json` and `nosy --json` it is lines of JSON (RFC 8259), each of
+    // which is read back as a value: those of `json-run` as the values of the script's reports.
     ensures json_lines { AsksJson words.now → (result ≡ 0) ⊎ (result ≡ 1) →
         WritesJsonLines (K.written sink.old) (K.written sink.new) }
     ensures reports { Asks words.now ViewForm.JsonRun → result ≡ 0 →

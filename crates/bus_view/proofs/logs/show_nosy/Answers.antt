@@ -5,7 +5,9 @@ use Rattle.reset_log.specs.declared.form.LogForm.{LogForm}
 use Rattle.reset_log.specs.declared.stop.LogStop.{LogStop}
 use Rattle.nosy_dump.specs.Dump.{IsDumpShown, IsWritten, IsBegun}
 use Rattle.bus_view.specs.Log.{IsDumpView, ShowsAsItComes}
-use Rattle.bus_view.proofs.Shown.{answered_well, shows}
+use Rattle.bus_json.specs.Lines.{WritesJsonLines}
+use Rattle.bus_view.proofs.Shown.{answered, answered_well, shows}
+use Rattle.bus_view.proofs.ReadBack.{shown_so}
 use Rattle.bus_view.proofs.logs.show_nosy.Goals as goal
 
 written : (form : LogForm) (r : Result Bool LogStop) (left old new : Option (List ℕ)) →
@@ -15,8 +17,8 @@ written form (Ok bad) None old new ok = tt
 written form (Ok bad) (Some dump) old new ok = (ok.text, ok.is_shown, ok.wrote)
 written form (Err stop) left old new ok = tt
 
-pub returns : goal.returns
-returns g c =
+pub returns-clause-shown : goal.returns-clause-shown
+returns-clause-shown g c =
     let is = c.show_dump.ensures in
     let r = c.show_dump.result in
     let left = g.S.Source.left in
@@ -41,3 +43,9 @@ returns g c =
       some = c.dumps_have_one_text.ensures.some c.args.form;
       fit = g.met.S.Source.fit source;
     })
+
+pub returns-clause-json : goal.returns-clause-json
+returns-clause-json g c = λ standard e which.
+    let r = c.show_dump.result in
+    let lines = WritesJsonLines (g.K.Sink.written c.args.sink.now) (g.K.Sink.written c.show_dump.new.sink) in
+    answered r lines (shown_so r lines (c.show_dump.ensures.json standard e)) (rw c.status_shown.ensures at which)

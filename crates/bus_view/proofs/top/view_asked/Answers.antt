@@ -59,7 +59,7 @@ returns-in-Some-dump_form-clause-streams g c = λ no_log.
 pub returns-in-Some-dump_form-clause-no_form : goal.returns-in-Some-dump_form-clause-no_form
 returns-in-Some-dump_form-clause-no_form g c =
     let asks = (c.in-Some-dump_form.ensures c.in-Some-dump_form.form).0 refl in
-    (λ two. absurd (c.show_nosy.ensures.is_form two), λ none. absurd (none (Nosy c.in-Some-dump_form.form, asks)))
+    (λ two. absurd (c.show_nosy.ensures.shown.is_form two), λ none. absurd (none (Nosy c.in-Some-dump_form.form, asks)))
 
 pub returns-in-Some-dump_form-clause-nosy : goal.returns-in-Some-dump_form-clause-nosy
 returns-in-Some-dump_form-clause-nosy g c = λ form again.
@@ -67,7 +67,7 @@ returns-in-Some-dump_form-clause-nosy g c = λ form again.
     let left = g.S.Source.left in
     let status = c.show_nosy.result in
     subst (λ (s : LogForm). ShowsAsItComes left g.S.Source.faults g.K.Sink.written g.K.Sink.faults g.K.Sink.surely_takes (status ≡ 0) (IsDumpView s) (IsBegun s) status c.args.source.now c.show_nosy.new.source c.args.sink.now c.show_nosy.new.sink)
-    (one_nosy c.args.words.now c.in-Some-dump_form.form form asks again) c.show_nosy.ensures
+    (one_nosy c.args.words.now c.in-Some-dump_form.form form asks again) c.show_nosy.ensures.shown
 
 pub returns-in-Some-dump_form-clause-resets : goal.returns-in-Some-dump_form-clause-resets
 returns-in-Some-dump_form-clause-resets g c = λ form again.
@@ -133,7 +133,10 @@ returns-in-Some-clause-json_lines g c = λ json which.
     elim json [
       | inl bus ↦ absurd (log_apart c.args.words.now (Capture Json bus.0) tt bus.1 (c.in-Some.form, inl asks))
       | inr (inl run) ↦ absurd (log_apart c.args.words.now JsonRun tt run (c.in-Some.form, inl asks))
-      | inr (inr log) ↦ c.show_resets.ensures.json log.0 (one_resets c.args.words.now c.in-Some.form (Lines log.0) asks log.1) which
+      | inr (inr (inl log)) ↦ c.show_resets.ensures.json log.0
+          (one_resets c.args.words.now c.in-Some.form (Lines log.0) asks log.1) which
+      | inr (inr (inr dump)) ↦ absurd
+          (no_dump c.args.words.now c.in-Some.form (Lines dump.0) asks dump.1)
     ]
 
 pub returns-in-Some-clause-reports : goal.returns-in-Some-clause-reports
@@ -147,7 +150,10 @@ returns-in-Some-dump_form-clause-json_lines g c = λ json which.
     elim json [
       | inl bus ↦ absurd (log_apart c.args.words.now (Capture Json bus.0) tt bus.1 (c.in-Some-dump_form.form, inr asks))
       | inr (inl run) ↦ absurd (log_apart c.args.words.now JsonRun tt run (c.in-Some-dump_form.form, inr asks))
-      | inr (inr log) ↦ absurd (no_dump c.args.words.now (Lines log.0) c.in-Some-dump_form.form log.1 asks)
+      | inr (inr (inl log)) ↦ absurd
+          (no_dump c.args.words.now (Lines log.0) c.in-Some-dump_form.form log.1 asks)
+      | inr (inr (inr dump)) ↦ c.show_nosy.ensures.json dump.0
+          (one_nosy c.args.words.now c.in-Some-dump_form.form (Lines dump.0) asks dump.1) which
     ]
 
 pub returns-in-Some-dump_form-clause-reports : goal.returns-in-Some-dump_form-clause-reports
@@ -159,7 +165,9 @@ pub returns-clause-json_lines : goal.returns-clause-json_lines
 returns-clause-json_lines g c = λ json which. elim json [
   | inl bus ↦ let told = c.answer.ensures.tells which (Capture Json bus.0) bus.1 in record { text = told.2; lines = one_line told.2 told.3; wrote = told.4 }
   | inr (inl run) ↦ let told = c.answer.ensures.tells which JsonRun run in record { text = told.2; lines = told.3.lines; wrote = told.4 }
-  | inr (inr log) ↦ absurd (let e = (c.in_default.ensures (Lines log.0)).1 log.1 in cc)
+  | inr (inr (inl log)) ↦ absurd (let e = (c.in_default.ensures (Lines log.0)).1 log.1 in cc)
+  | inr (inr (inr dump)) ↦ absurd
+      (let e = (c.in_default-dump_form.ensures (Lines dump.0)).1 dump.1 in cc)
 ]
 
 pub returns-clause-reports : goal.returns-clause-reports
