@@ -5,6 +5,7 @@ use Rattle.std.proofs.lemmas.Bool.Decides.{nat_tests}
 use Rattle.std.proofs.lemmas.Fmt.{length-decimal-le, decimal_nonempty}
 use Rattle.std.specs.Prelude.{not, nat_le, ◌==◌, Ok}
 use Rattle.std.specs.List.{list_all, slice_split, AllZip}
+use Rattle.std.proofs.lemmas.Bool.{and_from}
 use Rattle.rand_pcg.specs.Lcg.{Lcg}
 use Rattle.port_state.specs.declared.ranges.TimeRanges.{TimeRanges}
 use Rattle.port_state.specs.TimeRanges.{profile_ranges}
@@ -23,7 +24,7 @@ use Rattle.script_lines.specs.Line.{node, other, Reads}
 use Rattle.script_made.specs.Made.{generator, word, end_of, node_line, plug_line, pull_line, turn_line, for_each, made_lines, text_of, made_script}
 use Rattle.script_made.specs.MadeRead.{made_name, declares, plugs, pulls, turns, made_commands, MadeIsRead, MadeIsSplit}
 use Rattle.script_made.proofs.MadeSize.{Near, end-near}
-use Rattle.script_made.proofs.MadeRead.{is_graphic, IsWord, spaced, within, widens, split_first, Says, read_as, is_digit_char, digit_chars, number_of-decimal}
+use Rattle.script_made.proofs.MadeRead.{is_graphic, IsWord, spaced, widens, split_first, Says, read_as, is_digit_char, digit_chars, number_of-decimal}
 
 -- ---- names and numbers
 
@@ -58,7 +59,7 @@ few_chars k h =
 a_name_is : (k : ℕ) → k ≤ 62 → is_name (made_name k) ≡ true
 unfolding numbered is_name
 a_name_is k h =
-    within (nat_le (length (codes "n" ++ decimal k)) 16) (list_all is_name_char (decimal k)) (few_chars k h)
+    and_from (nat_le (length (codes "n" ++ decimal k)) 16) (list_all is_name_char (decimal k)) (few_chars k h)
     (widens is_digit_char is_name_char name_digit (decimal k) (digit_chars k (omega (arith, h))))
 
 in_range : (least most n : ℕ) → least ≤ n → n ≤ most → out_of least most (Some n) ≡ None
