@@ -12,7 +12,8 @@ use Rattle.bus_cli.specs.declared.form.CaptureForm.TheVariants.{Read}
 use Rattle.bus_cli.specs.Form.{Asks}
 use Rattle.capture_reading.specs.Capture.{IsCaptureOf, Spells}
 use Rattle.bus_cli.specs.Cabled.{TellsCabling, AnswersCabling, AreEmitted}
-use Rattle.bus_cli.specs.Answer.{AnswersRead, Answers}
+use Rattle.bus_cli.specs.Answer.{Answers}
+use Rattle.capture_reading.specs.Answer.{AnswersRead}
 use Rattle.capture_reading.specs.OneReading.{NoCaptureHasTwoTrees}
 use Rattle.io_edges.specs.Streams.{IsWritten, OfTheAnswer}
 

@@ -27,7 +27,8 @@ use Rattle.bus_cli.specs.Form.{Asks, standard_of}
 use Rattle.capture_reading.specs.Capture.{Spells, CaptureRefused}
 use Rattle.capture_reading.specs.Line.{fault_line}
 use Rattle.bus_cli.specs.codings.Reading.{Reads, Shows, status_with, text_with}
-use Rattle.bus_cli.specs.Answer.{PrintsRun, AnswersForm, Answers}
+use Rattle.bus_cli.specs.Answer.{AnswersForm, Answers}
+use Rattle.script_run.specs.Answer.{PrintsRun}
 use Rattle.io_edges.specs.Streams.{IsWritten}
 use Rattle.top_call.proofs.Lemmas.{of_asked}
 use Rattle.bus_cli.proofs.Forms.{one_form}

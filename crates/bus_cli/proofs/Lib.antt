@@ -4,4 +4,3 @@ pub mod OneAnswer
 pub mod Unread
 pub mod Cables
 pub mod Ends
-pub mod Lemmas

@@ -35,9 +35,12 @@ use Rattle.bus_cli.specs.declared.form.CaptureForm.TheVariants.{Read, Read95, Ma
 use Rattle.capture_reading.specs.declared.fault.CaptureFault.{CaptureFault}
 use Rattle.bus_cli.specs.Form.{Asks}
 use Rattle.capture_reading.specs.Line.{fault_line}
-use Rattle.bus_cli.specs.Line.{rom_line, script_line}
+use Rattle.bus_cli.specs.Line.{rom_line}
+use Rattle.script_run.specs.Line.{script_line}
 use Rattle.capture_reading.specs.OneReading.{EachCaptureHasATreeOrAFault, NoCaptureHasTwoTrees, NoCaptureHasATreeAndAFault, NoCaptureHasTwoFaults}
-use Rattle.bus_cli.specs.Answer.{ValidOrRefused, IsCaptureLine, AnswersRead, AnswersMaps, TellsRom, RomRefused, TextOfRom, AnswersRom, PrintsRun, AnswersRun, AnswersAdvice, AnswersMake, AnswersForm}
+use Rattle.bus_cli.specs.Answer.{AnswersMaps, TellsRom, RomRefused, TextOfRom, AnswersRom, AnswersForm}
+use Rattle.capture_reading.specs.Answer.{ValidOrRefused, IsCaptureLine, AnswersRead}
+use Rattle.script_run.specs.Answer.{PrintsRun, AnswersRun, AnswersAdvice, AnswersMake}
 use Rattle.bus_cli.specs.OneAnswer.{EachInputHasAnAnswer, NoInputHasTwoAnswers, ToldTextsArePrinted}
 use Rattle.top_call.proofs.Lemmas.{each_answered, none_twice}
 use Rattle.bus_cli.proofs.Forms.{one_form, form_or_none}

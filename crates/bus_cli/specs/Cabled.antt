@@ -1,13 +1,10 @@
--- What an accepted capture says of cables, and what the lists of a script's bus do.
-use Rattle.std.specs.Prelude.{◌≡◌, ℕ, List, [], All}
+-- What an accepted capture says of cables.
+use Rattle.std.specs.Prelude.{◌≡◌, ℕ, List, []}
 use Rattle.self_id.specs.declared.standard.Standard.TheVariants.{Ieee2000}
 use Rattle.topology_stack.specs.Tree.{Tree, IsBusTreeOf, emits}
 use Rattle.topology_stack.specs.Text.{tree_text}
 use Rattle.world_laws.specs.SlotCabling.{CablesTree, IsEmitted}
 use Rattle.world_laws.specs.TreeText.{AreAlikeButHidden}
-use Rattle.world_laws.specs.WiringSlots.{ListsAreEmitted}
-use Rattle.script_told.specs.Reached.{world_of}
-use Rattle.script_told.specs.Run.{Entry, ScriptRun}
 use Rattle.capture_reading.specs.Capture.{IsCaptureOf}
 
 -- The bytes are the packets that the nodes of some cabling emit, the text is that of the tree that
@@ -30,8 +27,3 @@ AnswersCabling bytes status text = status ≡ 0 → TellsCabling bytes text
 -- the bytes are the packets that the nodes of some cabling emit
 abbrev pub AreEmitted : List ℕ → Type 0
 AreEmitted bytes = (list : List ℕ) × IsEmitted list × IsCaptureOf list bytes
-
--- Behind each command of a script: wherever a component of its bus came to a tree, the list that each
--- node has is one that some cabling emits, which is that of the bus and shows that tree.
-abbrev pub EachListIsEmitted : ScriptRun → Type 0
-EachListIsEmitted run = All (λ (e : Entry). ListsAreEmitted (world_of e.after)) run.entries

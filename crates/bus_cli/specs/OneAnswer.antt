@@ -2,7 +2,8 @@
 use Rattle.std.specs.Prelude.{◌≡◌, ℕ, ◌<◌, All, List, String, Ok}
 use Rattle.std.specs.Global.{Global}
 use Rattle.script_told.specs.Run.{IsTold}
-use Rattle.bus_cli.specs.Answer.{PrintsRun, Answers}
+use Rattle.bus_cli.specs.Answer.{Answers}
+use Rattle.script_run.specs.Answer.{PrintsRun}
 
 abbrev pub EachInputHasAnAnswer : Type 0
 EachInputHasAnAnswer =

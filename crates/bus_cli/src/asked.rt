@@ -6,12 +6,12 @@ ghost use Rattle.bus_cli.specs.codings.Asked.{few_status, unread_alone, unread_s
 
 use crate::answer::{Answer, answer_of_itself, answer_to};
 use crate::form::Form;
-use crate::input::{MAX_INPUT, read_input};
+use crate::input::read_input;
 use crate::rom::answer_to_rom;
 use crate::script::{answer_to_advice, answer_to_make, answer_to_script};
 use io_edges::{ReadStop, Source, read_all};
 use std::alloc::Global;
-use top_call::Asked;
+use top_call::{Asked, MAX_INPUT};
 
 impl Asked for Form {
     type Answer = Answer;

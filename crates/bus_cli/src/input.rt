@@ -11,10 +11,8 @@ use crate::reader::CaptureReader;
 use capture_reading::{CaptureStop, read_capture};
 use io_edges::{ReadStop, Source, read_all, read_pieces};
 use std::alloc::Global;
+use top_call::MAX_INPUT;
 use topology_stack::BusTree;
-
-/// The most bytes of an input.
-pub const MAX_INPUT: usize = 1_048_576;
 
 /// Reads the capture that a form asks for. With `read` it is taken piece by piece, and memory is
 /// taken for the tree that it spells and for nothing else. Else the whole capture is read first.

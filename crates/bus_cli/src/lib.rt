@@ -19,8 +19,8 @@ pub use capture_reading::{
 };
 pub use form::{CaptureForm, Form, USAGE};
 pub use help::HELP;
-pub use input::MAX_INPUT;
 pub use laws::one_answer;
-pub use line::{kind_word, rom_line, script_line};
+pub use line::rom_line;
+pub use script_run::{kind_word, script_line};
 pub use top::bus_main;
-pub use top_call::{NO_FORM, NO_MEMORY, READ_FAULT, REFUSED, TOO_LONG, VALID, WRITE_FAULT};
+pub use top_call::{MAX_INPUT, NO_FORM, NO_MEMORY, READ_FAULT, REFUSED, TOO_LONG, VALID, WRITE_FAULT};

@@ -2,16 +2,15 @@
 ghost use Rattle.std.specs.Prelude.{◌≡◌, ◌≤◌, ℕ, List, IfOk, length};
 ghost use Rattle.script_made.specs.Made.{made_script};
 ghost use Rattle.script_text.specs.Summary.{summary};
-ghost use Rattle.bus_cli.specs.Answer.{PrintsRun, AnswersRun, AnswersAdvice, AnswersMake};
+ghost use Rattle.script_run.specs.Answer.{PrintsRun, AnswersRun, AnswersAdvice, AnswersMake};
 ghost use Rattle.bus_cli.specs.codings.Reading.{status_with, text_with};
 
 use crate::answer::Answer;
 use crate::laws::told_texts_are_printed;
-use crate::line::script_line;
 use quad_lanes::OutOfMemory;
 use script_lines::ScriptStop;
 use script_made::{made_scripts_have_no_fault, make_script};
-use script_run::{advise_script, run_script};
+use script_run::{advise_script, run_script, script_line};
 use script_text::summary;
 use std::alloc::Global;
 

@@ -7,8 +7,11 @@ ghost use Rattle.bus_cli.specs.Form.{Asks, AsksNoInput, IsForm};
 ghost use Rattle.self_id.specs.declared.standard.Standard.TheVariants.{Ieee1995, Ieee2000};
 ghost use Rattle.topology_stack.specs.Tree.{Tree};
 ghost use Rattle.capture_reading.specs.Capture.{Spells};
-ghost use Rattle.bus_cli.specs.Answer.{AnswersRead, AnswersMaps, AnswersRom, AnswersRun, AnswersAdvice};
-ghost use Rattle.bus_cli.specs.Answer.{AnswersMake, AnswersOfItself, Answers};
+ghost use Rattle.bus_cli.specs.Answer.{AnswersMaps, AnswersRom};
+ghost use Rattle.capture_reading.specs.Answer.{AnswersRead};
+ghost use Rattle.script_run.specs.Answer.{AnswersRun, AnswersAdvice};
+ghost use Rattle.bus_cli.specs.Answer.{AnswersOfItself, Answers};
+ghost use Rattle.script_run.specs.Answer.{AnswersMake};
 ghost use Rattle.io_edges.specs.Streams.{IsWritten, KeepsStreams};
 ghost use Rattle.bus_cli.specs.Cabled.{AnswersCabling, AreEmitted};
 

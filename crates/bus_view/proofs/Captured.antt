@@ -19,7 +19,7 @@ use Rattle.script_told.proofs.Lemmas.{IsEnd, each-done}
 use Rattle.script_bus.specs.Listed.{list_in, list_at}
 use Rattle.script_run.specs.Listed.{at_line, listed_at}
 use Rattle.capture_reading.specs.Capture.{Spells}
-use Rattle.bus_cli.specs.Answer.{AnswersRead}
+use Rattle.capture_reading.specs.Answer.{AnswersRead}
 use Rattle.capture_reading.specs.OneReading.{NoCaptureHasTwoTrees, NoCaptureHasATreeAndAFault}
 use Rattle.bus_view.specs.Captured.{ListsFit, IsShownByTheReport, CapturesAreOfReports}
 use Rattle.bus_view.proofs.Printed.{has-last, last-prints}

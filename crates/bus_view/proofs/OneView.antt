@@ -11,7 +11,7 @@ use Rattle.topology_stack.specs.Tree.{Tree}
 use Rattle.bus_manager.proofs.Lemmas.{one_hops}
 use Rattle.capture_reading.specs.declared.fault.CaptureFault.{CaptureFault}
 use Rattle.capture_reading.specs.OneReading.{NoCaptureHasTwoTrees, NoCaptureHasATreeAndAFault, NoCaptureHasTwoFaults}
-use Rattle.bus_cli.specs.Line.{kind_word, script_line}
+use Rattle.script_run.specs.Line.{kind_word, script_line}
 use Rattle.bus_json.specs.Text.{json_line}
 use Rattle.bus_json.specs.Refusal.{line_refusal_value}
 use Rattle.script_lines.specs.declared.kind.ScriptFault.{ScriptFault}

@@ -5,7 +5,7 @@ use Rattle.quad_lanes.specs.Pairs.{quads_of}
 use Rattle.self_id.specs.declared.standard.Standard.{Standard}
 use Rattle.capture_reading.specs.OneReading.{EachCaptureHasATreeOrAFault}
 use Rattle.capture_reading.specs.Line.{fault_line}
-use Rattle.bus_cli.specs.Line.{kind_word, script_line}
+use Rattle.script_run.specs.Line.{kind_word, script_line}
 use Rattle.script_made.specs.Made.{made_script}
 use Rattle.script_told.specs.Script.{Told, script_lines}
 use Rattle.script_told.specs.Run.{ScriptRun, IsRun, printed, unless_stopped, told_by}

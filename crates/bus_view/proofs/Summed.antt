@@ -4,7 +4,7 @@ use Rattle.script_lines.specs.declared.kind.ScriptFault.{ScriptFault}
 use Rattle.script_made.specs.Made.{made_script}
 use Rattle.script_made.specs.MadeValid.{MadeScriptsHaveNoFault}
 use Rattle.script_told.specs.Script.{Told}
-use Rattle.bus_cli.specs.Answer.{AnswersRun, AnswersMake}
+use Rattle.script_run.specs.Answer.{AnswersRun, AnswersMake}
 use Rattle.script_text.specs.Summary.{summary}
 use Rattle.bus_view.specs.Summed.{MakeSumsUpTheScript}
 

@@ -11,7 +11,7 @@ use Rattle.topology_stack.specs.Tree.{Tree}
 use Rattle.capture_reading.specs.declared.fault.CaptureFault.{CaptureFault}
 use Rattle.capture_reading.specs.Capture.{Spells, CaptureRefused}
 use Rattle.capture_reading.specs.Line.{fault_line}
-use Rattle.bus_cli.specs.Line.{kind_word, script_line}
+use Rattle.script_run.specs.Line.{kind_word, script_line}
 use Rattle.script_lines.specs.declared.kind.ScriptFault.{ScriptFault}
 use Rattle.script_words.specs.Before.{feed_lines}
 use Rattle.script_made.specs.Made.{made_script}

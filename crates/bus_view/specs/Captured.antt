@@ -14,8 +14,8 @@ use Rattle.script_told.specs.Script.{running}
 use Rattle.script_told.specs.Run.{Entry, ScriptRun, IsRun}
 use Rattle.script_run.specs.Listed.{IsListed}
 use Rattle.capture_reading.specs.Capture.{Spells}
-use Rattle.bus_cli.specs.Line.{script_line}
-use Rattle.bus_cli.specs.Answer.{ValidOrRefused, AnswersRead}
+use Rattle.script_run.specs.Line.{script_line}
+use Rattle.capture_reading.specs.Answer.{ValidOrRefused, AnswersRead}
 
 -- the list of a bus tree has no quadlet that doesn't fit
 abbrev pub ListsFit : Type 0

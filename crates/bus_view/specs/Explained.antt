@@ -1,6 +1,6 @@
 -- What is said of the faults of a script, which is the list of its lines here.
 use Rattle.std.specs.Prelude.{◌≡◌, ℕ, ◌+◌, ◌-◌, List, [], ◌∷◌, ◌++◌, drop, Option, Some, None}
-use Rattle.bus_cli.specs.Line.{script_line}
+use Rattle.script_run.specs.Line.{script_line}
 use Rattle.script_lines.specs.declared.kind.Kind.{Kind}
 use Rattle.script_lines.specs.declared.kind.ScriptFault.{ScriptFault}
 use Rattle.script_words.specs.Before.{feed_lines, ranges_of}

@@ -2,7 +2,7 @@
 use Rattle.std.specs.Prelude.{◌≡◌, ℕ, ◌≤◌, List}
 use Rattle.script_text.specs.Summary.{summary}
 use Rattle.script_made.specs.Made.{made_script}
-use Rattle.bus_cli.specs.Answer.{AnswersRun, AnswersMake}
+use Rattle.script_run.specs.Answer.{AnswersRun, AnswersMake}
 
 -- the text is the script of these; whatever `busconf run` answers to it, `busconf make` has that status
 -- and writes the summary

@@ -17,20 +17,19 @@ use crate::help::VIEW_HELP;
 use crate::refusal::fault_json;
 use crate::sentence::note_of;
 use about::{About, about_text};
-use bus_cli::{MAX_INPUT, kind_word, script_line};
 use bus_json::{bus_line, line_refusal};
 use capture_reading::{CaptureFault, CaptureStop, fault_line, read_capture};
 use io_edges::{ReadStop, Source, read_all};
 use quad_lanes::{capture_of, quads_of};
 use script_made::make_script;
 use script_run::{
-    ScriptFault, ScriptStop, dump_script, graph_script, json_script, list_script, run_script,
-    trace_script,
+    ScriptFault, ScriptStop, dump_script, graph_script, json_script, kind_word, list_script,
+    run_script, script_line, trace_script,
 };
 use script_words::{CutScript, Kind, put_sentence};
 use self_id::Standard;
 use std::alloc::Global;
-use top_call::{REFUSED, Told, VALID};
+use top_call::{MAX_INPUT, REFUSED, Told, VALID};
 use topology_stack::{BusTree, Name, OutOfMemory};
 use view_text::{Note, packets_of, pairs_text, tree_drawing, tree_graph};
 

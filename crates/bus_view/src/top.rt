@@ -71,7 +71,7 @@ fn view_asked<S: Source, K: Sink>(
 }
 
 /// Does what the words after the program's name ask for: reads a capture or a script from `source`,
-/// writes the view of it to `sink`, and answers the exit status, which is one of `bus_cli`.
+/// writes the view of it to `sink`, and answers the exit status, which is one of `top_call`.
 ///
 /// | status | comes |
 /// |---|---|

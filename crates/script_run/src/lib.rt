@@ -8,6 +8,7 @@
 mod advise;
 mod draft;
 mod laws;
+mod line;
 mod listed;
 mod run;
 mod script;
@@ -18,6 +19,7 @@ mod waves;
 
 pub use advise::advise_script;
 pub use laws::scripts_have_one_view;
+pub use line::{kind_word, script_line};
 pub use listed::list_script;
 pub use script::run_script;
 pub use script_lines::{

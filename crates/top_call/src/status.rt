@@ -1,4 +1,4 @@
-//! The statuses of the program. What is said of the input holds of the forms that read one.
+//! The statuses of the program, and the most bytes of its input. What is said of the input holds of the forms that read one.
 
 /// The input was read to its end and is valid, and its whole text was written.
 pub const VALID: u8 = 0;
@@ -20,3 +20,6 @@ pub const NO_MEMORY: u8 = 5;
 
 /// The input is longer than `MAX_INPUT`. Nothing was written.
 pub const TOO_LONG: u8 = 6;
+
+/// The most bytes of an input.
+pub const MAX_INPUT: usize = 1_048_576;
