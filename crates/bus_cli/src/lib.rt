@@ -23,4 +23,6 @@ pub use laws::one_answer;
 pub use line::rom_line;
 pub use script_run::{kind_word, script_line};
 pub use top::bus_main;
-pub use top_call::{MAX_INPUT, NO_FORM, NO_MEMORY, READ_FAULT, REFUSED, TOO_LONG, VALID, WRITE_FAULT};
+pub use top_call::{
+    MAX_INPUT, NO_FORM, NO_MEMORY, READ_FAULT, REFUSED, TOO_LONG, VALID, WRITE_FAULT,
+};

@@ -107,6 +107,8 @@ impl NodeSet {
     /// Takes the lowest node out of the set; `None` where it is empty.
     pub fn take_least(&mut self) -> Option<u8>
         ensures held { IfSome result (λ node. Holds self.old node) }
+        ensures lowest { IfSome result (λ node. (other : ℕ) →
+            Holds self.old other → node ≤ other) }
         ensures gone { IfSome result (λ node. Holds self.new node → ⊥) }
         ensures others { IfSome result (λ node. AgreeBut self.old self.new node) }
         ensures fewer { IfSome result (λ node. self.new < self.old) }

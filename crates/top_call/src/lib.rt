@@ -10,4 +10,6 @@ mod status;
 
 pub use asked::{Asked, Told};
 pub use call::answer;
-pub use status::{MAX_INPUT, NO_FORM, NO_MEMORY, READ_FAULT, REFUSED, TOO_LONG, VALID, WRITE_FAULT};
+pub use status::{
+    MAX_INPUT, NO_FORM, NO_MEMORY, READ_FAULT, REFUSED, TOO_LONG, VALID, WRITE_FAULT,
+};

@@ -1,5 +1,5 @@
 use Rattle.std.proofs.Common.{arith}
-use Rattle.cabling.proofs.Bits.{below, some_node, removed-gone, removed-less, removed-others, removed-small}
+use Rattle.cabling.proofs.Bits.{below, lowest, some_node, removed-gone, removed-less, removed-others, removed-small}
 use Rattle.cabling.proofs.node_set.NodeSet.take_least.Goals as goal
 
 pub invariant_of-self : goal.invariant_of-self
@@ -23,3 +23,6 @@ returns-clause-fewer c =
     let held = some_node c.self.inside.bits (omega arith) c.self.invariant in
     let small : _ = below c.self.inside.bits _ c.self.invariant held in
     rw (← c.self.view_is) (removed-less c.self.inside.bits _ (omega (arith, c.self.invariant)) (omega (arith, small)) held)
+
+pub returns-clause-lowest : goal.returns-clause-lowest
+returns-clause-lowest c = rw (← c.self.view_is) (lowest c.self.inside.bits (omega arith) c.self.invariant)
