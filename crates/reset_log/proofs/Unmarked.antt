@@ -1,11 +1,11 @@
 -- A line without a mark is none that is shown.
-use Rattle.std.proofs.Common.{◌≡◌, ◌∙◌, ℕ, zero, suc, ◌+◌, ◌<◌, Bool, true, false, ◌==◌, List, [], ◌∷◌, Option, Some, None, length, take, drop, refl, sym, ap, subst, arith}
+use Rattle.std.proofs.Common.{◌≡◌, ◌∙◌, ℕ, zero, suc, ◌+◌, ◌<◌, ◌≤◌, Bool, true, false, ◌==◌, List, [], ◌∷◌, ◌++◌, Option, Some, None, length, take, drop, refl, sym, ap, subst, arith}
 use Rattle.memchr.specs.Find.{Nowhere, Passes, is_byte}
 use Rattle.std.proofs.lemmas.Bool.{false≢true}
 use Rattle.std.specs.Prelude.{not, if◌then◌else◌, ◌||◌, ◌&&◌, ◌-◌, cond, filter, is_some, codes}
 use Rattle.std.specs.List.{All, slice_split, onto_first}
 use Rattle.std.specs.Str.{bytes_eq}
-use Rattle.std.proofs.lemmas.Bool.Decides.{nat_tests}
+use Rattle.std.proofs.lemmas.List.{take_all, take_at}
 use Rattle.std.proofs.lemmas.Slice.Eq.{bytes_eq-Decides}
 use Rattle.std.proofs.lemmas.List.Elements.{All-nil, All-cons, All-head, All-tail, All-filter}
 use Rattle.line_words.specs.Words.{is_some_text, words_by}
@@ -202,6 +202,36 @@ passed_over line unmarked unlost =
       not_listed None (words_of (take 65536 line)) words,
       not_said (words_of (take 65536 line)) words,
     ) refl
+
+pub nothing_shown : (line : List ℕ) → length line ≤ 65536 → has_mark line ≡ false →
+    begins_loss line ≡ false → line_of line ≡ Other
+nothing_shown line few unmarked unlost =
+    let whole : line ≡ take 65536 line = sym (take_all 65536 line few) in
+    passed_over line (subst (λ (l : List ℕ). has_mark l ≡ false) whole unmarked)
+    (subst (λ (l : List ℕ). begins_loss l ≡ false) whole unlost)
+
+-- ---- the lines of an unmarked text
+
+-- a test that is passed where there is none
+pub no_mark : (marked found : Bool) → found ≡ marked → not found ≡ true → marked ≡ false
+no_mark true true e h = absurd cc
+no_mark true false e h = absurd cc
+no_mark false found e h = refl
+
+pub unmarked_line : (text line behind : List ℕ) → text ≡ line ++ 10 ∷ behind → Unmarked text →
+    Unmarked line
+unmarked_line text line behind e h =
+    let whole : Unmarked (line ++ 10 ∷ behind) = subst Unmarked e h in
+    subst Unmarked (take_at line (10 ∷ behind) (length line) refl)
+    (unmarked_take (line ++ 10 ∷ behind) (length line) whole)
+
+pub unmarked_behind : (text line behind : List ℕ) → text ≡ line ++ 10 ∷ behind → Unmarked text →
+    Unmarked behind
+unmarked_behind text line behind e h = go line (subst Unmarked e h)
+  where
+    go : (first : List ℕ) → Unmarked (first ++ 10 ∷ behind) → Unmarked behind
+    go [] whole = unmarked_tail 10 behind whole
+    go (c ∷ cs) whole = go cs (unmarked_tail c (cs ++ 10 ∷ behind) whole)
 
 -- ---- going over the underscores
 

@@ -1,13 +1,16 @@
 //! Showing a log as it comes.
-ghost use Rattle.std.specs.Prelude.{◌≡◌, ◌≢◌, ◌↔◌, ◌<◌, ◌≤◌, ◌+◌, ◌++◌, ◌∷◌, [], ℕ, Bool, true, List, length, OnOk, OnErr, IfOk, IfErr, IfSome, IfNone, IsErr, IsErrOf};
+ghost use Rattle.std.specs.Prelude.{◌≡◌, ◌≢◌, ◌↔◌, ◌<◌, ◌≤◌, ◌+◌, ◌++◌, ◌∷◌, [], ℕ, Bool, true, false, List, length, OnOk, OnErr, IfOk, IfErr, IfSome, IfNone, IsErr, IsErrOf};
 ghost use Rattle.std.specs.Io.KnownBytes.{IsAtEnd, Consumes};
 ghost use Rattle.bus_json.specs.Lines.{GathersJsonLines, WritesJsonLines};
 ghost use Rattle.io_edges.specs.Faults.{Rose};
 ghost use Rattle.io_edges.specs.Told.{IfTold, TookOver};
 ghost use Rattle.self_id.specs.declared.standard.Standard.{Standard};
 ghost use Rattle.reset_log.specs.declared.form.LogForm.{LogForm};
-ghost use Rattle.reset_log.specs.codings.Going.{IsNew, Holds, Stands, ShowsLine, ShowsWhole, KeepsBytes, IsOneLine, Begun, BreaksText, Broke, ShowsLines, ShowsAll};
+ghost use Rattle.reset_log.specs.codings.Going.{IsNew, Holds, Stands, ShowsLine, ShowsWhole, CountsWhole, KeepsBytes, IsOneLine, Begun, BreaksText, Broke, ShowsLines, ShowsAll};
 ghost use Rattle.reset_log.specs.codings.InJson.{IfJson};
+ghost use Rattle.reset_log.specs.codings.Marks.{has_mark};
+ghost use Rattle.reset_log.specs.declared.line.LogLine.{LogLine};
+ghost use Rattle.reset_log.specs.Line.{line_of};
 ghost use Rattle.reset_log.specs.Cause.{StoppedWriting};
 ghost use Rattle.reset_log.specs.Log.{parted, lines_of, IsLogShown, AreWritten, AreBegun};
 ghost use Rattle.reset_log.specs.Wrote.{Wrote, WroteFront, WroteFrontOf};
@@ -17,6 +20,7 @@ ghost use Rattle.reset_log.specs.Answered.{IsExact, IsComplete, IsFront, IsSure}
 
 use crate::form::LogForm;
 use crate::line::front;
+use crate::marks::{begins_loss, has_mark};
 use crate::notes::Notes;
 use crate::shown::{show_line, totals_text};
 use crate::stop::LogStop;
@@ -109,6 +113,16 @@ impl LogReader {
         self.line.is_empty() && bytes.len() <= MAX_LINE
     }
 
+    /// Counts a line that came whole, with its line feed.
+    fn count_whole(&mut self, line: &[u8])
+        ensures counts { CountsWhole self.old self.new line.now }
+        ensures passes { line_of line.now ≡ LogLine.Other →
+            (out : List ℕ) → ShowsWhole self.old self.new line.now out out }
+    {
+        self.number = self.number.saturating_add(1);
+        self.taken = self.taken.saturating_add(line.len()).saturating_add(1);
+    }
+
     /// Shows a line that came whole, with its line feed, behind what was gathered.
     fn show_whole(
         &mut self,
@@ -124,8 +138,7 @@ impl LogReader {
         let shown = show_line(alloc, self.form, &mut self.notes, self.number, line)?;
         out.extend_from_slice(&shown.text)?;
         self.bad = self.bad || shown.bad;
-        self.number = self.number.saturating_add(1);
-        self.taken = self.taken.saturating_add(line.len()).saturating_add(1);
+        self.count_whole(line);
         Ok(())
     }
 
@@ -139,8 +152,27 @@ impl LogReader {
         Ok(())
     }
 
+    /// Whether a line that ends with these bytes came whole, and a glance tells that nothing is
+    /// shown of it. `quiet` says that there is no mark of an event in the bytes.
+    fn is_idle(&self, quiet: bool, bytes: &[u8]) -> bool
+        requires unmarked { quiet ≡ true → has_mark bytes.now ≡ false }
+        ensures none { result ≡ true → line_of bytes.now ≡ LogLine.Other }
+        ensures kept { result ≡ true → self.now.line.items ≡ [] }
+        ensures few { result ≡ true → length bytes.now ≤ 65536 }
+    {
+        quiet && self.is_whole(bytes) && !begins_loss(bytes)
+    }
+
     /// Takes the last bytes of a line and its line feed, and shows the line behind what was gathered.
-    fn end_line(&mut self, alloc: Global, bytes: &[u8], out: &mut Vec<u8>) -> Result<(), AllocError>
+    /// `quiet` says that there is no mark of an event in the bytes.
+    fn end_line(
+        &mut self,
+        alloc: Global,
+        quiet: bool,
+        bytes: &[u8],
+        out: &mut Vec<u8>,
+    ) -> Result<(), AllocError>
+        requires unmarked { quiet ≡ true → has_mark bytes.now ≡ false }
         ensures ok { OnOk result ((done text : List ℕ) → IsOneLine bytes.now →
             length done + length bytes.now < 9223372036854775807 →
             Holds self.old done (text ++ out.old.items) →
@@ -149,6 +181,10 @@ impl LogReader {
         ensures json { IfJson self.old.form (GathersJsonLines out.old.items out.new.items) }
         ensures same { OnOk result (self.new.form ≡ self.old.form) }
     {
+        if self.is_idle(quiet, bytes) {
+            self.count_whole(bytes);
+            return Ok(());
+        }
         if self.is_whole(bytes) {
             self.show_whole(alloc, bytes, out)?;
             return Ok(());
@@ -172,9 +208,10 @@ impl LogReader {
         ensures json { IfJson self.old.form (GathersJsonLines out.old.items out.new.items) }
         ensures same { OnOk result (self.new.form ≡ self.old.form) }
     {
+        let quiet = !has_mark(bytes);
         let mut rest = bytes;
         while let Some((line, behind)) = cut(rest) {
-            self.end_line(alloc, line, out)?;
+            self.end_line(alloc, quiet, line, out)?;
             rest = behind;
         }
         self.keep(rest)?;

@@ -57,7 +57,7 @@ fn is_mark(text: &[u8]) -> bool
 }
 
 /// Whether a mark of one of the names stands in a line.
-fn has_mark(line: &[u8]) -> bool
+pub(crate) fn has_mark(line: &[u8]) -> bool
     ensures { result ≡ has_mark line.now }
 {
     let mut rest = line;
@@ -71,7 +71,7 @@ fn has_mark(line: &[u8]) -> bool
 }
 
 /// Whether the first word of a line begins as that of a line on lost events.
-fn begins_loss(line: &[u8]) -> bool
+pub(crate) fn begins_loss(line: &[u8]) -> bool
     ensures { result ≡ begins_loss line.now }
 {
     let mut rest = line;

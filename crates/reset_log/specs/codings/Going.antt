@@ -1,5 +1,5 @@
 -- Where the reader of a log stands.
-use Rattle.std.specs.Prelude.{◌≡◌, ◌⊎◌, ℕ, ◌+◌, ◌<◌, ◌≤◌, ◌^◌, ◌||◌, Bool, false, Option, List, [], ◌∷◌, ◌++◌, length, take}
+use Rattle.std.specs.Prelude.{◌≡◌, ◌⊎◌, ℕ, ◌+◌, ◌<◌, ◌≤◌, ◌^◌, ◌||◌, Bool, false, Option, List, [], ◌++◌, length, take}
 use Rattle.std.specs.Io.KnownBytes.{Consumes}
 use Rattle.io_edges.specs.Told.{StayTold}
 use Rattle.reset_log.specs.declared.form.LogForm.{LogForm}
@@ -54,6 +54,15 @@ pub record ShowsWhole (old new : LogReader) (line was is : List ℕ) : Type 0 wh
   pub gathered : is ≡ was ++ text
   pub bad : new.bad ≡ old.bad || here
   pub form : new.form ≡ old.form
+  pub line_is : new.line.items ≡ old.line.items
+  pub number_is : old.number < 2 ^ 63 → new.number ≡ old.number + 1
+  pub taken_is : old.taken + length line < 2 ^ 63 → new.taken ≡ old.taken + length line + 1
+
+-- a line that came whole was counted, with its line feed
+pub record CountsWhole (old new : LogReader) (line : List ℕ) : Type 0 where
+  pub form : new.form ≡ old.form
+  pub notes : noted new.notes ≡ noted old.notes
+  pub bad : new.bad ≡ old.bad
   pub line_is : new.line.items ≡ old.line.items
   pub number_is : old.number < 2 ^ 63 → new.number ≡ old.number + 1
   pub taken_is : old.taken + length line < 2 ^ 63 → new.taken ≡ old.taken + length line + 1

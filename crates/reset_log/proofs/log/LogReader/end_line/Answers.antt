@@ -18,3 +18,14 @@ returns-then-is_whole-clause-ok c = λ done text one few h.
 
 pub returns-in_err-keep-clause-json : goal.returns-in_err-keep-clause-json
 returns-in_err-keep-clause-json c = gathered_none c.args.self.now.form c.args.out.now.items _ refl
+
+pub returns-then-is_idle-clause-ok : goal.returns-then-is_idle-clause-ok
+returns-then-is_idle-clause-ok c = λ done text one few h.
+    let idle = c.is_idle.ensures in
+    let gathered = c.args.out.now.items in
+    let passed = c.count_whole.ensures.passes (idle.none c.if-is_idle.true) gathered in
+    after_whole c.args.self.now c.count_whole.new.self done c.args.bytes.now text gathered gathered
+    one few (idle.few c.if-is_idle.true) (idle.kept c.if-is_idle.true) h passed
+
+pub returns-then-is_idle-clause-json : goal.returns-then-is_idle-clause-json
+returns-then-is_idle-clause-json c = gathered_none c.args.self.now.form c.args.out.now.items _ refl

@@ -4,6 +4,8 @@ use Rattle.reset_log.proofs.Standing.{after_bytes}
 use Rattle.reset_log.proofs.Fronts.{begun_so_far}
 use Rattle.reset_log.proofs.Going.{took_on, few_on, few_left, few_next}
 use Rattle.reset_log.proofs.InJson.{gathered_none, gathered_next}
+use Rattle.reset_log.proofs.Unmarked.{no_mark, unmarked_line, unmarked_behind}
+use Rattle.reset_log.specs.codings.Marks.{has_mark}
 use Rattle.reset_log.proofs.log.LogReader.gather.Goals as goal
 
 pub loop-line-init : goal.loop-line-init
@@ -13,6 +15,7 @@ loop-line-init c = (
   λ done text few h. subst (λ (l : List ℕ). Holds c.args.self.now l (text ++ c.args.out.now.items)) (sym (append-nil done)) h,
   refl,
   gathered_none c.args.self.now.form c.args.out.now.items _ refl,
+  no_mark (has_mark c.args.bytes.now) c.has_mark-quiet.result c.has_mark-quiet.ensures,
 )
 
 pub loop-line-preserved : goal.loop-line-preserved
@@ -26,6 +29,9 @@ loop-line-preserved c =
           (c.in_ok-end_line.ensures.ok (done ++ so.0) text c.in-Some.ensures.first (few_next done c.args.bytes.now so.0 c.loop-line.rest.now c.in-Some.line.now c.in-Some.behind.now so.1 c.in-Some.ensures.cut few) (so.2 done text few h)),
       c.in_ok-end_line.ensures.same ∙ so.3,
       gathered_next c.args.self.now.form c.loop-line.self.form c.args.out.now.items c.loop-line.out.items _ so.3 so.4 c.in_ok-end_line.ensures.json,
+      λ quiet.
+          let here = c.in-Some in
+          unmarked_behind c.loop-line.rest.now here.line.now here.behind.now here.ensures.cut (so.5 quiet),
     )
 
 pub loop-line-smaller : goal.loop-line-smaller
@@ -64,3 +70,12 @@ returns-in_err-keep-clause-json c = c.loop-line.invariant.4
 
 pub returns-clause-json : goal.returns-clause-json
 returns-clause-json c = c.loop-line.invariant.4
+
+pub end_line-requires : goal.end_line-requires
+end_line-requires c = record {
+  unmarked =
+      λ quiet.
+      let here = c.in-Some in
+      let left = c.loop-line.rest.now in
+      unmarked_line left here.line.now here.behind.now here.ensures.cut (c.loop-line.invariant.5 quiet);
+}

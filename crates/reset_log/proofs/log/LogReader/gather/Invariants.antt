@@ -1,7 +1,8 @@
-use Rattle.std.proofs.Common.{◌≡◌, ◌+◌, ◌≤◌, ℕ, List, ◌++◌, length}
+use Rattle.std.proofs.Common.{◌≡◌, ◌+◌, ◌≤◌, ℕ, true, false, List, ◌++◌, length}
 use Rattle.bus_json.specs.Lines.{GathersJsonLines}
 use Rattle.reset_log.specs.codings.Going.{Holds}
 use Rattle.reset_log.specs.codings.InJson.{IfJson}
+use Rattle.reset_log.specs.codings.Marks.{has_mark}
 use Rattle.reset_log.proofs.log.LogReader.gather.Given as goal
 
 abbrev pub invariant-loop-line : goal.invariant-loop-line
@@ -11,6 +12,7 @@ invariant-loop-line l =
     Holds l.self (done ++ took) (text ++ l.out.items))
     × (l.self.form ≡ l.initial.self.form)
     × IfJson l.initial.self.form (GathersJsonLines l.initial.out.items l.out.items)
+    × (l.quiet ≡ true → has_mark l.rest ≡ false)
 
 abbrev pub decreases-loop-line : goal.decreases-loop-line
 decreases-loop-line l = length l.rest
