@@ -10,9 +10,15 @@ use Rattle.bus_cli.specs.declared.form.Form.{Form}
 use Rattle.bus_cli.specs.declared.form.Form.TheVariants.{Capture, Rom, Run, Advice, Make, OfItself}
 use Rattle.bus_cli.specs.declared.form.CaptureForm.TheVariants.{Read, Read95, Maps}
 use Rattle.bus_cli.specs.Form.{AreWordsOf, AreMakeWords, Asks, IsForm}
-use Rattle.top_call.proofs.Lemmas.{same, same-true}
+use Rattle.top_call.proofs.Lemmas.{both_true}
 
 -- ---- the form of words, found by trying them all
+
+same : List ℕ → List ℕ → Bool
+same [] [] = true
+same [] (y ∷ ys) = false
+same (x ∷ xs) [] = false
+same (x ∷ xs) (y ∷ ys) = cond (eqb x y) (same xs ys) false
 
 abbrev of_word : List ℕ → Option Form
 of_word word =
@@ -35,6 +41,16 @@ form_of [] = None
 form_of (word ∷ []) = of_word word
 form_of (word ∷ next ∷ []) = None
 form_of (word ∷ nodes ∷ seed ∷ words) = of_make (number_of nodes) (number_of seed)
+
+same-true : (xs ys : List ℕ) → same xs ys ≡ true → xs ≡ ys
+unfolding same
+same-true [] [] e = refl
+same-true [] (y ∷ ys) e = absurd cc
+same-true (x ∷ xs) [] e = absurd cc
+same-true (x ∷ xs) (y ∷ ys) e =
+    let p = both_true _ _ e in
+    let head : x ≡ y = eqb-true x y p.0 in
+    rw (head, same-true xs ys p.1) refl
 
 from_numbers : (a b : Option ℕ) (nodes seed : ℕ) → a ≡ Some nodes → b ≡ Some seed →
     of_make a b ≡ Some (Make nodes seed)
@@ -69,7 +85,7 @@ unfolding same
 same-itself [] = refl
 same-itself (z ∷ zs) = rw (eq-eqb z z refl, same-itself zs) refl
 
-pub same-is : (xs ys : List ℕ) → xs ≡ ys → same xs ys ≡ true
+same-is : (xs ys : List ℕ) → xs ≡ ys → same xs ys ≡ true
 same-is xs ys e = subst (λ (zs : List ℕ). same xs zs ≡ true) e (same-itself xs)
 
 -- ---- the word of each form
