@@ -11,7 +11,7 @@
 set -euo pipefail
 top=$(cd "$(dirname "${BASH_SOURCE[0]}")/.." && pwd)
 crates=(heapless_c busconf_c script_c)
-. "$top/tools/static.sh"
+. "$top/tools/lib/static.sh"
 
 # The tools for a machine: what the names of its binary tools begin with, its C compiler, the compilers that are to take the
 # header, and what runs its programs here.

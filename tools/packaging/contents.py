@@ -79,7 +79,7 @@ class Built:
     def __init__(self, vectors=None):
         self.version = text_of("tools/version")
         self.vectors = vectors
-        self.sources = text_of("bash", "-c", '. tools/sources.sh; sources_sum "$PWD"')
+        self.sources = text_of("bash", "-c", '. tools/lib/sources.sh; sources_sum "$PWD"')
         self.kit = self.kit_now()
         self.revision, self.epoch, self.owner = self.commit()
         self.programs = {name: self.stripped(f"crates/{name}/out/{name}", "--strip-all") for name in PROGRAMS}
@@ -150,7 +150,7 @@ sources   {self.sources}
 
 The kit proved every function that these programs and libraries stand on, and then built them of what was proved.
 `logic` stands in the programs themselves (readelf -p .comment busconf). `sources` is the checksum that
-tools/sources.sh makes of the sources and proofs of the revision. The files are as they were built, without their
+tools/lib/sources.sh makes of the sources and proofs of the revision. The files are as they were built, without their
 symbols:
 
 {sums}

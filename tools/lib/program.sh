@@ -1,6 +1,6 @@
 # Sourced by the wrappers at the top, which set top.
 # shellcheck shell=bash disable=SC2154
-. "$top/tools/sources.sh"
+. "$top/tools/lib/sources.sh"
 
 # The status of a wrapper that has no answer of the program to give. No program of this repository ends with it.
 NO_ANSWER=125

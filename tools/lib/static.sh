@@ -2,7 +2,7 @@
 # Sourced by tools that set top: makes the static library of a crate of calls for C, for a machine. Each is
 # proved anew by the kit's compiler, over the libraries below it that are proved; what the proof for one machine has checked
 # isn't checked again for the next.
-. "$top/tools/sources.sh"
+. "$top/tools/lib/sources.sh"
 
 # The kit's name of each machine.
 target_of() {
