@@ -12,7 +12,7 @@ pub use told::about_text;
 pub const VERSION: &str = "0.3.0";
 
 /// The kit that proved this version, as `rt version` says it.
-pub const KIT: &str = "rattle-kit-13b logic dac8208d650f15bf";
+pub const KIT: &str = "rattle-kit-13f logic dac8208d650f15bf";
 
 /// The standards by which the programs read and run buses.
 pub const STANDARDS: &str = "IEEE Std 1394-1995, IEEE Std 1394a-2000, IEEE Std 1212";
