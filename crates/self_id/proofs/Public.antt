@@ -9,9 +9,11 @@ use Rattle.self_id.specs.Refused.{GroupRefused}
 use Rattle.self_id.specs.codings.Reading.{read_at, Gives}
 use Rattle.self_id.proofs.Lemmas.{group-read_at, refused-read_at, read_at-group, read_at-refused}
 
--- what was read of the list q at a place
-abbrev pub Taken : Standard → ℕ → ℕ → List ℕ → Result (Node × ℕ) GroupFault → Type 0
-Taken standard at id q r = MatchResult r (λ x. Gives standard at id (drop at q) x.0 x.1) (λ f. read_at standard at id (drop at q) ≡ Err f)
+-- what was read of the list q at a place: a node, and the place after it or a fault
+abbrev pub Taken : Standard → ℕ → ℕ → List ℕ → Node → Result ℕ GroupFault → Type 0
+Taken standard at id q n r =
+    MatchResult r (λ x. Gives standard at id (drop at q) n x)
+    (λ f. read_at standard at id (drop at q) ≡ Err f)
 
 abbrev ok_node : Node → Result Node GroupFault
 ok_node n = Ok n
@@ -28,31 +30,40 @@ same_fault f g e = cc
 apart : (n : Node) (f : GroupFault) → ok_node n ≡ bad f → ⊥
 apart n f e = cc
 
-pub found : (standard : Standard) (at id : ℕ) (q : List ℕ) (r : Result (Node × ℕ) GroupFault) →
-    at < length q → Taken standard at id q r →
-    IfOk r (λ x. StandsAt standard q at id x.0 x.1)
-found standard at id q (Ok (n, after)) lt t =
+pub found : (standard : Standard) (at id : ℕ) (q : List ℕ) (n : Node) (r : Result ℕ GroupFault) →
+    at < length q → Taken standard at id q n r → IfOk r (λ x. StandsAt standard q at id n x)
+found standard at id q n (Ok after) lt t =
     let p = group-read_at standard at id (drop at q) n t.read in
-    let on : drop (length (group n id)) (drop at q) ≡ drop after q = drop-drop (length (group n id)) at q ∙ ap (λ (k : ℕ). drop k q) (sym t.place) in
-    let parts : drop at q ≡ group n id ++ drop after q = p.2 ∙ ap (λ (l : List ℕ). group n id ++ l) on in
-    let e : length q - at ≡ length (group n id) + length (drop after q) = sym (length-drop at q) ∙ ap length parts ∙ length-append (group n id) (drop after q) in
+    let on : drop (length (group n id)) (drop at q) ≡ drop after q =
+    drop-drop (length (group n id)) at q ∙ ap (λ (k : ℕ). drop k q) (sym t.place) in
+    let parts : drop at q ≡ group n id ++ drop after q =
+    p.2 ∙ ap (λ (l : List ℕ). group n id ++ l) on in
+    let e : length q - at ≡ length (group n id) + length (drop after q) =
+    sym (length-drop at q) ∙ ap length parts ∙ length-append (group n id) (drop after q) in
     record { is_node = p.0; is_of = p.1; parts = parts; place = t.place; inside = omega (arith, t.place) }
-found standard at id q (Err f) lt t = tt
+found standard at id q n (Err f) lt t = tt
 
-pub only : (standard : Standard) (at id : ℕ) (q : List ℕ) (r : Result (Node × ℕ) GroupFault) →
-    id ≤ 62 → Taken standard at id q r → (n : Node) → BeginsWith standard (drop at q) id n →
-    IsOkAnd r (λ x. x.0 ≡ n)
-only standard at id q (Ok (m, after)) lt t n h = same_node m n (sym t.read ∙ ap (read_at standard at id) h.parts ∙ read_at-group standard n at id h.rest h.is_node h.is_of lt)
-only standard at id q (Err f) lt t n h = absurd (apart n f (sym (read_at-group standard n at id h.rest h.is_node h.is_of lt) ∙ ap (read_at standard at id) (sym h.parts) ∙ t))
+pub only : (standard : Standard) (at id : ℕ) (q : List ℕ) (m : Node) (r : Result ℕ GroupFault) →
+    id ≤ 62 → Taken standard at id q m r → (n : Node) → BeginsWith standard (drop at q) id n →
+    IsOkAnd r (λ x. m ≡ n)
+only standard at id q m (Ok after) lt t n h =
+    same_node m n (sym t.read ∙ ap (read_at standard at id) h.parts
+    ∙ read_at-group standard n at id h.rest h.is_node h.is_of lt)
+only standard at id q m (Err f) lt t n h =
+    absurd (apart n f (sym (read_at-group standard n at id h.rest h.is_node h.is_of lt)
+    ∙ ap (read_at standard at id) (sym h.parts) ∙ t))
 
-pub refused : (standard : Standard) (at id : ℕ) (q : List ℕ) (r : Result (Node × ℕ) GroupFault) →
-    at < length q → Taken standard at id q r →
+pub refused : (standard : Standard) (at id : ℕ) (q : List ℕ) (n : Node) (r : Result ℕ GroupFault) →
+    at < length q → Taken standard at id q n r →
     IfErr r (λ f. GroupRefused standard at id (drop at q) f)
-refused standard at id q (Ok x) lt t = tt
-refused standard at id q (Err f) lt t = refused-read_at standard at id (drop at q) f (omega (arith, length-drop at q)) t
+refused standard at id q n (Ok x) lt t = tt
+refused standard at id q n (Err f) lt t =
+    refused-read_at standard at id (drop at q) f (omega (arith, length-drop at q)) t
 
-pub exact : (standard : Standard) (at id : ℕ) (q : List ℕ) (r : Result (Node × ℕ) GroupFault) →
-    id ≤ 62 → Taken standard at id q r → (f : GroupFault) →
+pub exact : (standard : Standard) (at id : ℕ) (q : List ℕ) (n : Node) (r : Result ℕ GroupFault) →
+    id ≤ 62 → Taken standard at id q n r → (f : GroupFault) →
     GroupRefused standard at id (drop at q) f → IsErrOf r f
-exact standard at id q (Ok (m, after)) lt t f is = absurd (apart m f (sym t.read ∙ read_at-refused standard at id (drop at q) f lt is))
-exact standard at id q (Err g) lt t f is = ap (λ (h : GroupFault). Err h) (same_fault g f (sym t ∙ read_at-refused standard at id (drop at q) f lt is))
+exact standard at id q n (Ok after) lt t f is =
+    absurd (apart n f (sym t.read ∙ read_at-refused standard at id (drop at q) f lt is))
+exact standard at id q n (Err g) lt t f is =
+    ap (λ (h : GroupFault). Err h) (same_fault g f (sym t ∙ read_at-refused standard at id (drop at q) f lt is))

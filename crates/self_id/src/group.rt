@@ -169,6 +169,35 @@ fn take_group(
     whole(at, at + 1, zero.attrs, first_ports(&zero), 0, 0, node)
 }
 
+/// Reads the group of the node with ID `wanted` that stands at a place of a list, by a standard, into
+/// the place of `node`.
+///
+/// `at` counts quadlets from 0 and lies inside the list; `wanted` is 0 to 62. The answer is the place
+/// after the group. Else it is the first rule that is broken, as `read_group_of` names it, and `node`
+/// is any node. It takes no memory.
+#[inline(always)]
+pub fn read_group_into(
+    standard: Standard,
+    quads: &[u32],
+    at: usize,
+    wanted: u8,
+    node: &mut SelfId,
+) -> Result<usize, GroupFault>
+    requires inside { at < length quads.now }
+    requires id { wanted ≤ 62 }
+    // The group of the node stands there, and the answered place follows it.
+    ensures found { IfOk result (λ x. StandsAt standard quads.now at wanted node.new x) }
+    // A node whose group stands there is read.
+    ensures only { (n : Node) → BeginsWith standard (drop at quads.now) wanted n
+        → IsOkAnd result (λ x. node.new ≡ n) }
+    // A fault that is answered is the list's, and the list's fault is answered.
+    ensures refused { IfErr result (λ f. GroupRefused standard at wanted (drop at quads.now) f) }
+    ensures exact { (f : GroupFault) → GroupRefused standard at wanted (drop at quads.now) f
+        → IsErrOf result f }
+{
+    take_group(standard, quads, at, wanted, node)
+}
+
 /// Reads the group of the node with ID `wanted` that stands at a place of a list, by a standard.
 ///
 /// `at` counts quadlets from 0 and lies inside the list; `wanted` is 0 to 62. The answer is the
@@ -196,7 +225,7 @@ pub fn read_group_of(
         → IsErrOf result f }
 {
     let mut node = SelfId::blank();
-    let after = take_group(standard, quads, at, wanted, &mut node)?;
+    let after = read_group_into(standard, quads, at, wanted, &mut node)?;
     Ok((node, after))
 }
 

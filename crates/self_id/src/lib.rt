@@ -12,7 +12,7 @@ mod standard;
 mod writing;
 
 pub use fault::GroupFault;
-pub use group::{read_group, read_group_of, read_group95};
+pub use group::{read_group, read_group_into, read_group_of, read_group95};
 pub use node::{Attrs, PortList, PortStatus, SelfId};
 pub use quad_group::QuadGroup;
 pub use slots::{count_down, count_up, slot_count};

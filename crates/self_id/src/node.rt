@@ -188,7 +188,7 @@ impl Eq for SelfId {
 impl SelfId {
     /// A node with three absent slots that says nothing else. A node is read into its place.
     #[inline(always)]
-    pub(crate) fn blank() -> SelfId {
+    pub fn blank() -> SelfId {
         let mut ports = PortList::new();
         ports.push(PortStatus::Absent);
         ports.push(PortStatus::Absent);

@@ -14,4 +14,5 @@ pub mod Joining
 pub mod Highest
 mod Lasting
 mod Streaming
+mod Behind
 mod Digits

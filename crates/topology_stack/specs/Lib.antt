@@ -3,6 +3,7 @@ pub mod Far
 pub mod Forest
 pub mod Refused
 pub mod Answer
+pub mod Behind
 pub mod OneAnswer
 pub mod Reader
 pub mod Elect

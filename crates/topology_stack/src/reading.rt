@@ -1,18 +1,40 @@
 //! Reading the nodes of a list and their links, with the first fault.
-ghost use Rattle.std.specs.Prelude.{◌≡◌, ℕ, List, [], IfOk};
+ghost use Rattle.std.specs.Prelude.{◌≡◌, ◌<◌, ℕ, List, [], length, IfOk};
 ghost use Rattle.topology_stack.specs.Tree.{Tree, IsBusTreeOf, walk, emits};
 ghost use Rattle.topology_stack.specs.Refused.{Refused};
 ghost use Rattle.topology_stack.specs.Answer.{IfFault};
+ghost use Rattle.topology_stack.specs.Behind.{IsReadBehind, IsGroupFault};
 ghost use Rattle.topology_stack.specs.Links.{AreLinks};
 
 use crate::fault::{TreeFault, TreeStop};
 use crate::links::{Links, Roots};
 use crate::waiting::{Waiting, after_node};
-use self_id::{SelfId, Standard, read_group_of};
+use self_id::{SelfId, Standard, read_group_into};
 use std::alloc::Global;
 
 /// The most nodes of a bus: IDs run from 0 to 62, and 63 means all nodes.
 pub(crate) const MAX_NODES: usize = 63;
+
+/// Reads the node whose group stands at a place of a list into the place behind the nodes that were
+/// read. The answer is the place after its group.
+#[inline]
+fn read_behind(
+    standard: Standard,
+    quads: &[u32],
+    at: usize,
+    nodes: &mut Vec<SelfId>,
+) -> Result<usize, TreeStop>
+    requires inside { at < length quads.now }
+    requires few { length nodes.old.items < 63 }
+    ensures found { IfOk result (λ place.
+        IsReadBehind standard quads.now at nodes.old.items nodes.new.items place) }
+    ensures refused { IfFault result (IsGroupFault standard quads.now at nodes.old.items) }
+{
+    let id = nodes.len();
+    nodes.push(SelfId::blank())?;
+    let after = read_group_into(standard, quads, at, id as u8, &mut nodes[id])?;
+    Ok(after)
+}
 
 /// The nodes, by ID, of the bus tree of a standard that emits a list. It links them.
 #[inline]
@@ -44,12 +66,12 @@ pub(crate) fn nodes_of(
         if nodes.len() == MAX_NODES {
             return Err(TreeStop::Fault(TreeFault::TooMany { at }));
         }
-        let (node, after) = read_group_of(standard, quads, at, nodes.len() as u8)?;
-        waiting = after_node(at, waiting.trees, &node)?;
+        let id = nodes.len();
+        let after = read_behind(standard, quads, at, &mut nodes)?;
+        waiting = after_node(at, waiting.trees, &nodes[id])?;
         let kept = waiting.trees as usize - 1;
         links.add(roots.latest(kept));
-        roots.join(kept, nodes.len() as u8);
-        nodes.push(node)?;
+        roots.join(kept, id as u8);
         at = after;
     }
     if waiting.rooted {
