@@ -1,5 +1,5 @@
 -- What a node says of itself in its self-ID packets.
-use Rattle.std.specs.Prelude.{◌≡◌, ℕ, zero, suc, ◌+◌, ◌%◌, ◌^◌, ◌<◌, ◌≤◌, Bool, ◌==◌, ◌||◌, if◌then◌else◌, IsTrue, List, [], ◌∷◌, length, refl}
+use Rattle.std.specs.Prelude.{◌≡◌, ℕ, zero, suc, ◌+◌, ◌%◌, ◌^◌, ◌<◌, ◌≤◌, Bool, false, ◌==◌, ◌||◌, if◌then◌else◌, IsTrue, List, [], ◌∷◌, length, refl}
 use Rattle.self_id.specs.declared.node.Attrs.{Attrs}
 use Rattle.self_id.specs.declared.node.PortStatus.{PortStatus}
 use Rattle.self_id.specs.declared.node.PortStatus.TheVariants.{Absent, Unplugged, Up, Down}
@@ -72,6 +72,12 @@ pub record HasForm (n : Node) : Type 0 where
   pub kept_a : n.kept_a < 2 ^ kept_a_bits (length n.ports)
   pub kept_b : n.kept_b < 2 ^ kept_b_bits (length n.ports)
   pub blank_b : n.kept_b % 2 ^ blank_b_bits (length n.ports) ≡ 0
+
+-- three absent slots, and nothing else
+abbrev pub blank : Node
+blank = node_with
+    (record { link = false; gap = 0; speed = 0; delay = 0; contender = false; power = 0; initiated = false })
+    (Absent ∷ Absent ∷ Absent ∷ []) 0 0
 
 -- and that has one parent at most
 pub record IsNode (n : Node) : Type 0 where

@@ -1,10 +1,10 @@
 //! The group of a node, read and written.
-ghost use Rattle.std.specs.Prelude.{◌≡◌, ◌+◌, ◌<◌, ◌≤◌, [], ◌∷◌, ◌++◌, length, drop, true, Ok, Err, MatchResult, IfOk, IfErr, IsOkAnd, IsErrOf};
+ghost use Rattle.std.specs.Prelude.{◌≡◌, ◌+◌, ◌<◌, ◌≤◌, [], ◌∷◌, ◌++◌, length, drop, true, Ok, Err, MatchResult, IfOk, IfErr, IsErr, IsOkAnd, IsErrOf};
 ghost use Rattle.phy_packet.specs.Layout.{spelled};
 ghost use Rattle.self_id.specs.Node.{Node, node_with, HasForm};
 ghost use Rattle.self_id.specs.Group.{StandsAt, BeginsWith};
 ghost use Rattle.self_id.specs.Refused.{GroupRefused};
-ghost use Rattle.self_id.specs.codings.Reading.{and_then, owned_at, zero_from, statuses, carried_a, carried_b, carried_c, single, read_at, Gives};
+ghost use Rattle.self_id.specs.codings.Reading.{and_then, owned_at, zero_from, statuses, carried_a, carried_b, carried_c, node3, single, read_at, Gives};
 ghost use Rattle.self_id.specs.declared.fault.GroupFault.{GroupFault};
 ghost use Rattle.self_id.specs.declared.standard.Standard.TheVariants.{Ieee1995, Ieee2000};
 
@@ -40,9 +40,10 @@ fn whole(
     node: &mut SelfId,
 ) -> Result<usize, GroupFault>
     requires { HasForm (node_with attrs ports kept_a kept_b) }
-    ensures { MatchResult result
+    ensures whole { MatchResult result
         (λ x. (Ok node.new ≡ single at (node_with attrs ports kept_a kept_b)) × (x ≡ after))
         (λ f. Err f ≡ single at (node_with attrs ports kept_a kept_b)) }
+    ensures kept { IsErr result → node.new ≡ node.old }
 {
     if count_up(ports.as_slice()) > 1 {
         return Err(GroupFault::TwoParents { at });
@@ -53,6 +54,35 @@ fn whole(
         kept_a,
         kept_b,
     };
+    Ok(after)
+}
+
+/// Writes the node of a group that is packet zero alone, unless it has two parents. The answer is the
+/// place after it. Its slots are written where they are kept, since a copy of bytes that were only
+/// just written takes a processor longer than all else here.
+#[inline]
+fn whole_of_three(
+    at: usize,
+    after: usize,
+    zero: &ZeroPart,
+    node: &mut SelfId,
+) -> Result<usize, GroupFault>
+    requires { HasForm (node3 zero.now) }
+    ensures whole { MatchResult result
+        (λ x. (Ok node.new ≡ single at (node3 zero.now)) × (x ≡ after))
+        (λ f. Err f ≡ single at (node3 zero.now)) }
+    ensures kept { IsErr result → node.new ≡ node.old }
+{
+    if count_up(&[zero.p0, zero.p1, zero.p2]) > 1 {
+        return Err(GroupFault::TwoParents { at });
+    }
+    node.attrs = zero.attrs;
+    node.ports.clear();
+    node.ports.push(zero.p0);
+    node.ports.push(zero.p1);
+    node.ports.push(zero.p2);
+    node.kept_a = 0;
+    node.kept_b = 0;
     Ok(after)
 }
 
@@ -117,8 +147,9 @@ fn take_further(
     requires inside { at < length quads.now }
     requires zero { Ok zero.now ≡ and_then (owned_at at wanted (drop at quads.now)) (zero_from at) }
     requires more { zero.now.more ≡ true }
-    ensures { MatchResult result (λ x. Gives standard at wanted (drop at quads.now) node.new x)
+    ensures read { MatchResult result (λ x. Gives standard at wanted (drop at quads.now) node.new x)
         (λ f. read_at standard at wanted (drop at quads.now) ≡ Err f) }
+    ensures kept { IsErr result → node.new ≡ node.old }
 {
     let mut ports = first_ports(zero);
     let first = further_part(further_quad(quads, at + 1, wanted, 0)?);
@@ -159,14 +190,15 @@ fn take_group(
     node: &mut SelfId,
 ) -> Result<usize, GroupFault>
     requires inside { at < length quads.now }
-    ensures { MatchResult result (λ x. Gives standard at wanted (drop at quads.now) node.new x)
+    ensures read { MatchResult result (λ x. Gives standard at wanted (drop at quads.now) node.new x)
         (λ f. read_at standard at wanted (drop at quads.now) ≡ Err f) }
+    ensures kept { IsErr result → node.new ≡ node.old }
 {
     let zero = zero_part(zero_quad(quads, at, wanted)?);
     if zero.more {
         return take_further(standard, quads, at, wanted, &zero, node);
     }
-    whole(at, at + 1, zero.attrs, first_ports(&zero), 0, 0, node)
+    whole_of_three(at, at + 1, &zero, node)
 }
 
 /// Reads the group of the node with ID `wanted` that stands at a place of a list, by a standard, into
@@ -174,7 +206,7 @@ fn take_group(
 ///
 /// `at` counts quadlets from 0 and lies inside the list; `wanted` is 0 to 62. The answer is the place
 /// after the group. Else it is the first rule that is broken, as `read_group_of` names it, and `node`
-/// is any node. It takes no memory.
+/// is as it was. It takes no memory.
 #[inline(always)]
 pub fn read_group_into(
     standard: Standard,
@@ -194,6 +226,7 @@ pub fn read_group_into(
     ensures refused { IfErr result (λ f. GroupRefused standard at wanted (drop at quads.now) f) }
     ensures exact { (f : GroupFault) → GroupRefused standard at wanted (drop at quads.now) f
         → IsErrOf result f }
+    ensures kept { IsErr result → node.new ≡ node.old }
 {
     take_group(standard, quads, at, wanted, node)
 }

@@ -100,6 +100,14 @@ impl PortList {
         }
     }
 
+    /// Empties the list.
+    #[inline]
+    pub fn clear(&mut self)
+        ensures { self.new ≡ [] }
+    {
+        self.items.clear();
+    }
+
     /// Appends the status of the next slot.
     #[inline]
     pub fn push(&mut self, status: PortStatus)
@@ -148,7 +156,7 @@ impl Model for SelfId {
     ghost invariant = { λ s. IsNode (node_with s.attrs s.ports s.kept_a s.kept_b) };
 }
 
-ghost use Rattle.self_id.specs.Node.{node_with, IsNode};
+ghost use Rattle.self_id.specs.Node.{node_with, IsNode, blank};
 ghost use Rattle.self_id.specs.Group.{group};
 
 /// A node that says the same. It takes no memory.
@@ -188,7 +196,9 @@ impl Eq for SelfId {
 impl SelfId {
     /// A node with three absent slots that says nothing else. A node is read into its place.
     #[inline(always)]
-    pub fn blank() -> SelfId {
+    pub fn blank() -> SelfId
+        ensures { result ≡ blank }
+    {
         let mut ports = PortList::new();
         ports.push(PortStatus::Absent);
         ports.push(PortStatus::Absent);
