@@ -98,5 +98,7 @@ pub use Rattle.cable_world.proofs.running.Still.{all-taken, idle-less, still-sil
 pub use Rattle.cable_world.proofs.running.Mixed.{mixed, mixed-all, mixed-length, mixed-none, take-all}
 -- Signals are put onto a node's wires one after the other.
 pub use Rattle.cable_world.proofs.running.Sending.{no-sends}
+-- What steps and acts leave as it is.
+pub use Rattle.cable_world.proofs.running.Touched.{kept-set, kept-then}
 -- That a world is lawful has one proof at most.
 pub use Rattle.cable_world.proofs.OneProof.{lawful_prop}

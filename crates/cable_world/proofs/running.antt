@@ -5,7 +5,7 @@
 -- `Lists`: whether a list changed is seen from its length. `AllNodes`: the tables of a turn, entry by entry.
 -- `Stepping`: a step of one node between two turns. `Whole`: a world by its parts, and its vectors. `Start`: the
 -- tables at power-on. `Acting`: steps of one node and of two, and the packet for a set of nodes. `Acts`: the four
--- acts. `Still`: turns in which nothing happens.
+-- acts. `Touched`: what steps and acts leave as it is. `Still`: turns in which nothing happens.
 pub mod Mixed
 pub mod Rows
 pub mod Sending
@@ -17,4 +17,5 @@ pub mod Whole
 pub mod Start
 pub mod Acting
 pub mod Acts
+pub mod Touched
 pub mod Still

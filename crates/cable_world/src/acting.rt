@@ -1,6 +1,7 @@
 //! Acts, over the parts of a world.
-ghost use Rattle.std.specs.Prelude.{◌≡◌, ◌<◌, ◌≤◌, ℕ, None, Some, [], length, map, slice_index_or, OnOk, if◌then◌else◌};
+ghost use Rattle.std.specs.Prelude.{◌≡◌, ◌<◌, ◌≤◌, ◌↔◌, ◌⊎◌, ℕ, None, Some, [], length, map, slice_index_or, IfOk, OnOk, if◌then◌else◌};
 ghost use Rattle.std.specs.Option.{ForSome};
+ghost use Rattle.cabling.specs.NodeSet.{Holds};
 ghost use Rattle.cabling.specs.Wiring.{Wiring};
 ghost use Rattle.port_state.specs.Config.{config_packet};
 ghost use Rattle.port_state.specs.declared.timing.Timing.{Timing};
@@ -10,7 +11,7 @@ ghost use Rattle.cable_world.specs.World.{put};
 ghost use Rattle.cable_world.specs.Act.{ActLeads, IsAct, IsConfigPacket, act_fault, change_in_set};
 ghost use Rattle.cable_world.specs.Answer.{IfFault, IsMemory};
 ghost use Rattle.cable_world.specs.running.NodeActs.{AreLawful};
-ghost use Rattle.cable_world.specs.running.ActEnds.{Ends};
+ghost use Rattle.cable_world.specs.running.ActEnds.{Ends, AreSameBut, TouchesOnly};
 ghost use Rattle.cable_world.specs.Parts.{world_record};
 ghost use Rattle.cable_world.specs.declared.act.Act.TheVariants as act;
 
@@ -26,7 +27,8 @@ fn clear_cable(wires: &mut [WireRow], a: End, b: End)
     requires a_port { a.port < length (slice_index_or wires.old a.node []) }
     requires b_node { b.node < length wires.old }
     requires b_port { b.port < length (slice_index_or wires.old b.node []) }
-    ensures { wires.new ≡ put b empty_wire (put a empty_wire wires.old) }
+    ensures done { wires.new ≡ put b empty_wire (put a empty_wire wires.old) }
+    ensures others { AreSameBut (λ k. (k ≡ a.node) ⊎ (k ≡ b.node)) wires.old wires.new }
 {
     wires[a.node as usize].clear(a.port);
     wires[b.node as usize].clear(b.port);
@@ -72,6 +74,18 @@ fn set_configs<M: PortMachine>(
     }
 }
 
+/// The set of two nodes, 0 to 62, or of one.
+fn both(a: u8, b: u8) -> NodeSet
+    requires a { a < 63 }
+    requires b { b < 63 }
+    ensures { (k : ℕ) → Holds result k ↔ ((k ≡ a) ⊎ (k ≡ b)) }
+{
+    let mut set = NodeSet::none();
+    set.insert(a);
+    set.insert(b);
+    set
+}
+
 /// Plugs a cable into two ends, when `turns` turns are done.
 fn plug_ends<M: PortMachine>(
     a: End,
@@ -82,16 +96,18 @@ fn plug_ends<M: PortMachine>(
     changed: &mut [u32],
     turns: u32,
     out: &mut Sends,
-) -> Result<(), ActStop>
+) -> Result<NodeSet, ActStop>
     requires lawful { AreLawful cabling.old (map M.record_of machines.old) wires.old changed.old
         turns }
-    ensures { Ends (act.Plug a b)
+    ensures ends { Ends (act.Plug a b)
         (λ d t. world_record d t cabling.old (map M.record_of machines.old) wires.old changed.old
         turns)
         (λ d t. world_record d t cabling.new (map M.record_of machines.new) wires.new changed.new
         turns)
         ((cabling.new ≡ cabling.old) × (machines.new ≡ machines.old)
         × (wires.new ≡ wires.old) × (changed.new ≡ changed.old)) result }
+    ensures touched { IfOk result (λ set. TouchesOnly set machines.old machines.new
+        wires.old wires.new) }
 {
     if let Err(fault) = cabling.plug(a, b) {
         return Err(ActStop::Fault(fault));
@@ -102,7 +118,7 @@ fn plug_ends<M: PortMachine>(
     if let Err(stop) = step_both(machines, wires, changed, first, second, turns, out) {
         return Err(ActStop::Memory(stop));
     }
-    Ok(())
+    Ok(both(a.node, b.node))
 }
 
 /// Pulls the cable at an end, when `turns` turns are done.
@@ -114,16 +130,18 @@ fn pull_end<M: PortMachine>(
     changed: &mut [u32],
     turns: u32,
     out: &mut Sends,
-) -> Result<(), ActStop>
+) -> Result<NodeSet, ActStop>
     requires lawful { AreLawful cabling.old (map M.record_of machines.old) wires.old changed.old
         turns }
-    ensures { Ends (act.Pull end)
+    ensures ends { Ends (act.Pull end)
         (λ d t. world_record d t cabling.old (map M.record_of machines.old) wires.old changed.old
         turns)
         (λ d t. world_record d t cabling.new (map M.record_of machines.new) wires.new changed.new
         turns)
         ((cabling.new ≡ cabling.old) × (machines.new ≡ machines.old)
         × (wires.new ≡ wires.old) × (changed.new ≡ changed.old)) result }
+    ensures touched { IfOk result (λ set. TouchesOnly set machines.old machines.new
+        wires.old wires.new) }
 {
     let cable = match cabling.pull(end) {
         Err(fault) => return Err(ActStop::Fault(fault)),
@@ -135,7 +153,7 @@ fn pull_end<M: PortMachine>(
     if let Err(stop) = step_both(machines, wires, changed, first, second, turns, out) {
         return Err(ActStop::Memory(stop));
     }
-    Ok(())
+    Ok(both(end.node, cable.b.node))
 }
 
 /// A node resets the bus, when `turns` turns are done. The cables are any.
@@ -146,14 +164,16 @@ fn reset_node<M: PortMachine>(
     changed: &mut [u32],
     turns: u32,
     out: &mut Sends,
-) -> Result<(), ActStop>
+) -> Result<NodeSet, ActStop>
     requires lawful { (c : Wiring) × AreLawful c (map M.record_of machines.old) wires.old
         changed.old turns }
-    ensures { (c : Wiring) → Ends (act.Reset node)
+    ensures ends { (c : Wiring) → Ends (act.Reset node)
         (λ d t. world_record d t c (map M.record_of machines.old) wires.old changed.old turns)
         (λ d t. world_record d t c (map M.record_of machines.new) wires.new changed.new turns)
         ((machines.new ≡ machines.old) × (wires.new ≡ wires.old)
         × (changed.new ≡ changed.old)) result }
+    ensures touched { IfOk result (λ set. TouchesOnly set machines.old machines.new
+        wires.old wires.new) }
 {
     if node as usize >= machines.len() {
         return Err(ActStop::Fault(CableFault::NoNode {
@@ -164,7 +184,7 @@ fn reset_node<M: PortMachine>(
     if let Err(stop) = step_node(machines, wires, changed, node, act, turns, out) {
         return Err(ActStop::Memory(stop));
     }
-    Ok(())
+    Ok(both(node, node))
 }
 
 /// A node sends a configuration packet and resets the bus, when `turns` turns are done.
@@ -179,17 +199,19 @@ fn send_config<M: PortMachine>(
     changed: &mut [u32],
     turns: u32,
     out: &mut Sends,
-) -> Result<(), ActStop>
+) -> Result<NodeSet, ActStop>
     requires is { IsConfigPacket (config_packet root_id force gap) }
     requires lawful { AreLawful cabling.now (map M.record_of machines.old) wires.old changed.old
         turns }
-    ensures { Ends (act.Config from root_id force gap)
+    ensures ends { Ends (act.Config from root_id force gap)
         (λ d t. world_record d t cabling.now (map M.record_of machines.old) wires.old changed.old
         turns)
         (λ d t. world_record d t cabling.now (map M.record_of machines.new) wires.new changed.new
         turns)
         ((machines.new ≡ machines.old) × (wires.new ≡ wires.old)
         × (changed.new ≡ changed.old)) result }
+    ensures touched { IfOk result (λ set. TouchesOnly set machines.old machines.new
+        wires.old wires.new) }
 {
     if from as usize >= machines.len() {
         return Err(ActStop::Fault(CableFault::NoNode {
@@ -204,7 +226,7 @@ fn send_config<M: PortMachine>(
     if let Err(stop) = step_node(machines, wires, changed, from, act, turns, out) {
         return Err(ActStop::Memory(stop));
     }
-    Ok(())
+    Ok(NodeSet::first(machines.len() as u8))
 }
 
 /// Does an act, as `act_world` has it.
@@ -216,17 +238,19 @@ fn do_act<M: PortMachine>(
     changed: &mut [u32],
     turns: u32,
     out: &mut Sends,
-) -> Result<(), ActStop>
+) -> Result<NodeSet, ActStop>
     requires is { IsAct act.now }
     requires lawful { AreLawful cabling.old (map M.record_of machines.old) wires.old changed.old
         turns }
-    ensures { Ends act.now
+    ensures ends { Ends act.now
         (λ d t. world_record d t cabling.old (map M.record_of machines.old) wires.old changed.old
         turns)
         (λ d t. world_record d t cabling.new (map M.record_of machines.new) wires.new changed.new
         turns)
         ((cabling.new ≡ cabling.old) × (machines.new ≡ machines.old)
         × (wires.new ≡ wires.old) × (changed.new ≡ changed.old)) result }
+    ensures touched { IfOk result (λ set. TouchesOnly set machines.old machines.new
+        wires.old wires.new) }
 {
     match *act {
         Act::Plug { a, b } => plug_ends(a, b, cabling, machines, wires, changed, turns, out),
@@ -243,7 +267,8 @@ fn do_act<M: PortMachine>(
     }
 }
 
-/// Does an act, when `turns` turns are done.
+/// Does an act, when `turns` turns are done. Answers which nodes it may have touched: the others and
+/// their wires are as they were.
 pub fn act_world<M: PortMachine>(
     act: &Act,
     cabling: &mut Cabling,
@@ -252,7 +277,7 @@ pub fn act_world<M: PortMachine>(
     changed: &mut [u32],
     turns: u32,
     out: &mut Sends,
-) -> Result<(), ActStop>
+) -> Result<NodeSet, ActStop>
     requires is { IsAct act.now }
     requires lawful { AreLawful cabling.old (map M.record_of machines.old) wires.old changed.old
         turns }
@@ -271,6 +296,8 @@ pub fn act_world<M: PortMachine>(
     ensures memory { IsMemory result → (d : ℕ) (t : Timing) → act_fault act.now
         (world_record d t cabling.old (map M.record_of machines.old) wires.old changed.old turns)
         ≡ None }
+    ensures touched { IfOk result (λ set. TouchesOnly set machines.old machines.new
+        wires.old wires.new) }
 {
     do_act(act, cabling, machines, wires, changed, turns, out)
 }

@@ -1,8 +1,9 @@
 //! A step of one node between two turns.
-ghost use Rattle.std.specs.Prelude.{◌≡◌, ◌≢◌, ◌<◌, ℕ, [], length, map, slice_get, slice_index_or, OnOk, IfOk, IsSomeAnd, IsTrue, IsFalse, if◌then◌else◌};
+ghost use Rattle.std.specs.Prelude.{◌≡◌, ◌≢◌, ◌<◌, ◌⊎◌, ℕ, [], length, map, slice_get, slice_index_or, OnOk, IfOk, IsSomeAnd, IsTrue, IsFalse, if◌then◌else◌};
 ghost use Rattle.port_state.specs.Ports.{is_connected};
 ghost use Rattle.port_state.specs.Machine.{node_disturb, node_plugged, node_pulled};
 ghost use Rattle.cable_world.specs.Turn.{wires_after_sends, same_list};
+ghost use Rattle.cable_world.specs.running.ActEnds.{AreSameBut};
 ghost use Rattle.cable_world.specs.running.NodeActs.{step_of, Suits, note_step, note_both, StepLeads};
 
 use crate::all_nodes::last_change;
@@ -131,9 +132,11 @@ pub fn step_node<M: PortMachine>(
     requires rows { length wires.old ≡ length machines.old }
     requires changes { length changed.old ≡ length machines.old }
     requires suits { IsSomeAnd (slice_get (map M.record_of machines.old) node) (λ x. Suits act x) }
-    ensures { OnOk result (StepLeads (note_step node (step_of act)) turns
+    ensures leads { OnOk result (StepLeads (note_step node (step_of act)) turns
         (map M.record_of machines.old) wires.old changed.old
         (map M.record_of machines.new) wires.new changed.new) }
+    ensures machines { OnOk result (AreSameBut (λ k. k ≡ node) machines.old machines.new) }
+    ensures wires { OnOk result (AreSameBut (λ k. k ≡ node) wires.old wires.new) }
 {
     let node = node as usize;
     changed[node] = step_one(
@@ -166,10 +169,14 @@ pub fn step_both<M: PortMachine>(
         (λ x. Suits first.1 x) }
     requires second_suits { IsSomeAnd (slice_get (map M.record_of machines.old) second.0)
         (λ x. Suits second.1 x) }
-    ensures { OnOk result (StepLeads
+    ensures leads { OnOk result (StepLeads
         (note_both first.0 (step_of first.1) second.0 (step_of second.1)) turns
         (map M.record_of machines.old) wires.old changed.old
         (map M.record_of machines.new) wires.new changed.new) }
+    ensures machines { OnOk result (AreSameBut (λ k. (k ≡ first.0) ⊎ (k ≡ second.0))
+        machines.old machines.new) }
+    ensures wires { OnOk result (AreSameBut (λ k. (k ≡ first.0) ⊎ (k ≡ second.0))
+        wires.old wires.new) }
 {
     step_node(machines, wires, changed, first.0, first.1, turns, out)?;
     step_node(machines, wires, changed, second.0, second.1, turns, out)?;

@@ -115,7 +115,7 @@ impl<M: PortMachine> WorldRun for World<M> {
             &mut self.out,
         );
         match done {
-            Ok(()) => {
+            Ok(_) => {
                 self.spent = false;
                 Ok(())
             }

@@ -4,7 +4,7 @@
 -- doesn't visit. `Known`: what an agenda says. `Places`: the nodes that a loop hasn't come to. `Steps`: the
 -- tables of a turn, entry by entry. `Whole`: a world by its parts, and its vectors. `Mixed`: a table that a
 -- loop writes anew. `Turns`: turns, one after the other. `Ahead`: turns to come in which nothing happens.
--- `Alone`: the nodes that the next turn leaves alone.
+-- `Alone`: the nodes that the next turn leaves alone. `Touched`: what an act leaves of what is known.
 pub mod Blend
 pub mod Late
 pub mod Hears
@@ -19,4 +19,5 @@ pub mod Turns
 pub mod Whole
 pub mod Ahead
 pub mod Alone
+pub mod Touched
 pub mod Lemmas

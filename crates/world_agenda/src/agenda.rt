@@ -39,6 +39,8 @@ pub struct AgendaWorld<M: PortMachine> {
     arrivals: Vec<ArrivalRow>,
     changed: Vec<u32>,
     turns: u32,
+    // The last turn at whose end no node stood behind the others.
+    level: u32,
     // Which nodes are due.
     agenda: Agenda,
     // The nodes on whose wires something may be under way or arrive, or of which one may be held.
@@ -47,6 +49,8 @@ pub struct AgendaWorld<M: PortMachine> {
     spent: bool,
     ghost reached: { IsFalse spent → ∥ IsReached (world_record delay longest cabling
         (now_at turns nodes.items) wires.items changed.items turns) ∥₁ },
+    ghost early: { level ≤ turns },
+    ghost abreast: { IsFalse spent → level ≡ turns → All (λ n. n.clock ≡ turns) nodes.items },
     ghost behind: { IsFalse spent → All (λ n. n.clock ≤ turns) nodes.items },
     ghost idle: { All (λ n. turns ≤ n.clock + n.idle) nodes.items },
     ghost marks: { length changed.items ≡ length nodes.items },
@@ -120,6 +124,7 @@ impl<M: PortMachine + Drop> AgendaWorld<M> {
             changed: no_changes(alloc, machines.len())?,
             nodes: agenda_nodes(alloc, machines)?,
             turns: 0,
+            level: 0,
             out: Sends::new(),
             spent: false,
         })
@@ -189,8 +194,6 @@ impl<M: PortMachine> WorldRun for AgendaWorld<M> {
         worlds_stay_lawful();
         worlds_stay_reached();
         self.spent = true;
-        self.agenda = Agenda::unknown();
-        self.live = NodeSet::first(self.cabling.nodes());
         let done = act_agenda(
             act,
             &mut self.cabling,
@@ -198,8 +201,12 @@ impl<M: PortMachine> WorldRun for AgendaWorld<M> {
             &mut self.wires,
             &mut self.changed,
             self.turns,
+            self.level,
             &mut self.out,
+            &mut self.agenda,
+            &mut self.live,
         );
+        self.level = self.turns;
         match done {
             Ok(()) => {
                 self.spent = false;

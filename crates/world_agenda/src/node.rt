@@ -52,13 +52,16 @@ impl<M: PortMachine> AgendaNode<M> {
     /// The machine comes to the end of turn number `turns`.
     pub fn catch_up(&mut self, turns: u32)
         requires { turns ≤ self.old.clock + self.old.idle }
-        ensures { M.record_of self.new.machine
+        ensures machine { M.record_of self.new.machine
             ≡ caught_up turns self.old.clock (M.record_of self.old.machine) }
+        ensures clock { self.old.clock ≤ turns → self.new.clock ≡ turns }
+        ensures end { self.new.clock + self.new.idle ≡ self.old.clock + self.old.idle }
     {
         let ticks = turns.saturating_sub(self.clock);
         if ticks > 0 {
             self.machine.pass(ticks);
             self.idle -= ticks;
+            self.clock = turns;
         }
     }
 

@@ -9,13 +9,14 @@ ghost use Rattle.cable_world.specs.Lawful.{IsLawful};
 ghost use Rattle.cable_world.specs.Parts.{world_record};
 ghost use Rattle.cable_world.specs.Turn.{turn, node_turn, wires_after_sends, same_list};
 ghost use Rattle.cable_world.specs.Turn.{all_wires_after_sends, last_changes};
-ghost use Rattle.cable_world.specs.running.Hearing.{AreQuietBut, inbox_of};
+ghost use Rattle.cable_world.specs.running.ActEnds.{AreSameBut};
+ghost use Rattle.cable_world.specs.running.Hearing.{AreQuietBut, Arriving, inbox_of};
 ghost use Rattle.cable_world.specs.running.NodeActs.{AreLawful};
 ghost use Rattle.cable_world.specs.running.Steps.{turns_of, HasItsPorts};
 ghost use Rattle.cabling.specs.NodeSet.{Holds, IsEmpty, AgreeBut, IsWithin};
 ghost use Rattle.world_agenda.specs.Clock.{caught_up};
 ghost use Rattle.world_agenda.specs.Now.{now_at};
-ghost use Rattle.world_agenda.specs.Agenda.{AreBelow, IdlesBut, Knows};
+ghost use Rattle.world_agenda.specs.Agenda.{AreAtBut, AreBelow, IdlesBut, Knows};
 ghost use Rattle.world_agenda.specs.Heard.{AreSparedBut};
 ghost use Rattle.world_agenda.specs.Live.{HasLive};
 
@@ -29,28 +30,42 @@ use port_state::{PortMachine, PortSet, Sends};
 
 // ---- between turns
 
-/// Every machine comes to the end of turn number `turns`.
-fn catch_up<M: PortMachine>(nodes: &mut [AgendaNode<M>], turns: u32)
-    requires { All (λ n. turns ≤ n.clock + n.idle) nodes.old }
-    ensures { map (λ n. M.record_of n.machine) nodes.new ≡ now_at turns nodes.old }
+/// Every machine comes to the end of turn number `turns`. If that is turn number `level`, each stands
+/// there already.
+fn catch_up<M: PortMachine>(nodes: &mut [AgendaNode<M>], turns: u32, level: u32)
+    requires behind { All (λ n. n.clock ≤ turns) nodes.old }
+    requires idle { All (λ n. turns ≤ n.clock + n.idle) nodes.old }
+    requires level { level ≡ turns → All (λ n. n.clock ≡ turns) nodes.old }
+    ensures nodes { map (λ n. M.record_of n.machine) nodes.new ≡ now_at turns nodes.old }
+    ensures clocks { All (λ n. n.clock ≡ turns) nodes.new }
+    ensures ends { map (λ n. n.clock + n.idle) nodes.new ≡ map (λ n. n.clock + n.idle) nodes.old }
 {
+    if level == turns {
+        return;
+    }
     for at in 0..nodes.len() {
         nodes[at].catch_up(turns);
     }
 }
 
-/// Every clock is set to turn number `turns`.
-fn set_clocks<M: PortMachine>(nodes: &mut [AgendaNode<M>], turns: u32)
+/// The clocks of the nodes of a set are set to turn number `turns`, at which those of the others stand.
+fn set_clocks<M: PortMachine>(nodes: &mut [AgendaNode<M>], set: NodeSet, turns: u32)
+    requires near { AreBelow set (length nodes.old) }
+    requires others { AreAtBut set turns (map (λ n. n.clock) nodes.old) }
     ensures clocks { All (λ n. n.clock ≡ turns) nodes.new }
     ensures nodes { map (λ n. M.record_of n.machine) nodes.new
         ≡ map (λ n. M.record_of n.machine) nodes.old }
+    ensures same { AreSameBut (Holds set) nodes.old nodes.new }
 {
-    for at in 0..nodes.len() {
-        nodes[at].clock = turns;
+    let mut left = set;
+    while let Some(node) = left.take_least() {
+        nodes[node as usize].clock = turns;
     }
 }
 
-/// Does an act, when `turns` turns are done. First every node catches up.
+/// Does an act, when `turns` turns are done. First every node catches up, unless each does stand there,
+/// at the end of turn number `level`. The nodes that the act may have touched may be due soon after it,
+/// and their wires may be live.
 pub fn act_agenda<M: PortMachine>(
     act: &Act,
     cabling: &mut Cabling,
@@ -58,11 +73,17 @@ pub fn act_agenda<M: PortMachine>(
     wires: &mut [WireRow],
     changed: &mut [u32],
     turns: u32,
+    level: u32,
     out: &mut Sends,
+    agenda: &mut Agenda,
+    live: &mut NodeSet,
 ) -> Result<(), ActStop>
     requires is { IsAct act.now }
+    requires behind { All (λ n. n.clock ≤ turns) nodes.old }
     requires idle { All (λ n. turns ≤ n.clock + n.idle) nodes.old }
+    requires level { level ≡ turns → All (λ n. n.clock ≡ turns) nodes.old }
     requires lawful { AreLawful cabling.old (now_at turns nodes.old) wires.old changed.old turns }
+    requires knows { Knows agenda.old.soon agenda.old.next (map (λ n. n.clock + n.idle) nodes.old) }
     ensures done { OnOk result ((d : ℕ) (t : Timing) → ActLeads act.now
         (world_record d t cabling.old (now_at turns nodes.old) wires.old changed.old turns)
         (world_record d t cabling.new (now_at turns nodes.new) wires.new changed.new turns)) }
@@ -79,11 +100,27 @@ pub fn act_agenda<M: PortMachine>(
     ensures memory { IsMemory result → (d : ℕ) (t : Timing) → act_fault act.now
         (world_record d t cabling.old (now_at turns nodes.old) wires.old changed.old turns) ≡ None }
     ensures clocks { All (λ n. n.clock ≡ turns) nodes.new }
+    ensures knows { (IsMemory result → ⊥) → Knows agenda.new.soon agenda.new.next
+        (map (λ n. n.clock + n.idle) nodes.new) }
+    ensures live { (IsMemory result → ⊥) → (table : Arriving) → HasLive live.old wires.old table →
+        HasLive live.new wires.new table }
 {
-    catch_up(nodes, turns);
-    let done = act_world(act, cabling, nodes, wires, changed, turns, out);
-    set_clocks(nodes, turns);
-    done
+    catch_up(nodes, turns, level);
+    match act_world(act, cabling, nodes, wires, changed, turns, out) {
+        Ok(touched) => {
+            set_clocks(nodes, touched, turns);
+            agenda.soon = agenda.soon.union(touched);
+            *live = live.union(touched);
+            Ok(())
+        }
+        Err(stop) => match stop {
+            ActStop::Fault(fault) => Err(ActStop::Fault(fault)),
+            ActStop::Memory(stop) => {
+                set_clocks(nodes, NodeSet::first(nodes.len() as u8), turns);
+                Err(ActStop::Memory(stop))
+            }
+        },
+    }
 }
 
 // ---- a turn

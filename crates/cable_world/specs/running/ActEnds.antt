@@ -1,5 +1,6 @@
 -- What comes of an act over the parts of a world.
-use Rattle.std.specs.Prelude.{◌≡◌, ℕ, Result, Ok, Err, None, Some, map, length}
+use Rattle.std.specs.Prelude.{◌≡◌, ◌<◌, ℕ, List, Result, Ok, Err, None, Some, map, length, slice_index_or}
+use Rattle.cabling.specs.NodeSet.{Nodes, Holds}
 use Rattle.cable_world.specs.declared.act.Act.{Act}
 use Rattle.cable_world.specs.declared.act.ActStop.{ActStop}
 use Rattle.cable_world.specs.declared.act.ActStop.TheVariants.{Fault, Memory}
@@ -16,9 +17,21 @@ pub record IsDone (act : Act) (w v : CableWorld) : Type 0 where
 -- Whatever the delay and the longest times, the act is done, or it is refused and `same` says that
 -- nothing changed, or it isn't refused and there is no memory for it.
 abbrev pub Ends :
-    Act → (ℕ → Timing → CableWorld) → (ℕ → Timing → CableWorld) → Type 0 →
-    Result (Unit {0}) ActStop → Type 0
+    {A : Type 0} → Act → (ℕ → Timing → CableWorld) → (ℕ → Timing → CableWorld) → Type 0 →
+    Result A ActStop → Type 0
 Ends act w v same (Ok x) = (d : ℕ) (t : Timing) → IsDone act (w d t) (v d t)
 Ends act w v same (Err (Fault f)) =
     same × ((d : ℕ) (t : Timing) → act_fault act (w d t) ≡ Some f)
 Ends act w v same (Err (Memory e)) = (d : ℕ) (t : Timing) → act_fault act (w d t) ≡ None
+
+-- the entries of a list, but for those of a set, are as they were
+abbrev pub AreSameBut : {A : Type 0} → (ℕ → Type 0) → List A → List A → Type 0
+AreSameBut {A} set old new =
+    (k : ℕ) (d : A) → (set k → ⊥) → slice_index_or new k d ≡ slice_index_or old k d
+
+-- an act touches no nodes, and no wires from nodes, but those of a set
+pub record TouchesOnly {A B : Type 0} (set : Nodes) (old new : List A) (old_wires new_wires : List B) :
+    Type 0 where
+  pub near : (k : ℕ) → Holds set k → k < length old
+  pub nodes : AreSameBut (Holds set) old new
+  pub wires : AreSameBut (Holds set) old_wires new_wires

@@ -1,4 +1,5 @@
-use Rattle.std.proofs.Common.{◌∙◌, List, None, length, map, refl, ap}
+use Rattle.std.proofs.Common.{◌∙◌, List, None, length, map, refl, ap, arith}
+use Rattle.std.proofs.lemmas.List.{length-map}
 use Rattle.cabling.proofs.Lemmas.{plugged}
 use Rattle.cable_world.specs.Wire.{Wire}
 use Rattle.cable_world.specs.World.{CableWorld}
@@ -6,6 +7,7 @@ use Rattle.cable_world.specs.Parts.{world_record}
 use Rattle.cable_world.proofs.Options.{some-at}
 use Rattle.cable_world.proofs.tables.TablesInActs.{has-wire}
 use Rattle.cable_world.proofs.running.Acts.{was-there, added-is, node-ready, both-long, cleared-long, plug-done}
+use Rattle.cable_world.proofs.running.Touched.{touched-both}
 use Rattle.cable_world.proofs.acting.plug_ends.Goals as goal
 
 pub clear_cable-requires-clause-a_port : goal.clear_cable-requires-clause-a_port
@@ -38,8 +40,8 @@ step_both-requires-clause-second_suits g c =
     let x = node-ready w c.args.b None c.requires.lawful.2.well_formed there added.free_b in
     some-at _ x.0 _ x.1 (x.2, x.3)
 
-pub returns : goal.returns
-returns g c d t =
+pub returns-clause-ends : goal.returns-clause-ends
+returns-clause-ends g c d t =
     let f = g.M.PortMachine.record_of in
     let w : CableWorld = world_record d t c.args.cabling.now (map f c.args.machines.now) c.args.wires.now c.args.changed.now c.args.turns in
     let a = c.args.a in
@@ -49,9 +51,31 @@ returns g c d t =
     record {
       accepted = c.in_default.ensures.ok.0 refl;
       leads = plug-done w v a b c.plug.new.self c.clear_cable.new.wires (added-is c.args.cabling.now c.plug.new.self a b added)
-          c.clear_cable.ensures (c.in_default-step_both.ensures d t c.plug.new.self);
+          c.clear_cable.ensures.done (c.in_default-step_both.ensures.leads d t c.plug.new.self);
       rows =
-          ap (λ (u : CableWorld). map length u.wires) (c.in_default-step_both.ensures d t c.plug.new.self)
+          ap (λ (u : CableWorld). map length u.wires) (c.in_default-step_both.ensures.leads d t c.plug.new.self)
           ∙ both-long a.node b.node _ _ (world_record d t c.plug.new.self (map f c.args.machines.now) c.clear_cable.new.wires c.args.changed.now c.args.turns)
-          ∙ ap (λ (rows : List (List Wire)). map length rows) c.clear_cable.ensures ∙ cleared-long c.args.wires.now a b;
+          ∙ ap (λ (rows : List (List Wire)). map length rows) c.clear_cable.ensures.done ∙ cleared-long c.args.wires.now a b;
     }
+
+pub both-requires-clause-a : goal.both-requires-clause-a
+both-requires-clause-a g c =
+    let added = c.in_default.ensures.added in
+    let there = was-there c.args.cabling.now c.plug.new.self c.args.a c.args.b c.args.a added.others (plugged c.plug.new.self c.args.a c.args.b added.joined) in
+    omega (arith, there.node, c.requires.lawful.2.well_formed.cabling.few_nodes)
+
+pub both-requires-clause-b : goal.both-requires-clause-b
+both-requires-clause-b g c =
+    let added = c.in_default.ensures.added in
+    let there = was-there c.args.cabling.now c.plug.new.self c.args.a c.args.b c.args.b added.others (plugged c.plug.new.self c.args.b c.args.a added.back) in
+    omega (arith, there.node, c.requires.lawful.2.well_formed.cabling.few_nodes)
+
+pub returns-clause-touched : goal.returns-clause-touched
+returns-clause-touched g c =
+    let f = c.requires.lawful.2.well_formed in
+    let added = c.in_default.ensures.added in
+    let many = length-map c.args.machines.now g.M.PortMachine.record_of in
+    let a = was-there c.args.cabling.now c.plug.new.self c.args.a c.args.b c.args.a added.others (plugged c.plug.new.self c.args.a c.args.b added.joined) in
+    let b = was-there c.args.cabling.now c.plug.new.self c.args.a c.args.b c.args.b added.others (plugged c.plug.new.self c.args.b c.args.a added.back) in
+    touched-both _ _ _ _ _ _ _ _ c.both.ensures (omega (arith, a.node, f.count, many)) (omega (arith, b.node, f.count, many))
+    c.in_default-step_both.ensures.machines c.clear_cable.ensures.others c.in_default-step_both.ensures.wires

@@ -44,6 +44,8 @@ invariant_of-self g c =
     ∙ sym (c.still_turns_pass.ensures k w (lawful-now w c.worlds_stay_lawful.ensures.reached (self.reached c.requires.sound)).well_formed.count still) in
     record {
       reached = λ fine. subst (λ v. ∥ IsReached v ∥₁) (sym done) (∥∥₁_map (self.reached c.requires.sound) (c.worlds_stay_reached.ensures.turns k w));
+      early = omega (arith, self.early);
+      abreast = λ fine e. absurd (omega (arith, e, some, self.early));
       behind = λ fine. All-weaker (λ n. n.clock ≤ self.turns) (λ n. n.clock ≤ self.turns + k) (λ n few. omega (arith, few)) self.nodes.items behind;
       idle = c.rest-rest.ensures.idle some;
       marks = self.marks;

@@ -46,6 +46,8 @@ invariant_of-result g c =
     record {
       reached = λ fine. subst (λ w. ∥ IsReached w ∥₁) (sym start)
           ∣ c.worlds_stay_reached.ensures.power_on (world_with_times d longest nodes) (power-on d longest nodes c.requires.some_delay c.requires.short_delay few h) forced ∣₁;
+      early = omega arith;
+      abreast = λ fine e. c.in_ok-agenda_nodes.ensures.clocks;
       behind = λ fine. All-weaker (λ n. n.clock ≡ 0) (λ n. n.clock ≤ 0) (λ n e. omega (arith, e)) agenda c.in_ok-agenda_nodes.ensures.clocks;
       idle = λ k e inside. omega arith;
       marks = ap length c.in_ok-no_changes.ensures ∙ length-replicate c.len-2.result 0 ∙ omega (arith, c.len-2.ensures, c.args.machines.ok.0) ∙ sym many;

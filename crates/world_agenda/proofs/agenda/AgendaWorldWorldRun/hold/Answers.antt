@@ -49,6 +49,8 @@ invariant_of-self g c =
     record {
       reached = λ fine. subst (λ rows. ∥ IsReached (record w { wires = rows }) ∥₁) (sym made)
           (∥∥₁_map (self.reached fine) (c.worlds_stay_reached.ensures.hold end c.args.turns w none));
+      early = self.early;
+      abreast = self.abreast;
       behind = self.behind;
       idle = self.idle;
       marks = self.marks;

@@ -1,4 +1,4 @@
-use Rattle.std.proofs.Common.{◌≡◌, ◌∙◌, ◌+◌, ◌≤◌, All, List, length, map, ap, sym, subst}
+use Rattle.std.proofs.Common.{◌≡◌, ◌∙◌, ◌+◌, ◌≤◌, All, List, length, map, ap, sym, subst, arith}
 use Rattle.std.proofs.lemmas.List.{with_items_is}
 use Rattle.std.proofs.Math.Logic.{∥∥₁_map}
 use Rattle.port_state.specs.Machine.{PortNode}
@@ -50,6 +50,8 @@ invariant_of-self g c =
     let cs = with_items_is self.changed new.changed (auto.changed ∙ c.deref_mut-3.ensures.len) in
     record {
       reached = λ fine. absurd cc;
+      early = self.early;
+      abreast = λ fine. absurd cc;
       behind = λ fine. absurd cc;
       idle = subst (λ xs. All (λ n. self.turns ≤ n.clock + n.idle) xs) (sym ns) c.turn_agenda.ensures.idle;
       knows = λ fine. absurd cc;
@@ -77,6 +79,8 @@ invariant_of-self-2 g c =
     (c.deref_mut-3.ensures.value, c.deref_mut-3.ensures.len, auto.changed) (c.in_ok-turn_agenda.ensures.done self.longest) in
     record {
       reached = λ fine. subst (λ v. ∥ IsReached v ∥₁) (sym (one-turn w _ done)) (∥∥₁_map (self.reached c.if-self.false) (c.worlds_stay_reached.ensures.turns 1 w));
+      early = omega (arith, self.early);
+      abreast = λ fine e. absurd (omega (arith, e, self.early));
       behind = λ fine. subst (λ xs. All (λ n. n.clock ≤ self.turns + 1) xs) (sym ns) c.in_ok-turn_agenda.ensures.behind;
       idle = subst (λ xs. All (λ n. self.turns + 1 ≤ n.clock + n.idle) xs) (sym ns) c.in_ok-turn_agenda.ensures.ahead;
       knows = λ fine. rw ns c.in_ok-turn_agenda.ensures.knows;
