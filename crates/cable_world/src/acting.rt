@@ -1,8 +1,9 @@
-//! Acts, over the parts of a world.
-ghost use Rattle.std.specs.Prelude.{◌≡◌, ◌<◌, ◌≤◌, ◌↔◌, ◌⊎◌, ℕ, None, Some, [], length, map, slice_index_or, IfOk, OnOk, if◌then◌else◌};
+//! Acts, over the parts of a world, and why holds are refused.
+ghost use Rattle.std.specs.Prelude.{◌≡◌, ◌<◌, ◌≤◌, ◌↔◌, ◌⊎◌, ℕ, None, Some, [], length, map, slice_index_or, IfNone, IfOk, IfSome, OnOk, if◌then◌else◌};
 ghost use Rattle.std.specs.Option.{ForSome};
 ghost use Rattle.cabling.specs.NodeSet.{Holds};
-ghost use Rattle.cabling.specs.Wiring.{Wiring};
+ghost use Rattle.cabling.specs.Change.{pull_fault};
+ghost use Rattle.cabling.specs.Wiring.{Wiring, HasEnd};
 ghost use Rattle.port_state.specs.Config.{config_packet};
 ghost use Rattle.port_state.specs.declared.timing.Timing.{Timing};
 ghost use Rattle.port_state.specs.Machine.{node_set_config};
@@ -300,4 +301,22 @@ pub fn act_world<M: PortMachine>(
         wires.old wires.new) }
 {
     do_act(act, cabling, machines, wires, changed, turns, out)
+}
+
+/// Why a hold of the wire that leaves an end is refused, if it is: no cable is there.
+pub fn hold_fault(cabling: &Cabling, end: End) -> Option<CableFault>
+    ensures refused { IfSome result (λ f. pull_fault cabling.now end ≡ Some f) }
+    ensures accepted { IfNone result (pull_fault cabling.now end ≡ None) }
+    ensures exists { IfNone result (HasEnd cabling.now end) }
+{
+    if end.node >= cabling.nodes() {
+        return Some(CableFault::NoNode { end });
+    }
+    if end.port >= cabling.ports(end.node) {
+        return Some(CableFault::NoPort { end });
+    }
+    if cabling.far(end).is_none() {
+        return Some(CableFault::NotPlugged { end });
+    }
+    None
 }

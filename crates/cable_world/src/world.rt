@@ -9,14 +9,14 @@ ghost use Rattle.cable_world.specs.Run.{IsReached};
 ghost use Rattle.cable_world.specs.Parts.{world_record};
 
 use crate::act::{Act, ActStop};
-use crate::acting::act_world;
+use crate::acting::{act_world, hold_fault};
 use crate::all_nodes::turn_world;
 use crate::rows::{ArrivalRow, WireRow};
 use crate::run::{ShowsWires, WorldRun};
 use crate::start::{arrival_rows, no_changes, port_counts, wire_rows};
 use crate::wire::Travelling;
 use arrayvec::ArrayVec;
-use cabling::{CableFault, Cabling, End, OutOfMemory};
+use cabling::{Cabling, End, OutOfMemory};
 use port_state::{PortMachine, Sends, TimeRanges, Timing, View};
 use self_id::Attrs;
 use std::alloc::{AllocError, Global};
@@ -133,14 +133,8 @@ impl<M: PortMachine> WorldRun for World<M> {
         if self.spent {
             return Err(ActStop::Memory(AllocError));
         }
-        if end.node >= self.cabling.nodes() {
-            return Err(ActStop::Fault(CableFault::NoNode { end }));
-        }
-        if end.port >= self.cabling.ports(end.node) {
-            return Err(ActStop::Fault(CableFault::NoPort { end }));
-        }
-        if self.cabling.far(end).is_none() {
-            return Err(ActStop::Fault(CableFault::NotPlugged { end }));
+        if let Some(fault) = hold_fault(&self.cabling, end) {
+            return Err(ActStop::Fault(fault));
         }
         self.wires[end.node as usize].hold(end.port, turns);
         Ok(())

@@ -1,15 +1,13 @@
 -- A world by its parts: what a lawful one gives to the code, its turn, and its vectors.
-use Rattle.std.proofs.Common.{◌≡◌, true, ℕ, suc, ◌+◌, ◌<◌, List, [], ◌∷◌, map, length, slice_index_or, slice_set, is_some, None, get_or, inl, inr, refl, sym, ◌∙◌, ap, arith, subst}
+use Rattle.std.proofs.Common.{◌≡◌, ℕ, suc, ◌+◌, ◌<◌, List, [], ◌∷◌, map, length, slice_index_or, slice_set, get_or, inl, inr, refl, sym, ◌∙◌, ap, arith, subst}
 use Rattle.std.specs.Prelude.{Vec, Result, Ok, Err}
 use Rattle.std.specs.declared.alloc.AllocError.{AllocError}
 use Rattle.std.specs.Vec.{with_items}
 use Rattle.std.proofs.lemmas.List.{get_or_default, with_items_is}
 use Rattle.std.proofs.lemmas.Option.{slice_get_cases}
-use Rattle.std.proofs.lemmas.Bool.{lt-ltb}
 use Rattle.std.proofs.Math.Logic.{∥∥₁_elim}
 use Rattle.cabling.specs.declared.cable.End.{End}
-use Rattle.cabling.specs.Wiring.{Wiring, ports_of, far}
-use Rattle.cabling.specs.Change.{pull_fault}
+use Rattle.cabling.specs.Wiring.{Wiring, ports_of}
 use Rattle.cabling.specs.declared.cable.CableFault.{CableFault}
 use Rattle.port_state.specs.declared.timing.Timing.{Timing}
 use Rattle.port_state.specs.Sends.{PortSignal}
@@ -89,12 +87,6 @@ pub moved :
     {A : Type 0} → (P : A → A → Type 0) (x was y is : A) → x ≡ was → y ≡ is → P x y → P was is
 moved P x was y is e h p = subst (λ z. P z is) e (subst (λ z. P x z) h p)
 
-pub fault-maps :
-    {A : Type 0} → (r : Result A ActStop) (P Q : CableFault → Type 0) → ((f : CableFault) → P f → Q f) → IfFault r P → IfFault r Q
-fault-maps (Ok x) P Q h p = tt
-fault-maps (Err (Fault f)) P Q h p = h f p
-fault-maps (Err (Memory e)) P Q h p = tt
-
 -- what a refusal says
 pub fault-of :
     {A : Type 0} → (r : Result A ActStop) (s : ActStop) (f : CableFault) (P : CableFault → Type 0) → r ≡ Err s → s ≡ Fault f →
@@ -116,11 +108,6 @@ has-wire w a h n p = elim (slice_get_cases w.nodes a.node).1 [
   | inl at ↦ let fits = h.nodes a.node at.0 at.2 in omega (arith, p, fits.ports, fits.wires)
   | inr past ↦ absurd (omega (arith, past.0, n, h.count))
 ]
-
-pub may-hold :
-    (c : Wiring) (end : End) → end.node < length c → end.port < length (ports_of c end.node) → is_some (far c end) ≡ true →
-    pull_fault c end ≡ None
-may-hold c end n p there = rw (lt-ltb end.node (length c) n, lt-ltb end.port (length (ports_of c end.node)) p, there) refl
 
 pub held-is :
     (rows : List (List Wire)) (end : End) (turns : ℕ) (row new : List Wire) → end.node < length rows → row ≡ get_or rows end.node row →

@@ -16,12 +16,14 @@ use crate::live::{live_silent, pass_live};
 use crate::node::AgendaNode;
 use crate::nodes::{Agenda, act_agenda, due_nodes, turn_agenda};
 use crate::still::TellsStillTurns;
-use cable_world::parts::{ArrivalRow, WireRow, arrival_rows, no_changes, port_counts, wire_rows};
+use cable_world::parts::{
+    ArrivalRow, WireRow, arrival_rows, hold_fault, no_changes, port_counts, wire_rows,
+};
 use cable_world::{
     Act, ActStop, ShowsWires, Travelling, WorldRun, still_turns_pass, worlds_stay_lawful,
     worlds_stay_reached,
 };
-use cabling::{CableFault, Cabling, End, NodeSet, OutOfMemory};
+use cabling::{Cabling, End, NodeSet, OutOfMemory};
 use port_state::{PortMachine, Sends, TimeRanges, Timing, View};
 use self_id::Attrs;
 use std::alloc::{AllocError, Global};
@@ -226,14 +228,8 @@ impl<M: PortMachine> WorldRun for AgendaWorld<M> {
         if self.spent {
             return Err(ActStop::Memory(AllocError));
         }
-        if end.node >= self.cabling.nodes() {
-            return Err(ActStop::Fault(CableFault::NoNode { end }));
-        }
-        if end.port >= self.cabling.ports(end.node) {
-            return Err(ActStop::Fault(CableFault::NoPort { end }));
-        }
-        if self.cabling.far(end).is_none() {
-            return Err(ActStop::Fault(CableFault::NotPlugged { end }));
+        if let Some(fault) = hold_fault(&self.cabling, end) {
+            return Err(ActStop::Fault(fault));
         }
         worlds_stay_lawful();
         worlds_stay_reached();

@@ -1,13 +1,12 @@
-use Rattle.std.proofs.Common.{◌≡◌, ◌∙◌, ◌<◌, [], true, is_some, length, map, ap, sym, subst, arith}
+use Rattle.std.proofs.Common.{◌≡◌, ◌∙◌, ◌<◌, [], length, map, ap, sym, subst, arith}
 use Rattle.std.proofs.lemmas.List.{get_or_default}
 use Rattle.std.proofs.Math.Logic.{∥∥₁_map}
-use Rattle.cabling.specs.Wiring.{HasEnd, far, ports_of}
 use Rattle.cable_world.specs.World.{wire_of}
 use Rattle.cable_world.specs.Run.{IsReached}
 use Rattle.cable_world.specs.Parts.{world_record}
 use Rattle.cable_world.proofs.StaysReached.{hold-reached}
 use Rattle.cable_world.proofs.tables.TablesInActs.{has-wire}
-use Rattle.cable_world.proofs.running.Whole.{lawful-now, may-hold, held-is, put-long}
+use Rattle.cable_world.proofs.running.Whole.{lawful-now, held-is, put-long}
 use Rattle.cable_world.proofs.world.WorldWorldRun.hold.Goals as goal
 
 pub index_mut-requires : goal.index_mut-requires
@@ -15,7 +14,7 @@ index_mut-requires g c =
     let self = c.args.self.now in
     let w = world_record self.delay self.longest self.cabling (map g.M.PortMachine.record_of self.machines.items) self.wires.items self.changed.items self.turns in
     let l = lawful-now w (self.reached c.if-self.false) in
-    omega (arith, c.if-end-nodes.false, c.nodes.ensures.value, l.well_formed.wire_rows, self.wires.ok.0)
+    omega (arith, c.in_default.ensures.exists.node, l.well_formed.wire_rows, self.wires.ok.0)
 
 pub hold-requires : goal.hold-requires
 hold-requires g c =
@@ -23,11 +22,7 @@ hold-requires g c =
     let end = c.args.end in
     let w = world_record self.delay self.longest self.cabling (map g.M.PortMachine.record_of self.machines.items) self.wires.items self.changed.items self.turns in
     let l = lawful-now w (self.reached c.if-self.false) in
-    let has : HasEnd self.cabling end = record {
-      node = omega (arith, c.if-end-nodes.false, c.nodes.ensures.value);
-      port = omega (arith, c.if-end-ports.false, c.ports.ensures.value);
-    } in
-    let entry = has-wire w end l.well_formed has in
+    let entry = has-wire w end l.well_formed c.in_default.ensures.exists in
     let row = c.index_mut.ensures.value ∙ get_or_default self.wires.items end.node c.index_mut.result.now [] entry.node in
     omega (arith, entry.port, ap length row)
 
@@ -37,15 +32,12 @@ invariant_of-self g c =
     let end = c.args.end in
     let w = world_record self.delay self.longest self.cabling (map g.M.PortMachine.record_of self.machines.items) self.wires.items self.changed.items self.turns in
     let l = lawful-now w (self.reached c.if-self.false) in
-    let inside : end.node < length self.wires.items = omega (arith, c.if-end-nodes.false, c.nodes.ensures.value, l.well_formed.wire_rows) in
-    let there : is_some (far self.cabling end) ≡ true = ap is_some (sym c.far.ensures) ∙ c.if-is_none.ensures in
-    let port : end.port < length (ports_of self.cabling end.node) = omega (arith, c.if-end-ports.false, c.ports.ensures.value) in
-    let none = may-hold self.cabling end (omega (arith, c.if-end-nodes.false, c.nodes.ensures.value)) port there in
+    let inside : end.node < length self.wires.items = omega (arith, c.in_default.ensures.exists.node, l.well_formed.wire_rows) in
     let made = held-is self.wires.items end c.args.turns c.index_mut.result.now c.hold.new.self inside c.index_mut.ensures.value c.hold.ensures in
     let held = record (wire_of w end) { held = c.args.turns } in
     record {
       reached = λ fine. subst (λ rows. ∥ IsReached (record w { wires = rows }) ∥₁) (sym made)
-          (∥∥₁_map (self.reached fine) (hold-reached end c.args.turns w none));
+          (∥∥₁_map (self.reached fine) (hold-reached end c.args.turns w c.in_default.ensures.accepted));
       marks = self.marks;
       same = λ fine. self.same fine ∙ sym (ap (λ rows. map length rows) made ∙ put-long self.wires.items end held);
     }

@@ -1,7 +1,6 @@
-use Rattle.std.proofs.Common.{◌≡◌, ◌∙◌, ◌<◌, [], true, is_some, length, map, ap, sym, subst, arith}
+use Rattle.std.proofs.Common.{◌≡◌, ◌∙◌, ◌<◌, [], length, map, ap, sym, subst, arith}
 use Rattle.std.proofs.lemmas.List.{get_or_default}
 use Rattle.std.proofs.Math.Logic.{∥∥₁_map}
-use Rattle.cabling.specs.Wiring.{far, ports_of}
 use Rattle.port_state.specs.Machine.{PortNode}
 use Rattle.cable_world.specs.World.{CableWorld, wire_of}
 use Rattle.cable_world.specs.Parts.{world_record}
@@ -9,7 +8,7 @@ use Rattle.world_agenda.specs.declared.node.AgendaNode.{AgendaNode}
 use Rattle.world_agenda.specs.Clock.{caught_up}
 use Rattle.cable_world.specs.Run.{IsReached}
 use Rattle.world_agenda.proofs.LiveRows.{live-set, taken-in}
-use Rattle.world_agenda.proofs.Whole.{lawful-now, has-wire, may-hold, held-is}
+use Rattle.world_agenda.proofs.Whole.{lawful-now, has-wire, held-is}
 use Rattle.world_agenda.proofs.agenda.AgendaWorldWorldRun.hold.Goals as goal
 use Rattle.cable_world.proofs.Lemmas.{put-long}
 
@@ -19,7 +18,7 @@ index_mut-requires g c =
     let f : AgendaNode g.row.M.Denot g.M.PortMachine → PortNode = λ n. caught_up self.turns n.clock (g.M.PortMachine.record_of n.machine) in
     let w : CableWorld = world_record self.delay self.longest self.cabling (map f self.nodes.items) self.wires.items self.changed.items self.turns in
     let l = lawful-now w c.worlds_stay_lawful.ensures.reached (self.reached c.if-self.false) in
-    omega (arith, c.if-end-nodes.false, c.nodes.ensures.value, l.well_formed.wire_rows, self.wires.ok.0)
+    omega (arith, c.in_default.ensures.exists.node, l.well_formed.wire_rows, self.wires.ok.0)
 
 pub hold-requires : goal.hold-requires
 hold-requires g c =
@@ -28,9 +27,9 @@ hold-requires g c =
     let w : CableWorld = world_record self.delay self.longest self.cabling (map f self.nodes.items) self.wires.items self.changed.items self.turns in
     let end = c.args.end in
     let l = lawful-now w c.worlds_stay_lawful.ensures.reached (self.reached c.if-self.false) in
-    let node : end.node < length self.cabling = omega (arith, c.if-end-nodes.false, c.nodes.ensures.value) in
-    let port = has-wire w end l.well_formed node (omega (arith, c.if-end-ports.false, c.ports.ensures.value)) in
-    let row = c.index_mut.ensures.value ∙ get_or_default self.wires.items end.node c.index_mut.result.now [] (omega (arith, node, l.well_formed.wire_rows)) in
+    let has = c.in_default.ensures.exists in
+    let port = has-wire w end l.well_formed has.node has.port in
+    let row = c.index_mut.ensures.value ∙ get_or_default self.wires.items end.node c.index_mut.result.now [] (omega (arith, has.node, l.well_formed.wire_rows)) in
     omega (arith, port, ap length row)
 
 pub invariant_of-self : goal.invariant_of-self
@@ -40,15 +39,12 @@ invariant_of-self g c =
     let w : CableWorld = world_record self.delay self.longest self.cabling (map f self.nodes.items) self.wires.items self.changed.items self.turns in
     let end = c.args.end in
     let l = lawful-now w c.worlds_stay_lawful.ensures.reached (self.reached c.if-self.false) in
-    let inside : end.node < length self.wires.items = omega (arith, c.if-end-nodes.false, c.nodes.ensures.value, l.well_formed.wire_rows) in
-    let there : is_some (far self.cabling end) ≡ true = ap is_some (sym c.far.ensures) ∙ c.if-is_none.ensures in
-    let port : end.port < length (ports_of self.cabling end.node) = omega (arith, c.if-end-ports.false, c.ports.ensures.value) in
-    let none = may-hold self.cabling end (omega (arith, c.if-end-nodes.false, c.nodes.ensures.value)) port there in
+    let inside : end.node < length self.wires.items = omega (arith, c.in_default.ensures.exists.node, l.well_formed.wire_rows) in
     let made = held-is self.wires.items end c.args.turns c.index_mut.result.now c.hold.new.self inside c.index_mut.ensures.value c.hold.ensures in
     let held = record (wire_of w end) { held = c.args.turns } in
     record {
       reached = λ fine. subst (λ rows. ∥ IsReached (record w { wires = rows }) ∥₁) (sym made)
-          (∥∥₁_map (self.reached fine) (c.worlds_stay_reached.ensures.hold end c.args.turns w none));
+          (∥∥₁_map (self.reached fine) (c.worlds_stay_reached.ensures.hold end c.args.turns w c.in_default.ensures.accepted));
       early = self.early;
       abreast = self.abreast;
       behind = self.behind;
@@ -67,4 +63,4 @@ insert-requires g c =
     let f : AgendaNode g.row.M.Denot g.M.PortMachine → PortNode = λ n. caught_up self.turns n.clock (g.M.PortMachine.record_of n.machine) in
     let w : CableWorld = world_record self.delay self.longest self.cabling (map f self.nodes.items) self.wires.items self.changed.items self.turns in
     let l = lawful-now w c.worlds_stay_lawful.ensures.reached (self.reached c.if-self.false) in
-    omega (arith, c.if-end-nodes.false, c.nodes.ensures.value, l.well_formed.cabling.few_nodes)
+    omega (arith, c.in_default.ensures.exists.node, l.well_formed.cabling.few_nodes)
