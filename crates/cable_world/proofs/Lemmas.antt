@@ -56,7 +56,7 @@ pub use Rattle.cable_world.proofs.running.Lists.{no-packets}
 -- The tables of a world at power-on.
 pub use Rattle.cable_world.proofs.running.Start.{are-counts, as-long, each-node, power-on, rows-are, start-is}
 -- A world by its parts: what a lawful one gives to the code, and its turn.
-pub use Rattle.cable_world.proofs.running.Whole.{all-young, lawful-now, put-long, rows-long, sent-long, young-from}
+pub use Rattle.cable_world.proofs.running.Whole.{all-young, fault-of, held-is, lawful-now, put-long, rows-long, sent-long, turn-is, young-from}
 -- The power-on world is well formed, and as no cable is there its wires agree.
 pub use Rattle.cable_world.proofs.tables.AtPowerOn.{power-on-apart}
 -- An end of a cable: its node, its port and its wire are there.
@@ -91,11 +91,11 @@ pub use Rattle.cable_world.proofs.worked.Summary.{Summary, after_plug, after_pul
 -- Two nodes on one cable, of which the first draws 0 and the second 1. They contend for the root.
 pub use Rattle.cable_world.proofs.worked.TwoNodes.{nodes, start}
 -- The tables of a world in a turn, entry by entry.
-pub use Rattle.cable_world.proofs.running.AllNodes.{changes-length, get-some, row-of, rows-length, steps-length}
+pub use Rattle.cable_world.proofs.running.AllNodes.{change-at, changes-length, get-some, row-at, row-of, rows-length, step-at, steps-length}
 -- Turns in which nothing happens: nothing arrives, every node ticks idly, and nothing is sent.
 pub use Rattle.cable_world.proofs.running.Still.{all-taken, idle-less, still-silent}
 -- A table that a loop writes anew from its head on: the new entries come first, and then the old ones.
-pub use Rattle.cable_world.proofs.running.Mixed.{mixed, mixed-all, mixed-length, mixed-none, take-all}
+pub use Rattle.cable_world.proofs.running.Mixed.{mixed, mixed-all, mixed-length, mixed-none, mixed-set, take-all}
 -- Signals are put onto a node's wires one after the other.
 pub use Rattle.cable_world.proofs.running.Sending.{no-sends}
 -- What steps and acts leave as it is.

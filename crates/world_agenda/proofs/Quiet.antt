@@ -9,7 +9,7 @@ use Rattle.cable_world.specs.Wire.{Wire}
 use Rattle.cable_world.specs.Turn.{node_turn, wires_after_sends, all_wires_after_sends, last_changes}
 use Rattle.cable_world.specs.running.Hearing.{Arriving, inbox_of}
 use Rattle.cable_world.specs.running.Steps.{turns_of}
-use Rattle.cable_world.proofs.Lemmas.{steps-length, changes-length}
+use Rattle.cable_world.proofs.Lemmas.{steps-length, changes-length, step-at, row-at, change-at}
 use Rattle.world_agenda.specs.Clock.{caught_up}
 use Rattle.world_agenda.specs.declared.heard.Heard.{Heard}
 use Rattle.world_agenda.specs.Agenda.{IdlesBut}
@@ -17,7 +17,6 @@ use Rattle.world_agenda.specs.Heard.{AreSparedBut}
 use Rattle.world_agenda.proofs.Hears.{none-heard}
 use Rattle.world_agenda.proofs.Late.{quiet-node, quiet-wires, quiet-list}
 use Rattle.world_agenda.proofs.Blend.{some-at}
-use Rattle.world_agenda.proofs.Steps.{step-at, row-at, change-at}
 
 module _ {N : Type 0} (r : N → PortNode) (clock idle : N → ℕ) (rests : (n : N) → IsIdleFor (idle n) (r n))
     (turns : ℕ) (heard : Heard) (visited : ℕ) (table : Arriving) (cabling : Wiring) (first : List N)

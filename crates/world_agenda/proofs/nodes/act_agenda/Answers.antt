@@ -13,9 +13,9 @@ use Rattle.world_agenda.specs.Clock.{caught_up}
 use Rattle.world_agenda.specs.Live.{HasLive}
 use Rattle.world_agenda.proofs.Late.{all-now}
 use Rattle.world_agenda.proofs.Touched.{at-untouched, known-touched, live-touched}
-use Rattle.world_agenda.proofs.Whole.{moved, fault-of, memory-of}
+use Rattle.world_agenda.proofs.Whole.{moved, memory-of}
 use Rattle.world_agenda.proofs.nodes.act_agenda.Goals as goal
-use Rattle.cable_world.proofs.Lemmas.{kept-then}
+use Rattle.cable_world.proofs.Lemmas.{fault-of, kept-then}
 
 pub act_world-requires-clause-lawful : goal.act_world-requires-clause-lawful
 act_world-requires-clause-lawful g c =

@@ -5,11 +5,10 @@ use Rattle.std.proofs.Math.Seq.{map-set_same}
 use Rattle.port_state.specs.Machine.{PortNode}
 use Rattle.world_agenda.specs.declared.node.AgendaNode.{AgendaNode}
 use Rattle.world_agenda.specs.Clock.{caught_up}
-use Rattle.world_agenda.proofs.Mixed.{mixed-set}
 use Rattle.world_agenda.proofs.Places.{same-here, same-past, all-at, all-more}
 use Rattle.world_agenda.proofs.Late.{all-now}
 use Rattle.world_agenda.proofs.nodes.catch_up.Goals as goal
-use Rattle.cable_world.proofs.Lemmas.{all-taken}
+use Rattle.cable_world.proofs.Lemmas.{all-taken, mixed-set}
 
 pub catch_up-requires : goal.catch_up-requires
 catch_up-requires g c =

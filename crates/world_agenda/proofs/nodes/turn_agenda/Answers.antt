@@ -5,9 +5,8 @@ use Rattle.cable_world.specs.Wire.{Wire, arrives, stays}
 use Rattle.cable_world.specs.Parts.{world_record}
 use Rattle.world_agenda.specs.declared.node.AgendaNode.{AgendaNode}
 use Rattle.world_agenda.specs.Clock.{caught_up}
-use Rattle.world_agenda.proofs.Whole.{turn-is}
 use Rattle.world_agenda.proofs.nodes.turn_agenda.Goals as goal
-use Rattle.cable_world.proofs.Lemmas.{all-young, rows-long, sent-long}
+use Rattle.cable_world.proofs.Lemmas.{all-young, rows-long, sent-long, turn-is}
 
 pub turn_live-requires-clause-young : goal.turn_live-requires-clause-young
 turn_live-requires-clause-young g c = all-young _ c.requires.lawful.1.well_formed

@@ -18,9 +18,8 @@ use Rattle.world_agenda.proofs.Places.{all-at}
 use Rattle.world_agenda.proofs.Blend.{Blended, blend-start, blend-set, blend-end}
 use Rattle.world_agenda.proofs.Quiet.{quiet-nodes, quiet-rows, quiet-changes}
 use Rattle.world_agenda.proofs.Blend.{less-within}
-use Rattle.world_agenda.proofs.Steps.{step-at, row-at, change-at}
 use Rattle.world_agenda.proofs.nodes.turn_nodes.Goals as goal
-use Rattle.cable_world.proofs.Lemmas.{steps-length, rows-length, changes-length, get-some}
+use Rattle.cable_world.proofs.Lemmas.{steps-length, rows-length, changes-length, get-some, step-at, row-at, change-at}
 
 pub turn_node-requires-clause-behind : goal.turn_node-requires-clause-behind
 turn_node-requires-clause-behind g c =

@@ -8,9 +8,9 @@ use Rattle.world_agenda.specs.declared.node.AgendaNode.{AgendaNode}
 use Rattle.world_agenda.specs.Clock.{caught_up}
 use Rattle.cable_world.specs.Run.{IsReached}
 use Rattle.world_agenda.proofs.LiveRows.{live-set, taken-in}
-use Rattle.world_agenda.proofs.Whole.{lawful-now, has-wire, held-is}
+use Rattle.world_agenda.proofs.Whole.{lawful-now}
 use Rattle.world_agenda.proofs.agenda.AgendaWorldWorldRun.hold.Goals as goal
-use Rattle.cable_world.proofs.Lemmas.{put-long}
+use Rattle.cable_world.proofs.Lemmas.{has-wire, held-is, put-long}
 
 pub index_mut-requires : goal.index_mut-requires
 index_mut-requires g c =
@@ -27,10 +27,9 @@ hold-requires g c =
     let w : CableWorld = world_record self.delay self.longest self.cabling (map f self.nodes.items) self.wires.items self.changed.items self.turns in
     let end = c.args.end in
     let l = lawful-now w c.worlds_stay_lawful.ensures.reached (self.reached c.if-self.false) in
-    let has = c.in_default.ensures.exists in
-    let port = has-wire w end l.well_formed has.node has.port in
-    let row = c.index_mut.ensures.value ∙ get_or_default self.wires.items end.node c.index_mut.result.now [] (omega (arith, has.node, l.well_formed.wire_rows)) in
-    omega (arith, port, ap length row)
+    let entry = has-wire w end l.well_formed c.in_default.ensures.exists in
+    let row = c.index_mut.ensures.value ∙ get_or_default self.wires.items end.node c.index_mut.result.now [] entry.node in
+    omega (arith, entry.port, ap length row)
 
 pub invariant_of-self : goal.invariant_of-self
 invariant_of-self g c =
