@@ -2,7 +2,7 @@
 -- machine that stands at an earlier turn, and nodes of which nothing is heard. `Hears`: where something is
 -- heard. `Rest`: wires at rest. `LiveRows`: the nodes whose wires are live. `Quiet`: the nodes that a turn
 -- doesn't visit. `Known`: what an agenda says. `Places`: the nodes that a loop hasn't come to. `Whole`: a world
--- by its parts, and its vectors. `Turns`: turns, one after the other. `Ahead`: turns to come in which nothing
+-- by its parts. `Turns`: turns, one after the other. `Ahead`: turns to come in which nothing
 -- happens. `Alone`: the nodes that the next turn leaves alone. `Touched`: what an act leaves of what is known.
 pub mod Blend
 pub mod Late

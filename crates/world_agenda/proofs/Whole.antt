@@ -1,9 +1,7 @@
--- A world by its parts: what a lawful one gives to the code, and its vectors.
-use Rattle.std.proofs.Common.{◌≡◌, ℕ, List, map, length, refl, sym, ◌∙◌, ap, subst}
-use Rattle.std.specs.Prelude.{Vec, Result, Err}
+-- A world by its parts: what a lawful one gives to the code, and what comes of an act.
+use Rattle.std.proofs.Common.{◌≡◌, ℕ, List, map, refl, sym, ◌∙◌, ap, subst}
+use Rattle.std.specs.Prelude.{Result, Err}
 use Rattle.std.specs.declared.alloc.AllocError.{AllocError}
-use Rattle.std.specs.Vec.{with_items}
-use Rattle.std.proofs.lemmas.List.{with_items_is}
 use Rattle.std.proofs.Math.Logic.{∥∥₁_elim}
 use Rattle.cabling.specs.Wiring.{Wiring}
 use Rattle.port_state.specs.declared.timing.Timing.{Timing}
@@ -21,29 +19,6 @@ use Rattle.cable_world.proofs.Lemmas.{lawful_prop}
 
 pub lawful-now : (w : CableWorld) → ReachedIsLawful → ∥ IsReached w ∥₁ → IsLawful w
 lawful-now w law r = ∥∥₁_elim r (lawful_prop w) (law w)
-
--- ---- its lists, as vectors keep them
-
--- what holds of the slices before and after a call, holds of the vectors
-pub vectors-related :
-    {M Z : Type 0} → (P : CableWorld → CableWorld → Type 0) (f h : M → PortNode) (d : ℕ) (most : Timing) (c k : Wiring) (t s : ℕ)
-    (nodes : Vec M Z) (wires : Vec (List Wire) Z) (changed : Vec ℕ Z)
-    (ms nms : List M) (ws nws : List (List Wire)) (cs ncs : List ℕ) →
-    (ms ≡ nodes.items) × (length ms ≡ nodes.len) × (length nms ≡ length ms) →
-    (ws ≡ wires.items) × (length ws ≡ wires.len) × (length nws ≡ length ws) →
-    (cs ≡ changed.items) × (length cs ≡ changed.len) × (length ncs ≡ length cs) →
-    P (world_record d most c (map f ms) ws cs t) (world_record d most k (map h nms) nws ncs s) →
-    P (world_record d most c (map f nodes.items) wires.items changed.items t)
-    (world_record d most k (map h (with_items nodes nms).items) (with_items wires nws).items (with_items changed ncs).items s)
-vectors-related P f h d most c k t s nodes wires changed ms nms ws nws cs ncs m w e p =
-    let before : world_record d most c (map f ms) ws cs t ≡ world_record d most c (map f nodes.items) wires.items changed.items t =
-    ap (λ xs. world_record d most c (map f xs) ws cs t) m.0 ∙ ap (λ rows. world_record d most c (map f nodes.items) rows cs t) w.0
-    ∙ ap (λ ns. world_record d most c (map f nodes.items) wires.items ns t) e.0 in
-    let after : world_record d most k (map h (with_items nodes nms).items) (with_items wires nws).items (with_items changed ncs).items s
-    ≡ world_record d most k (map h nms) nws ncs s =
-    rw (with_items_is nodes nms (m.2 ∙ m.1), with_items_is wires nws (w.2 ∙ w.1), with_items_is changed ncs (e.2 ∙ e.1)) refl in
-    subst (λ u. P u (world_record d most k (map h (with_items nodes nms).items) (with_items wires nws).items (with_items changed ncs).items s)) before
-    (subst (λ v. P (world_record d most c (map f ms) ws cs t) v) (sym after) p)
 
 -- nothing was changed
 pub parts-same :

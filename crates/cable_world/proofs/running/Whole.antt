@@ -98,23 +98,6 @@ pub parts-are :
 parts-are f d most c t machines wires changed ms ws cs m w k =
     rw (with_items_is machines ms m, with_items_is wires ws w, with_items_is changed cs k) refl
 
--- the world that stays in the vectors, where their slices did the turn
-pub vectors-turn :
-    {M Z : Type 0} → (f : M → PortNode) (d : ℕ) (most : Timing) (c : Wiring) (t : ℕ)
-    (machines : Vec M Z) (wires : Vec (List Wire) Z) (changed : Vec ℕ Z)
-    (ms nms : List M) (ws nws : List (List Wire)) (cs ncs : List ℕ) →
-    (ms ≡ machines.items) × (length ms ≡ machines.len) × (length nms ≡ length ms) →
-    (ws ≡ wires.items) × (length ws ≡ wires.len) × (length nws ≡ length ws) →
-    (cs ≡ changed.items) × (length cs ≡ changed.len) × (length ncs ≡ length cs) →
-    world_record d most c (map f nms) nws ncs (t + 1) ≡ turn (world_record d most c (map f ms) ws cs t) →
-    world_record d most c (map f (with_items machines nms).items) (with_items wires nws).items (with_items changed ncs).items (t + 1)
-    ≡ turn (world_record d most c (map f machines.items) wires.items changed.items t)
-vectors-turn f d most c t machines wires changed ms nms ws nws cs ncs m w k done =
-    parts-are f d most c (t + 1) machines wires changed nms nws ncs (m.2 ∙ m.1) (w.2 ∙ w.1) (k.2 ∙ k.1) ∙ done
-    ∙ ap (λ xs. turn (world_record d most c (map f xs) ws cs t)) m.0
-    ∙ ap (λ rows. turn (world_record d most c (map f machines.items) rows cs t)) w.0
-    ∙ ap (λ ns. turn (world_record d most c (map f machines.items) wires.items ns t)) k.0
-
 -- ---- a hold
 
 pub may-hold :
@@ -137,22 +120,36 @@ put-long rows end v = map-set_same length rows end.node (slice_set (slice_index_
 
 -- what holds of the slices before and after a call, holds of the vectors
 pub vectors-related :
-    {M Z : Type 0} → (P : CableWorld → CableWorld → Type 0) (f : M → PortNode) (d : ℕ) (most : Timing) (c k : Wiring) (t : ℕ)
+    {M Z : Type 0} → (P : CableWorld → CableWorld → Type 0) (f h : M → PortNode) (d : ℕ) (most : Timing) (c k : Wiring) (t s : ℕ)
     (machines : Vec M Z) (wires : Vec (List Wire) Z) (changed : Vec ℕ Z)
     (ms nms : List M) (ws nws : List (List Wire)) (cs ncs : List ℕ) →
     (ms ≡ machines.items) × (length ms ≡ machines.len) × (length nms ≡ length ms) →
     (ws ≡ wires.items) × (length ws ≡ wires.len) × (length nws ≡ length ws) →
     (cs ≡ changed.items) × (length cs ≡ changed.len) × (length ncs ≡ length cs) →
-    P (world_record d most c (map f ms) ws cs t) (world_record d most k (map f nms) nws ncs t) →
+    P (world_record d most c (map f ms) ws cs t) (world_record d most k (map h nms) nws ncs s) →
     P (world_record d most c (map f machines.items) wires.items changed.items t)
-    (world_record d most k (map f (with_items machines nms).items) (with_items wires nws).items (with_items changed ncs).items t)
-vectors-related P f d most c k t machines wires changed ms nms ws nws cs ncs m w h p =
+    (world_record d most k (map h (with_items machines nms).items) (with_items wires nws).items (with_items changed ncs).items s)
+vectors-related P f h d most c k t s machines wires changed ms nms ws nws cs ncs m w e p =
     let before : world_record d most c (map f ms) ws cs t ≡ world_record d most c (map f machines.items) wires.items changed.items t =
     ap (λ xs. world_record d most c (map f xs) ws cs t) m.0 ∙ ap (λ rows. world_record d most c (map f machines.items) rows cs t) w.0
-    ∙ ap (λ ns. world_record d most c (map f machines.items) wires.items ns t) h.0 in
-    let after = parts-are f d most k t machines wires changed nms nws ncs (m.2 ∙ m.1) (w.2 ∙ w.1) (h.2 ∙ h.1) in
-    subst (λ u. P u (world_record d most k (map f (with_items machines nms).items) (with_items wires nws).items (with_items changed ncs).items t)) before
+    ∙ ap (λ ns. world_record d most c (map f machines.items) wires.items ns t) e.0 in
+    let after = parts-are h d most k s machines wires changed nms nws ncs (m.2 ∙ m.1) (w.2 ∙ w.1) (e.2 ∙ e.1) in
+    subst (λ u. P u (world_record d most k (map h (with_items machines nms).items) (with_items wires nws).items (with_items changed ncs).items s)) before
     (subst (λ v. P (world_record d most c (map f ms) ws cs t) v) (sym after) p)
+
+-- the world that stays in the vectors, where their slices did the turn
+pub vectors-turn :
+    {M Z : Type 0} → (f : M → PortNode) (d : ℕ) (most : Timing) (c : Wiring) (t : ℕ)
+    (machines : Vec M Z) (wires : Vec (List Wire) Z) (changed : Vec ℕ Z)
+    (ms nms : List M) (ws nws : List (List Wire)) (cs ncs : List ℕ) →
+    (ms ≡ machines.items) × (length ms ≡ machines.len) × (length nms ≡ length ms) →
+    (ws ≡ wires.items) × (length ws ≡ wires.len) × (length nws ≡ length ws) →
+    (cs ≡ changed.items) × (length cs ≡ changed.len) × (length ncs ≡ length cs) →
+    world_record d most c (map f nms) nws ncs (t + 1) ≡ turn (world_record d most c (map f ms) ws cs t) →
+    world_record d most c (map f (with_items machines nms).items) (with_items wires nws).items (with_items changed ncs).items (t + 1)
+    ≡ turn (world_record d most c (map f machines.items) wires.items changed.items t)
+vectors-turn f d most c t machines wires changed ms nms ws nws cs ncs m w e done =
+    vectors-related (λ u v. v ≡ turn u) f f d most c c t (t + 1) machines wires changed ms nms ws nws cs ncs m w e done
 
 -- nothing was changed
 pub vectors-same :
@@ -169,7 +166,7 @@ vectors-same f d most c k t machines wires changed ms nms ws nws cs ncs m w h sa
     let e : world_record d most k (map f nms) nws ncs t ≡ world_record d most c (map f ms) ws cs t =
     ap (λ z. world_record d most z (map f nms) nws ncs t) same.0 ∙ ap (λ xs. world_record d most c (map f xs) nws ncs t) same.1
     ∙ ap (λ rows. world_record d most c (map f ms) rows ncs t) same.2 ∙ ap (λ ns. world_record d most c (map f ms) ws ns t) same.3 in
-    vectors-related (λ u v. v ≡ u) f d most c k t machines wires changed ms nms ws nws cs ncs m w h e
+    vectors-related (λ u v. v ≡ u) f f d most c k t t machines wires changed ms nms ws nws cs ncs m w h e
 
 -- what a refusal says
 pub fault-of :

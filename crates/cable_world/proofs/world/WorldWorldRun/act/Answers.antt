@@ -29,13 +29,13 @@ invariant_of-self g c =
     let ws = with_items_is self.wires new.wires (auto.wires ∙ c.deref_mut-2.ensures.len) in
     let cs = with_items_is self.changed new.changed (auto.changed ∙ c.deref_mut-3.ensures.len) in
     let none : act_fault act w ≡ None =
-    vectors-related (λ u v. act_fault act u ≡ None) f self.delay self.longest self.cabling new.cabling self.turns self.machines self.wires self.changed
+    vectors-related (λ u v. act_fault act u ≡ None) f f self.delay self.longest self.cabling new.cabling self.turns self.turns self.machines self.wires self.changed
     c.deref_mut.result.now new.machines c.deref_mut-2.result.now new.wires c.deref_mut-3.result.now new.changed
     (c.deref_mut.ensures.value, c.deref_mut.ensures.len, auto.machines)
     (c.deref_mut-2.ensures.value, c.deref_mut-2.ensures.len, auto.wires)
     (c.deref_mut-3.ensures.value, c.deref_mut-3.ensures.len, auto.changed) (c.in-Ok.ensures.accepted self.delay self.longest) in
     let leads =
-    vectors-related (ActLeads act) f self.delay self.longest self.cabling new.cabling self.turns self.machines self.wires self.changed
+    vectors-related (ActLeads act) f f self.delay self.longest self.cabling new.cabling self.turns self.turns self.machines self.wires self.changed
     c.deref_mut.result.now new.machines c.deref_mut-2.result.now new.wires c.deref_mut-3.result.now new.changed
     (c.deref_mut.ensures.value, c.deref_mut.ensures.len, auto.machines)
     (c.deref_mut-2.ensures.value, c.deref_mut-2.ensures.len, auto.wires)

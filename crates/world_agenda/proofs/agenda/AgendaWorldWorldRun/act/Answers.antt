@@ -14,9 +14,9 @@ use Rattle.cable_world.specs.Answer.{IsMemory}
 use Rattle.cable_world.specs.Run.{IsReached}
 use Rattle.world_agenda.specs.Agenda.{Knows}
 use Rattle.world_agenda.specs.Live.{HasLive}
-use Rattle.world_agenda.proofs.Whole.{lawful-now, vectors-related, parts-same, memory-of}
+use Rattle.world_agenda.proofs.Whole.{lawful-now, parts-same, memory-of}
 use Rattle.world_agenda.proofs.agenda.AgendaWorldWorldRun.act.Goals as goal
-use Rattle.cable_world.proofs.Lemmas.{fault-of}
+use Rattle.cable_world.proofs.Lemmas.{fault-of, vectors-related}
 
 pub act_agenda-done-requires-clause-idle : goal.act_agenda-done-requires-clause-idle
 act_agenda-done-requires-clause-idle g c = rw c.deref_mut.ensures.value c.args.self.now.idle

@@ -10,8 +10,9 @@ use Rattle.world_agenda.specs.Clock.{caught_up}
 use Rattle.cable_world.specs.Turn.{turn}
 use Rattle.cable_world.specs.Run.{IsReached}
 use Rattle.world_agenda.proofs.Turns.{one-turn}
-use Rattle.world_agenda.proofs.Whole.{lawful-now, vectors-related}
+use Rattle.world_agenda.proofs.Whole.{lawful-now}
 use Rattle.world_agenda.proofs.agenda.AgendaWorldWorldRun.turn.Goals as goal
+use Rattle.cable_world.proofs.Lemmas.{vectors-related}
 
 pub turn_agenda-requires-clause-lawful : goal.turn_agenda-requires-clause-lawful
 turn_agenda-requires-clause-lawful g c =
