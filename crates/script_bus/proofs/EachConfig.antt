@@ -30,7 +30,7 @@ use Rattle.outcomes.proofs.Lemmas.{ComesBy, comes-by, comes-then}
 use Rattle.settle.specs.declared.report.Part.{Part}
 use Rattle.settle.specs.Report.{AreParts, IsTreeFrom, IsAfterQuiet, quiet_turns_of}
 use Rattle.settle.proofs.Lemmas.{found, same-component, turns-enough}
-use Rattle.settle_plan.specs.Planned.{HaveGap}
+use Rattle.settle.specs.Planned.{HaveGap}
 use Rattle.script_lines.specs.Range.{IsConfigInRange, IsInRange}
 use Rattle.script_lines.specs.declared.kind.Kind.{Kind}
 use Rattle.script_lines.specs.declared.command.Command.{Command}

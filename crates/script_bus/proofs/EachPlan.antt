@@ -14,8 +14,8 @@ use Rattle.cable_world.specs.Lawful.{IsLawful}
 use Rattle.cable_world.proofs.Lemmas.{reached-lawful}
 use Rattle.outcomes.specs.Settled.{TreesStay, IdsNameOneNode, ConfigsMoveRoots, ConfigsSetGaps}
 use Rattle.root_plan.proofs.Lemmas.{candidate_within}
-use Rattle.settle_plan.specs.Planned.{SuitsTree, HasId, HaveGap}
-use Rattle.settle_plan.proofs.Lemmas.{suits, nodes-stay, tree-from, gap-of}
+use Rattle.settle.specs.Planned.{SuitsTree, HasId, HaveGap}
+use Rattle.settle.proofs.Lemmas.{suits, nodes-stay, tree-from, gap-of}
 use Rattle.script_lines.specs.declared.kind.Kind.{Kind}
 use Rattle.script_lines.specs.declared.command.Command.{Command}
 use Rattle.script_lines.specs.declared.command.Command.TheVariants.{Plan}

@@ -22,7 +22,7 @@ use Rattle.outcomes.proofs.Lemmas.{in-read, one-place}
 use Rattle.port_state.specs.Machine.{PortNode}
 use Rattle.root_plan.specs.declared.choice.RootPlan.{RootPlan}
 use Rattle.root_plan.proofs.Lemmas.{candidate_within}
-use Rattle.settle_plan.specs.Planned.{SuitsTree, HasId, PlansSuit}
+use Rattle.settle.specs.Planned.{SuitsTree, HasId, PlansSuit}
 use Rattle.script_told.specs.Bus.{Reported}
 use Rattle.script_text.specs.Plan.{IsPlan}
 use Rattle.script_text.specs.ReportText.{Names, IsNamedTree}

@@ -24,8 +24,8 @@ use Rattle.root_plan.proofs.Lemmas.{candidate_within}
 use Rattle.settle.specs.declared.report.Report.{Report}
 use Rattle.settle.specs.Report.{quiet_turns_of}
 use Rattle.settle.specs.SomeWalk.{HasWalk, WalksExist}
-use Rattle.settle_plan.specs.Planned.{SuitsTree}
-use Rattle.settle_plan.proofs.Lemmas.{not-refused, packet-fits, suits, nodes-stay}
+use Rattle.settle.specs.Planned.{SuitsTree}
+use Rattle.settle.proofs.Lemmas.{not-refused, packet-fits, suits, nodes-stay}
 use Rattle.script_lines.specs.declared.kind.Kind.{Kind}
 use Rattle.script_text.specs.Plan.{plan_line}
 use Rattle.script_text.specs.SomePlan.{HasPlan, PlansExist}

@@ -1,7 +1,7 @@
 -- What a configuration packet of a script comes to, once the bus settles next.
 use Rattle.std.specs.Prelude.{◌≡◌, ℕ, ◌<◌, All, List, ◌∷◌, ◌++◌, Option, Some, IfSome, length}
 use Rattle.cable_world.specs.World.{NodeNumber}
-use Rattle.settle_plan.specs.Planned.{HaveGap}
+use Rattle.settle.specs.Planned.{HaveGap}
 use Rattle.script_lines.specs.declared.command.Command.TheVariants.{Settle, Config}
 use Rattle.script_told.specs.Bus.{Bus, Reported, node_named, tree_with}
 use Rattle.script_told.specs.Step.{node_with}

@@ -4,7 +4,7 @@ ghost use Rattle.topology_stack.specs.Elect.{elected};
 ghost use Rattle.cabling.specs.Walk.{IsWalk};
 ghost use Rattle.cable_world.specs.Unchanged.{TurnsPass};
 ghost use Rattle.settle.specs.Report.{quiet_turns_of};
-ghost use Rattle.settle_plan.specs.Planned.{SuitsTree};
+ghost use Rattle.settle.specs.Planned.{SuitsTree};
 ghost use Rattle.script_told.specs.Bus.{tree_with, values_at};
 ghost use Rattle.script_text.specs.Plan.{IsPlan, all_in, plan_numbers, plan_nodes, plan_line};
 ghost use Rattle.script_text.specs.ReportText.{IsNamedTree};
@@ -27,8 +27,7 @@ use root_plan::{RootPlan, choose, expect};
 use script_lines::{Command, Kind, LineStop};
 use script_text::{plan_line, tree_of};
 use script_trace::{Listener, Seen};
-use settle::quiet_turns_settle;
-use settle_plan::plans_suit;
+use settle::{plans_suit, quiet_turns_settle};
 use std::alloc::Global;
 use topology_stack::{BusTree, Name, OutOfMemory, one_tree};
 

@@ -1,7 +1,7 @@
 -- What each plan of a script comes to.
 use Rattle.std.specs.Prelude.{◌≡◌, ℕ, List, All, Some}
 use Rattle.cable_world.specs.World.{NodeNumber}
-use Rattle.settle_plan.specs.Planned.{HaveGap}
+use Rattle.settle.specs.Planned.{HaveGap}
 use Rattle.script_lines.specs.declared.command.Command.TheVariants.{Plan}
 use Rattle.script_told.specs.Bus.{Bus, Reported, node_named, tree_with}
 use Rattle.script_told.specs.Step.{CarriesOut, node_with}

@@ -23,4 +23,11 @@ pub mod Found
 pub mod ForcedRoots
 -- the turns before
 pub mod TurnsGiven
+-- a bus manager's plan: the hops don't depend on the root
+pub mod Cables
+pub mod SameHops
+-- what a plan finds, which plans suit, and what is there once one is carried out
+pub mod Suited
+pub mod Chosen
+pub mod Carried
 pub mod Lemmas

@@ -9,5 +9,8 @@ pub mod SomeReport
 pub mod SomeWalk
 -- who is reported as root where one node is forced
 pub mod Forced
+-- a bus manager's plan
+pub mod Planned
+pub mod Hops
 -- how it is found
 pub mod codings

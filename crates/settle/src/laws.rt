@@ -1,4 +1,5 @@
-//! Laws of reports. Each function is a fact for the crates above, which call it.
+//! Laws of reports, and one of hops. Each function is a fact for the crates above, which call it.
+ghost use Rattle.settle.specs.Hops.{HopsStay};
 ghost use Rattle.settle.specs.ReadBack.{ListsAreReadBack, ListsAreTheCables};
 ghost use Rattle.settle.specs.OneReport.{OneReportAtMost, OneReportedAtMost, OnePartAtMost};
 ghost use Rattle.settle.specs.ReportedOutcome.{ReportedIsOutcome};
@@ -7,7 +8,8 @@ ghost use Rattle.settle.specs.QuietTurns.{NodesTellTurns};
 ghost use Rattle.settle.specs.SomeReport.{ReportsExist};
 ghost use Rattle.settle.specs.SomeWalk.{WalksExist};
 
-use cabling::components_exist;
+use bus_manager::hops_are_of_node_paths;
+use cabling::{Cabling, cables_are_two_ended, components_exist};
 use outcomes::every_bus_settles;
 use topology_stack::one_tree;
 
@@ -58,4 +60,14 @@ pub fn walks_exist()
     ensures { WalksExist }
 {
     components_exist();
+}
+
+/// A law: the trees that cables show from two nodes of a component have the same hops. So a gap
+/// count that suits a bus suits it after its root has moved.
+pub fn hops_stay(c: &Cabling)
+    ensures { HopsStay c.now }
+{
+    hops_are_of_node_paths();
+    components_exist();
+    cables_are_two_ended(c);
 }

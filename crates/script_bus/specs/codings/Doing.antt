@@ -6,7 +6,7 @@ use Rattle.cable_world.specs.Act.{IsAct}
 use Rattle.cable_world.specs.World.{NodeNumber}
 use Rattle.root_plan.specs.declared.choice.RootPlan.{RootPlan}
 use Rattle.settle.specs.Report.{quiet_turns_of}
-use Rattle.settle_plan.specs.Planned.{SuitsTree}
+use Rattle.settle.specs.Planned.{SuitsTree}
 use Rattle.script_lines.specs.declared.command.Command.{Command}
 use Rattle.script_told.specs.Bus.{Bus, Reported, tree_with, values_at}
 use Rattle.script_told.specs.Step.{LineAnswer, Acts, Does}

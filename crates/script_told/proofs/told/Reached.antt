@@ -30,7 +30,7 @@ use Rattle.bus_manager.specs.Election.{lock_for}
 use Rattle.root_plan.proofs.Lemmas.{candidate_within}
 use Rattle.settle.specs.declared.report.Report.{Report}
 use Rattle.settle.specs.Report.{quiet_turns_of}
-use Rattle.settle_plan.proofs.Lemmas.{gap-fits}
+use Rattle.settle.proofs.Lemmas.{gap-fits}
 use Rattle.script_lines.specs.declared.kind.Kind.{Kind}
 use Rattle.script_lines.specs.declared.command.Command.{Command}
 use Rattle.script_lines.specs.declared.command.Command.TheVariants.{Node, Plug, Pull, Reset, Turn, Hold, Settle, Config, CsrRead, CsrWrite, CsrLock, Look, Allocate, Release, Manager, Plan, Maps, Delay, Times}

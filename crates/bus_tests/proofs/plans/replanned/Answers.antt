@@ -7,7 +7,7 @@ use Rattle.cabling.specs.Component.{IsComponent}
 use Rattle.settle.specs.declared.report.Part.{Part}
 use Rattle.settle.specs.Report.{IsPart}
 use Rattle.settle.specs.Reported.{IsReported, ReportsTree}
-use Rattle.settle_plan.specs.Planned.{SuitsTree, PlansSuit}
+use Rattle.settle.specs.Planned.{SuitsTree, PlansSuit}
 use Rattle.bus_tests.proofs.plans.replanned.Goals as goal
 
 pub settle_plan-requires-clause-suits : goal.settle_plan-requires-clause-suits

@@ -2,7 +2,7 @@ use Rattle.std.proofs.Common.{◌<◌, ℕ, List, All, get_or, length, sym, subs
 use Rattle.std.proofs.lemmas.List.{get_or_default}
 use Rattle.cable_world.specs.World.{CableWorld}
 use Rattle.cable_world.proofs.Lemmas.{lawful-now}
-use Rattle.settle_plan.specs.Planned.{PlansSuit}
+use Rattle.settle.specs.Planned.{PlansSuit}
 use Rattle.script_text.specs.Plan.{plan_line}
 use Rattle.script_told.specs.Step.{node_with}
 use Rattle.script_bus.specs.Running.{reported}

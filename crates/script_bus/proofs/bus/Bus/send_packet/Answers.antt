@@ -1,5 +1,5 @@
 use Rattle.cable_world.proofs.Lemmas.{lawful-now}
-use Rattle.settle_plan.proofs.Lemmas.{from-there, not-refused, packet-fits}
+use Rattle.settle.proofs.Lemmas.{from-there, not-refused, packet-fits}
 use Rattle.script_bus.proofs.bus.Bus.send_packet.Goals as goal
 
 pub act_done-requires-clause-act : goal.act_done-requires-clause-act

@@ -5,10 +5,10 @@ use Rattle.cable_world.specs.Act.{act_fault}
 use Rattle.cable_world.specs.Answer.{IfFault}
 use Rattle.cable_world.proofs.Lemmas.{none-some, lawful-now}
 use Rattle.settle.specs.Report.{IsReport, IsAfterQuiet}
-use Rattle.settle_plan.specs.Hops.{HopsStay}
-use Rattle.settle_plan.proofs.Suited.{not-refused, packet-fits, has-id, its-small}
-use Rattle.settle_plan.proofs.Carried.{on-ok, on-both, if-ok, gap-wanted, tree-from, gap-of}
-use Rattle.settle_plan.proofs.carrying.settle_plan.Goals as goal
+use Rattle.settle.specs.Hops.{HopsStay}
+use Rattle.settle.proofs.Suited.{not-refused, packet-fits, has-id, its-small}
+use Rattle.settle.proofs.Carried.{on-ok, on-both, if-ok, gap-wanted, tree-from, gap-of}
+use Rattle.settle.proofs.carrying.settle_plan.Goals as goal
 
 pub act-requires : goal.act-requires
 act-requires g c =

@@ -1,6 +1,6 @@
 //! Which plans suit a component, and what they come to.
 ghost use Rattle.std.specs.Prelude.{◌<◌, IsFalse, length};
-ghost use Rattle.settle_plan.specs.Planned.{PlansSuit, CarriedPlansComeOut};
+ghost use Rattle.settle.specs.Planned.{PlansSuit, CarriedPlansComeOut};
 
 use cable_world::WorldRun;
 use cabling::components_exist;

@@ -20,13 +20,13 @@ use Rattle.cabling.specs.declared.cable.CableFault.TheVariants.{NoNode}
 use Rattle.cable_world.specs.declared.act.Act.TheVariants.{Config}
 use Rattle.cable_world.specs.Act.{IsConfigPacket, act_fault}
 use Rattle.cable_world.specs.Lawful.{IsWellFormed, IsLawful}
-use Rattle.settle.proofs.Lemmas.{SameNodes, same-component, same-tree}
+use Rattle.settle.proofs.SameNodes.{SameNodes, same-component, same-tree}
 use Rattle.cable_world.specs.Outcome.{IsTree, Shows, attrs_now}
 use Rattle.cable_world.proofs.Lemmas.{some-of, some-at, some-same, attrs-fit}
 use Rattle.outcomes.proofs.Lemmas.{in-read, one-place}
 use Rattle.bus_manager.specs.Gap.{gaps, gap_of}
 use Rattle.root_plan.specs.declared.choice.RootPlan.{RootPlan}
-use Rattle.settle_plan.specs.Planned.{SuitsTree, HasId}
+use Rattle.settle.specs.Planned.{SuitsTree, HasId}
 
 -- ---- bus trees
 

@@ -4,15 +4,16 @@ ghost use Rattle.std.specs.Prelude.{IfOk, OnOk, OnErr, IsErr, IsTrue, IsFalse};
 ghost use Rattle.cable_world.specs.Unchanged.{TurnsPass};
 ghost use Rattle.convergence.specs.Milestones.{ResetsAreDone};
 ghost use Rattle.settle.specs.Report.{IsReport, IsTreeFrom, quiet_turns_of};
-ghost use Rattle.settle_plan.specs.Planned.{SuitsTree, HasId, IsAfterPlan};
-ghost use Rattle.settle_plan.specs.Planned.{HaveGap, WantsGap};
+ghost use Rattle.settle.specs.Planned.{SuitsTree, HasId, IsAfterPlan};
+ghost use Rattle.settle.specs.Planned.{HaveGap, WantsGap};
 
 use crate::laws::hops_stay;
+use crate::report::Report;
+use crate::settling::settle;
 use cable_world::{Act, ActStop, WorldRun};
 use cabling::OutOfMemory;
 use outcomes::forced_roots_settle;
 use root_plan::RootPlan;
-use settle::{Report, settle};
 use std::alloc::{AllocError, Global};
 
 /// Node `from` sends the configuration packet of a plan, with R set and its gap count, and resets

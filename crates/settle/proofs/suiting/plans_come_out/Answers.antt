@@ -1,9 +1,9 @@
 use Rattle.cabling.specs.Existence.{HasComponent}
 use Rattle.cable_world.specs.Lawful.{IsLawful}
 use Rattle.cable_world.proofs.Lemmas.{lawful-now}
-use Rattle.settle_plan.proofs.Suited.{not-refused, has-id}
-use Rattle.settle_plan.proofs.Carried.{nodes-stay, tree-from, gap-of}
-use Rattle.settle_plan.proofs.suiting.plans_come_out.Goals as goal
+use Rattle.settle.proofs.Suited.{not-refused, has-id}
+use Rattle.settle.proofs.Carried.{nodes-stay, tree-from, gap-of}
+use Rattle.settle.proofs.suiting.plans_come_out.Goals as goal
 
 pub returns : goal.returns
 returns c w from reached there plan v report suits after is =

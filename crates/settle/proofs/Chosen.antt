@@ -15,9 +15,9 @@ use Rattle.cable_world.specs.Outcome.{IsTree, attrs_now}
 use Rattle.cable_world.proofs.Lemmas.{some-of}
 use Rattle.bus_manager.specs.Hops.{IsHops}
 use Rattle.root_plan.proofs.Lemmas.{candidate_within}
-use Rattle.settle_plan.specs.Planned.{PlansSuit}
-use Rattle.settle.proofs.Lemmas.{same-component, same-tree}
-use Rattle.settle_plan.proofs.Suited.{bus-of}
+use Rattle.settle.specs.Planned.{PlansSuit}
+use Rattle.settle.proofs.SameNodes.{same-component, same-tree}
+use Rattle.settle.proofs.Suited.{bus-of}
 
 pub suits :
     NoListHasTwoTrees → (w : CableWorld) → IsLawful w → (from whole : ℕ) → from < length w.cabling →

@@ -8,7 +8,7 @@ use Rattle.self_id.specs.declared.standard.Standard.TheVariants.{Ieee2000}
 use Rattle.topology_stack.specs.Tree.{Tree, IsBusTreeOf}
 use Rattle.cabling.specs.Labels.{labels}
 use Rattle.cabling.proofs.Lemmas.{Loopless}
-use Rattle.settle_plan.specs.Hops.{HopsStay}
+use Rattle.settle.specs.Hops.{HopsStay}
 use Rattle.cabling.specs.Wiring.{Wiring}
 use Rattle.cabling.specs.NodeSet.{Holds}
 use Rattle.cabling.specs.Component.{IsComponent}
@@ -28,9 +28,11 @@ use Rattle.outcomes.specs.Settled.{IdsNameOneNode, ConfigsMoveRoots, ConfigsSetG
 use Rattle.root_plan.specs.declared.choice.RootPlan.{RootPlan}
 use Rattle.settle.specs.Report.{AreParts, IsTreeFrom, IsAfterQuiet, quiet_turns_of}
 use Rattle.settle.specs.declared.report.Part.{Part}
-use Rattle.settle_plan.specs.Planned.{WantsGap, SuitsTree, HasId, HaveGap}
-use Rattle.settle.proofs.Lemmas.{FoundTree, found, found-tree, same-component, turns-enough}
-use Rattle.settle_plan.proofs.Suited.{from-there, bus-of, tree-there, packet-fits, loopless-from}
+use Rattle.settle.specs.Planned.{WantsGap, SuitsTree, HasId, HaveGap}
+use Rattle.settle.proofs.Found.{FoundTree, found, found-tree}
+use Rattle.settle.proofs.SameNodes.{same-component}
+use Rattle.settle.proofs.QuietCount.{turns-enough}
+use Rattle.settle.proofs.Suited.{from-there, bus-of, tree-there, packet-fits, loopless-from}
 
 -- ---- answers
 

@@ -1,7 +1,7 @@
 use Rattle.cabling.specs.Existence.{HasComponent}
 use Rattle.cable_world.proofs.Lemmas.{lawful-now}
-use Rattle.settle_plan.proofs.Chosen.{suits}
-use Rattle.settle_plan.proofs.suiting.plans_suit.Goals as goal
+use Rattle.settle.proofs.Chosen.{suits}
+use Rattle.settle.proofs.suiting.plans_suit.Goals as goal
 
 pub returns : goal.returns
 returns g c =

@@ -14,8 +14,8 @@ use Rattle.cabling.proofs.Lemmas.{end_at, In, Once, tree_within, tree_once, shar
 use Rattle.bus_manager.specs.Hops.{IsHops, IsLongestPath, HopsAreOfNodePaths}
 use Rattle.bus_manager.proofs.Lemmas.{reach, is_hops}
 use Rattle.outcomes.proofs.Lemmas.{component-small, in-read, one-place}
-use Rattle.settle_plan.specs.Hops.{HopsStay}
-use Rattle.settle_plan.proofs.Cables.{Agree, Leads, so-many, tree-leads}
+use Rattle.settle.specs.Hops.{HopsStay}
+use Rattle.settle.proofs.Cables.{Agree, Leads, so-many, tree-leads}
 
 -- ---- places in lists
 
