@@ -24,8 +24,8 @@ use Rattle.script_run.specs.OneViewed.{ScriptsHaveOnePicture, PicturedScriptsAre
 use Rattle.script_told.specs.OneTold.{ScriptsHaveOneRun, ScriptsTellOneThing}
 use Rattle.script_trace.specs.Trace.{IsTrace}
 use Rattle.script_trace.specs.OneTrace.{ScriptsHaveOneTrace, TracedScriptsAreTold}
-use Rattle.script_waves.specs.Waves.{IsWaves}
-use Rattle.script_waves.specs.OneDump.{ScriptsHaveOneDump, DumpedScriptsAreTold}
+use Rattle.script_trace.specs.waves.Waves.{IsWaves}
+use Rattle.script_trace.specs.waves.OneDump.{ScriptsHaveOneDump, DumpedScriptsAreTold}
 use Rattle.view_text.specs.Pairs.{AreShown, pairs_text}
 use Rattle.view_text.specs.Drawing.{IsDrawing, IsRoot, drawing}
 use Rattle.bus_view.specs.declared.form.CaptureView.{CaptureView}

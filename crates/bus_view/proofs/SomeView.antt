@@ -16,8 +16,8 @@ use Rattle.quad_lanes.specs.Capture.{capture}
 use Rattle.script_bus.specs.SomeRun.{EachScriptHasARun}
 use Rattle.script_trace.specs.Trace.{IsTraceOf}
 use Rattle.script_trace.specs.OneTrace.{RunsHaveTraces}
-use Rattle.script_waves.specs.Waves.{IsWavesOf}
-use Rattle.script_waves.specs.OneDump.{RunsHaveDumps}
+use Rattle.script_trace.specs.waves.Waves.{IsWavesOf}
+use Rattle.script_trace.specs.waves.OneDump.{RunsHaveDumps}
 use Rattle.view_text.specs.Pairs.{pairs_text}
 use Rattle.view_text.specs.Graph.{graph}
 use Rattle.bus_json.specs.Text.{json_line}

@@ -19,7 +19,7 @@ use Rattle.script_told.specs.Run.{IsTold}
 use Rattle.script_run.specs.Listed.{IsListed}
 use Rattle.script_run.specs.Viewed.{IsPictured, AreReported}
 use Rattle.script_trace.specs.Trace.{IsTrace}
-use Rattle.script_waves.specs.Waves.{IsWaves}
+use Rattle.script_trace.specs.waves.Waves.{IsWaves}
 use Rattle.view_text.specs.Pairs.{AreShown, pairs_text}
 use Rattle.view_text.specs.Drawing.{IsDrawing}
 use Rattle.view_text.specs.Graph.{graph}

@@ -12,8 +12,7 @@ use script_bus::each_script_has_a_run;
 use script_made::made_scripts_have_no_fault;
 use script_run::scripts_have_one_view;
 use script_told::{reported_trees_are_managed, reports_are_settled, scripts_tell_one_thing};
-use script_trace::scripts_have_one_trace;
-use script_waves::scripts_have_one_dump;
+use script_trace::{scripts_have_one_dump, scripts_have_one_trace};
 use topology_stack::one_tree;
 
 /// A law: all words and bytes have one answer, one status and one text.

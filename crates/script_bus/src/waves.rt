@@ -1,10 +1,10 @@
 //! The dump of waveforms of a bus.
 ghost use Rattle.std.specs.Prelude.{◌≡◌, ◌++◌, IfOk};
 ghost use Rattle.script_trace.specs.Voice.{legend_of};
-ghost use Rattle.script_waves.specs.Head.{head};
+ghost use Rattle.script_trace.specs.waves.Head.{head};
 
 use crate::bus::Bus;
-use script_waves::Waves;
+use script_trace::Waves;
 use std::alloc::Global;
 use topology_stack::OutOfMemory;
 

@@ -3,7 +3,7 @@ ghost use Rattle.std.specs.Prelude.{◌≡◌, ◌<◌, ◌≤◌, ℕ, List, Ok
 ghost use Rattle.script_told.specs.Run.{IsTold};
 ghost use Rattle.script_advice.specs.Advice.{IsAdvice, EndsWithoutLoop};
 ghost use Rattle.script_trace.specs.Trace.{IsTrace};
-ghost use Rattle.script_waves.specs.Waves.{IsWaves};
+ghost use Rattle.script_trace.specs.waves.Waves.{IsWaves};
 ghost use Rattle.script_c.specs.Answers.{TellsScript, IsTooLong, IsOneThing};
 
 use crate::fault::tell_stop;
@@ -12,8 +12,7 @@ use c_border::{TOO_LONG, tell_bytes};
 use script_advice::{advices_leave_no_loop, scripts_have_one_advice};
 use script_run::{advise_script, dump_script, run_script, trace_script};
 use script_told::scripts_tell_one_thing;
-use script_trace::scripts_have_one_trace;
-use script_waves::scripts_have_one_dump;
+use script_trace::{scripts_have_one_dump, scripts_have_one_trace};
 use std::alloc::Global;
 
 /// How many bytes a script has at most.

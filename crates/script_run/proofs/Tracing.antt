@@ -11,9 +11,9 @@ use Rattle.script_told.specs.Script.{Stage, running, bus_of}
 use Rattle.script_told.specs.Run.{Entry, ScriptRun, IsRun, done, behind, last_run, printed, unless_stopped}
 use Rattle.script_trace.specs.Voice.{Voice, legend_of}
 use Rattle.script_trace.specs.Trace.{AllTrace, IsTrace, trace_voice}
-use Rattle.script_waves.specs.Moment.{waves_voice}
-use Rattle.script_waves.specs.Head.{head}
-use Rattle.script_waves.specs.Waves.{IsWaves}
+use Rattle.script_trace.specs.waves.Moment.{waves_voice}
+use Rattle.script_trace.specs.waves.Head.{head}
+use Rattle.script_trace.specs.waves.Waves.{IsWaves}
 use Rattle.script_bus.specs.Heard.{Hears}
 use Rattle.script_run.specs.Answered.{StopsWith, IsRefused}
 use Rattle.script_run.specs.codings.Going.{HaveGone}

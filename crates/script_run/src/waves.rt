@@ -1,12 +1,12 @@
 //! The dump of a whole script.
 ghost use Rattle.std.specs.Prelude.{◌≡◌, ◌≤◌, Ok, IfOk, IfErr, length};
 ghost use Rattle.script_told.specs.Script.{Told};
-ghost use Rattle.script_waves.specs.Waves.{IsWaves};
+ghost use Rattle.script_trace.specs.waves.Waves.{IsWaves};
 ghost use Rattle.script_run.specs.Answered.{IsRefused, IsOnlyFault};
 
 use crate::script::{Taken, at_line, take_lines};
 use script_lines::ScriptStop;
-use script_waves::{Waves, scripts_have_one_dump};
+use script_trace::{Waves, scripts_have_one_dump};
 use std::alloc::Global;
 
 /// The dump of the lines of a script and of the `settle` behind the last.

@@ -7,4 +7,5 @@ pub mod ActTouched
 pub mod Shown
 pub mod ActShown
 pub mod NodeShown
+pub mod waves
 pub mod Lemmas

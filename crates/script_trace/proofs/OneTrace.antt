@@ -80,22 +80,20 @@ one-trace-of trees v (e ∷ entries) xs ys h x y =
     let more = one-trace-of trees v entries x.1 y.1 (All-tail IsDone e entries h) x.3 y.3 in
     x.4 ∙ ap (λ (l : List ℕ). l ++ x.1) one ∙ ap (λ (l : List ℕ). y.0 ++ l) more ∙ sym y.4
 
+-- an end is a bus or a fault, and not both
+pub not-both : (bus : Bus) (fault : ScriptFault) → Ok bus ≡ Err fault → ⊥
+not-both bus fault e = absurd cc
+
+pub same-fault : (a b : ScriptFault) → ◌≡◌ {A = Result Bus ScriptFault} (Err a) (Err b) → a ≡ b
+same-fault a b e = cc
+
 same-told :
     NoListHasTwoTrees → (run : ScriptRun) (one other : Told) → All IsDone run.entries →
     IsTraceOf run one → IsTraceOf run other → one ≡ other
 same-told trees run (Ok xs) (Ok ys) h x y = ap Ok (one-trace-of trees trace_voice run.entries xs ys h x.2 y.2)
 same-told trees run (Ok xs) (Err f) h x y = absurd (not-both x.0 f (sym x.1 ∙ y))
-  where
-    not-both : (bus : Bus) (fault : ScriptFault) → Ok bus ≡ Err fault → ⊥
-    not-both bus fault e = absurd cc
 same-told trees run (Err f) (Ok ys) h x y = absurd (not-both y.0 f (sym y.1 ∙ x))
-  where
-    not-both : (bus : Bus) (fault : ScriptFault) → Ok bus ≡ Err fault → ⊥
-    not-both bus fault e = absurd cc
 same-told trees run (Err f) (Err g) h x y = ap Err (same-fault f g (sym x ∙ y))
-  where
-    same-fault : (a b : ScriptFault) → ◌≡◌ {A = Result Bus ScriptFault} (Err a) (Err b) → a ≡ b
-    same-fault a b e = cc
 
 pub one-trace : NoListHasTwoTrees → ActKeepsNodes → ScriptsHaveOneTrace
 one-trace trees keeps bytes one other x y =

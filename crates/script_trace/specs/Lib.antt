@@ -9,3 +9,4 @@ pub mod Shown
 pub mod ActShown
 pub mod ActTouches
 pub mod NodeShown
+pub mod waves

@@ -1,11 +1,13 @@
-//! Laws of traces.
+//! Laws of traces and of dumps.
 ghost use Rattle.script_trace.specs.OneTrace.{ScriptsHaveOneTrace, TracedScriptsAreTold, TraceFaultsAreTold, RunsHaveTraces};
 ghost use Rattle.script_trace.specs.OneTelling.{RunsAreToldOnce, RunsAreTold};
 ghost use Rattle.script_trace.specs.Shown.{TurnsShowWhatIsSent};
 ghost use Rattle.script_trace.specs.ActShown.{ActsShowTheirResets};
 ghost use Rattle.script_trace.specs.NodeShown.{TurnsShowEachNode, ActsShowEachNode};
+ghost use Rattle.script_trace.specs.waves.OneDump.{ScriptsHaveOneDump, DumpedScriptsAreTold, DumpFaultsAreTold, RunsHaveDumps};
 
 use cable_world::{acts_keep, turn_by_number, worlds_stay_lawful};
+use script_told::scripts_tell_one_thing;
 use topology_stack::one_tree;
 use world_laws::acts_by_number;
 
@@ -27,6 +29,17 @@ pub fn runs_are_told_once()
 {
     one_tree();
     acts_keep();
+}
+
+/// A law: a script has one dump. It has one where it has a text, and else its fault.
+pub fn scripts_have_one_dump()
+    ensures one { ScriptsHaveOneDump }
+    ensures told { DumpedScriptsAreTold }
+    ensures fault { DumpFaultsAreTold }
+    ensures some { RunsHaveDumps }
+{
+    scripts_tell_one_thing();
+    runs_are_told_once();
 }
 
 /// A law: the signals that a trace shows of a turn on a port are those that the node's step of this

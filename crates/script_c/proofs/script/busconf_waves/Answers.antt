@@ -1,7 +1,7 @@
 use Rattle.std.proofs.Common.{List, ℕ, refl, sym, subst}
 use Rattle.std.specs.Prelude.{Ok}
 use Rattle.script_told.specs.Run.{IsTold}
-use Rattle.script_waves.specs.Waves.{IsWaves}
+use Rattle.script_trace.specs.waves.Waves.{IsWaves}
 use Rattle.script_c.specs.Answers.{told}
 use Rattle.script_c.proofs.Stopped.{stopped}
 use Rattle.script_c.proofs.script.busconf_waves.Goals as goal

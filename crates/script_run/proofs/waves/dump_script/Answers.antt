@@ -2,7 +2,7 @@ use Rattle.std.proofs.Common.{◌≡◌, ℕ, Vec, Global}
 use Rattle.std.specs.Prelude.{Ok}
 use Rattle.script_lines.specs.declared.kind.ScriptStop.{ScriptStop}
 use Rattle.script_told.specs.Script.{Told}
-use Rattle.script_waves.specs.Waves.{IsWaves}
+use Rattle.script_trace.specs.waves.Waves.{IsWaves}
 use Rattle.script_run.specs.Answered.{IsRefused, IsOnlyFault}
 use Rattle.script_run.proofs.Going.{only-fault}
 use Rattle.script_run.proofs.AdviceEnds.{ok-all, err-all}

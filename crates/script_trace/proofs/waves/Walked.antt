@@ -1,0 +1,104 @@
+-- Nodes, ports and turns that are gone through by number, and texts of several parts.
+use Rattle.std.proofs.Common.{◌≡◌, ◌++◌, ◌+◌, ◌<◌, ◌≤◌, ℕ, List, [], ◌∷◌, length, drop, Some, refl, sym, ◌∙◌, ap, append_assoc, Option, append-nil}
+use Rattle.std.specs.Prelude.{slice_get}
+use Rattle.std.specs.Option.{option_to_list}
+use Rattle.port_state.specs.declared.ports.PortView.{PortView}
+use Rattle.port_state.specs.Machine.{PortNode}
+use Rattle.cable_world.specs.declared.wire.Travelling.{Travelling}
+use Rattle.cable_world.specs.World.{CableWorld}
+use Rattle.script_text.specs.ReportText.{Names}
+use Rattle.script_trace.specs.Event.{Seen}
+use Rattle.script_trace.proofs.Walked.{all-told, left-from, one-more, past-end, signal-more, some-left}
+use Rattle.script_trace.specs.waves.Change.{sent_change, sent_changes}
+use Rattle.script_trace.specs.waves.Moment.{all_changes}
+use Rattle.script_trace.specs.waves.Head.{port_variables, port_values, all_port_variables, all_port_values, node_scope, node_values, all_scopes, all_values}
+
+-- ---- nodes
+
+no-node : (w : CableWorld) (k : ℕ) (seen : List Seen) → all_changes w k seen [] ≡ []
+no-node w k [] = refl
+no-node w k (s ∷ seen) = refl
+
+-- nothing is left behind the last node
+pub none-left :
+    (w : CableWorld) (k : ℕ) (seen : List Seen) (nodes : List PortNode) → length nodes ≤ k →
+    all_changes w k (drop k seen) (drop k nodes) ≡ []
+none-left w k seen nodes h = ap (all_changes w k (drop k seen)) (past-end nodes k h) ∙ no-node w k (drop k seen)
+
+-- ---- signals
+
+pub changes-more :
+    (node port : ℕ) (signals : List Travelling) (at : ℕ) (o : Option Travelling)
+    (before after all : List ℕ) → o ≡ slice_get signals at →
+    after ≡ before ++ sent_changes node port (option_to_list o) →
+    before ++ sent_changes node port (drop at signals) ≡ all →
+    after ++ sent_changes node port (drop (at + 1) signals) ≡ all
+changes-more node port signals at o before after all is new so =
+    let text = sent_changes node port in
+    let one : (s : Travelling) (ss : List Travelling) → text (s ∷ ss) ≡ text (s ∷ []) ++ text ss =
+    λ s ss. ap (λ (l : List ℕ). l ++ text ss) (sym (append-nil (sent_change node port s))) in
+    one-more before after (text (option_to_list o)) (text (drop (at + 1) signals)) (text (drop at signals)) all new
+    (signal-more text one refl signals at o is) so
+
+pub no-changes-left :
+    (node port : ℕ) (signals : List Travelling) (at : ℕ) (out all : List ℕ) → length signals ≤ at →
+    out ++ sent_changes node port (drop at signals) ≡ all → out ≡ all
+no-changes-left node port signals at out all past so =
+    all-told out all (sent_changes node port (drop at signals)) (ap (sent_changes node port) (past-end signals at past)) so
+
+-- ---- the head
+
+-- a part, and then the rest
+pub then-more :
+    (out first rest mid new : List ℕ) → mid ≡ out ++ first → new ≡ mid ++ rest →
+    new ≡ out ++ (first ++ rest)
+then-more out first rest mid new one more =
+    more ∙ ap (λ (l : List ℕ). l ++ rest) one ∙ append_assoc out first rest
+
+pub next-variables :
+    (node k : ℕ) (ports : List PortView) (before after all : List ℕ) → k < length ports →
+    after ≡ before ++ port_variables node k → before ++ all_port_variables node k (drop k ports) ≡ all →
+    after ++ all_port_variables node (k + 1) (drop (k + 1) ports) ≡ all
+next-variables node k ports before after all h new so =
+    one-more before after (port_variables node k) (all_port_variables node (k + 1) (drop (k + 1) ports))
+    (all_port_variables node k (drop k ports)) all new (ap (all_port_variables node k) (some-left ports k h).1) so
+
+pub next-port-values :
+    (node k : ℕ) (ports : List PortView) (before after all : List ℕ) → k < length ports →
+    after ≡ before ++ port_values node k → before ++ all_port_values node k (drop k ports) ≡ all →
+    after ++ all_port_values node (k + 1) (drop (k + 1) ports) ≡ all
+next-port-values node k ports before after all h new so =
+    one-more before after (port_values node k) (all_port_values node (k + 1) (drop (k + 1) ports))
+    (all_port_values node k (drop k ports)) all new (ap (all_port_values node k) (some-left ports k h).1) so
+
+pub next-scope :
+    (names : Names) (k : ℕ) (x : PortNode) (ports : List PortView) (nodes : List PortNode)
+    (before after all : List ℕ) → slice_get nodes k ≡ Some x → ports ≡ x.state.view.ports →
+    after ≡ before ++ node_scope names k ports → before ++ all_scopes names k (drop k nodes) ≡ all →
+    after ++ all_scopes names (k + 1) (drop (k + 1) nodes) ≡ all
+next-scope names k x ports nodes before after all at is new so =
+    let rest = all_scopes names (k + 1) (drop (k + 1) nodes) in
+    one-more before after (node_scope names k ports) rest (all_scopes names k (drop k nodes)) all new
+    (ap (all_scopes names k) (left-from nodes k x at)
+    ∙ ap (λ (l : List PortView). node_scope names k l ++ rest) (sym is))
+    so
+
+pub next-values :
+    (k : ℕ) (x : PortNode) (ports : List PortView) (nodes : List PortNode)
+    (before after all : List ℕ) → slice_get nodes k ≡ Some x → ports ≡ x.state.view.ports →
+    after ≡ before ++ node_values k ports → before ++ all_values k (drop k nodes) ≡ all →
+    after ++ all_values (k + 1) (drop (k + 1) nodes) ≡ all
+next-values k x ports nodes before after all at is new so =
+    let rest = all_values (k + 1) (drop (k + 1) nodes) in
+    one-more before after (node_values k ports) rest (all_values k (drop k nodes)) all new
+    (ap (all_values k) (left-from nodes k x at)
+    ∙ ap (λ (l : List PortView). node_values k l ++ rest) (sym is))
+    so
+
+pub no-scope : (names : Names) (k : ℕ) (nodes : List PortNode) → length nodes ≤ k →
+    all_scopes names k (drop k nodes) ≡ []
+no-scope names k nodes h = ap (all_scopes names k) (past-end nodes k h)
+
+pub no-values : (k : ℕ) (nodes : List PortNode) → length nodes ≤ k →
+    all_values k (drop k nodes) ≡ []
+no-values k nodes h = ap (all_values k) (past-end nodes k h)

@@ -1,0 +1,19 @@
+use Rattle.std.proofs.Common.{ap, arith}
+use Rattle.port_state.specs.declared.view.View.{View}
+use Rattle.cable_world.proofs.Lemmas.{some-of}
+use Rattle.script_trace.proofs.Walked.{all-told}
+use Rattle.script_trace.proofs.waves.Walked.{next-values, no-values}
+use Rattle.script_trace.proofs.waves_head.put_all_values.Goals as goal
+
+pub loop-node-preserved : goal.loop-node-preserved
+loop-node-preserved g c =
+    let w = g.W.WorldRun.world c.args.world.now in
+    let x = some-of _ _ c.view-view.ensures in
+    next-values c.loop-node.node x.0 c.view-view.result.ports w.nodes c.loop-node.out.items _ _ x.1
+    (ap (λ (u : View). u.ports) x.2) c.in_ok-put_values.ensures c.loop-node.invariant
+
+pub returns : goal.returns
+returns g c =
+    let w = g.W.WorldRun.world c.args.world.now in
+    all-told c.loop-node.out.items _ _ (no-values c.loop-node.node w.nodes (omega (arith, c.loop-node-test.false, c.requires.nodes)))
+    c.loop-node.invariant

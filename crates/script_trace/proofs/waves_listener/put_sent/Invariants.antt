@@ -1,0 +1,10 @@
+use Rattle.std.proofs.Common.{◌≡◌, ◌++◌, drop}
+use Rattle.cable_world.specs.World.{wire_of}
+use Rattle.script_trace.specs.waves.Change.{sent_changes}
+use Rattle.script_trace.proofs.waves_listener.put_sent.Given as goal
+
+abbrev pub invariant-loop-at : goal.invariant-loop-at
+invariant-loop-at g l =
+    let signals = (wire_of (g.W.WorldRun.world l.world) l.end).signals in
+    l.out.items ++ sent_changes l.end.node l.end.port (drop l.at signals)
+    ≡ l.initial.out.items ++ sent_changes l.end.node l.end.port (drop l.there signals)

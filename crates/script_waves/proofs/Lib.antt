@@ -1,4 +1,0 @@
-pub mod Walked
-mod Digits
-pub mod News
-pub mod OneDump

@@ -1,8 +1,0 @@
-use Rattle.std.proofs.Common.{arith}
-use Rattle.script_waves.proofs.Walked.{next-port-values}
-use Rattle.script_waves.proofs.head.put_all_port_values.Goals as goal
-
-pub loop-port-preserved : goal.loop-port-preserved
-loop-port-preserved c =
-    next-port-values c.args.node c.loop-port.port c.args.ports.now c.loop-port.out.items _ _
-    (omega (arith, c.loop-port-test.true)) c.in_ok-put_port_values.ensures c.loop-port.invariant

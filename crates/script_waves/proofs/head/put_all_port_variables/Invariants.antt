@@ -1,8 +1,0 @@
-use Rattle.std.proofs.Common.{◌≡◌, ◌++◌, drop}
-use Rattle.script_waves.specs.Head.{all_port_variables}
-use Rattle.script_waves.proofs.head.put_all_port_variables.Given as goal
-
-abbrev pub invariant-loop-port : goal.invariant-loop-port
-invariant-loop-port l =
-    l.out.items ++ all_port_variables l.node l.port (drop l.port l.ports)
-    ≡ l.initial.out.items ++ all_port_variables l.node 0 l.ports

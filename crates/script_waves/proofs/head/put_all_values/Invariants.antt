@@ -1,9 +1,0 @@
-use Rattle.std.proofs.Common.{◌≡◌, ◌++◌, drop}
-use Rattle.script_waves.specs.Head.{all_values}
-use Rattle.script_waves.proofs.head.put_all_values.Given as goal
-
-abbrev pub invariant-loop-node : goal.invariant-loop-node
-invariant-loop-node g l =
-    let w = g.W.WorldRun.world l.world in
-    l.out.items ++ all_values l.node (drop l.node w.nodes)
-    ≡ l.initial.out.items ++ all_values 0 w.nodes

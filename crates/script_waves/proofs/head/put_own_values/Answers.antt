@@ -1,8 +1,0 @@
-use Rattle.std.proofs.Common.{rules, append_assoc}
-use Rattle.script_waves.specs.Value.{state_lines}
-use Rattle.script_waves.specs.Head.{own_values}
-use Rattle.script_waves.proofs.head.put_own_values.Goals as goal
-
-pub returns : goal.returns
-unfolding own_values state_lines
-returns c = search (rules, append_assoc)

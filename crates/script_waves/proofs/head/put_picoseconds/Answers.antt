@@ -1,8 +1,0 @@
-use Rattle.std.proofs.Common.{append_assoc, refl}
-use Rattle.script_waves.specs.Head.{picoseconds}
-use Rattle.script_waves.proofs.head.put_picoseconds.Goals as goal
-
-pub returns : goal.returns
-unfolding picoseconds
-returns c =
-    rw (c.in_ok-extend_from_slice.ensures.items, c.in_ok-put_numbered-2.ensures, c.in_ok-put_numbered.ensures, c.from.ensures, c.from-2.ensures, append_assoc, append_assoc) refl
