@@ -1,5 +1,5 @@
 -- The slots of a seen tree's nodes lead where the cables do.
-use Rattle.std.proofs.Common.{◌≡◌, ℕ, zero, suc, ◌+◌, ◌-◌, ◌<◌, Option, Some, None, List, [], ◌∷◌, ◌++◌, length, inl, inr, ◌⊎◌, refl, sym, ◌∙◌, ap, subst, arith, length-append}
+use Rattle.std.proofs.Common.{◌≡◌, ℕ, zero, suc, ◌+◌, ◌-◌, ◌<◌, Option, Some, None, List, [], ◌∷◌, ◌++◌, length, inl, inr, ◌⊎◌, refl, sym, ◌∙◌, ap, subst, arith}
 use Rattle.std.specs.Prelude.{slice_get}
 use Rattle.topology_stack.specs.Tree.{Label, Tree, branch, Slots, no_more, absent, unplugged, up, down, walk, walk_below}
 use Rattle.topology_stack.specs.Far.{slot_ends, ends_from, ends_below}
@@ -7,6 +7,7 @@ use Rattle.speed_map.proofs.Lemmas.{Ends, last, length-ends_from, length-ends_be
 use Rattle.cabling.specs.declared.cable.End.{End}
 use Rattle.cabling.specs.Wiring.{Wiring, ports_of, far, IsCabling}
 use Rattle.cabling.specs.Sees.{Sees, SeesFrom, numbers, numbers_below}
+use Rattle.settle.proofs.SeenTrees.{so-many, so-many-below}
 use Rattle.cabling.proofs.Lemmas.{end_at, RowAt, row_all, row_head, row_tail}
 use Rattle.topology_stack.proofs.Lemmas.{length-walk}
 use Rattle.quad_lanes.proofs.Lemmas.{slice_get-left, slice_get-right}
@@ -19,23 +20,6 @@ Agree N (Some None) (Some end) = ⊥
 Agree N (Some None) None = Unit {0}
 Agree N None (Some end) = ⊥
 Agree N None None = Unit {0}
-
--- ---- lengths
-
-mutual
-  pub so-many : (c : Wiring) (label : ℕ → Label) (x : ℕ) (fr : Option ℕ) (t : Tree) →
-      Sees c label x fr t → length (numbers c x t) ≡ length (walk t)
-  so-many c label x fr (branch a s) h = length-append (numbers_below c (ports_of c x) s) (x ∷ []) ∙ omega (arith, so-many-below c label fr 0 (ports_of c x) s h.2, length-walk a s)
-
-  so-many-below : (c : Wiring) (label : ℕ → Label) (fr : Option ℕ) (q : ℕ) (row : List (Option End)) (s : Slots) →
-      SeesFrom c label fr q row s → length (numbers_below c row s) ≡ length (walk_below s)
-  so-many-below c label fr q [] no_more h = refl
-  so-many-below c label fr q [] (absent s) h = so-many-below c label fr (q + 1) [] s h
-  so-many-below c label fr q (None ∷ row) (unplugged s) h = so-many-below c label fr (q + 1) row s h
-  so-many-below c label fr q (Some y ∷ row) (up s) h = so-many-below c label fr (q + 1) row s h.1
-  so-many-below c label fr q (Some y ∷ row) (down t s) h =
-      length-append (numbers c y.node t) (numbers_below c row s) ∙ omega (arith, so-many c label y.node (Some y.port) t h.1, so-many-below c label fr (q + 1) row s h.2, length-append (walk t) (walk_below s))
-  so-many-below c label fr q row s h = absurd h
 
 -- the last of a tree's nodes is its root
 root-last : (c : Wiring) (label : ℕ → Label) (x : ℕ) (fr : Option ℕ) (t : Tree) →

@@ -32,7 +32,8 @@ use Rattle.settle.specs.Planned.{WantsGap, SuitsTree, HasId, HaveGap}
 use Rattle.settle.proofs.Found.{FoundTree, found, found-tree}
 use Rattle.settle.proofs.SameNodes.{same-component}
 use Rattle.settle.proofs.QuietCount.{turns-enough}
-use Rattle.settle.proofs.Suited.{from-there, bus-of, tree-there, packet-fits, loopless-from}
+use Rattle.settle.proofs.SeenTrees.{bus-of}
+use Rattle.settle.proofs.Suited.{from-there, tree-there, packet-fits, loopless-from}
 
 -- ---- answers
 

@@ -1,6 +1,5 @@
 -- A plan for the tree that a list tells suits the component that has the list.
-use Rattle.std.proofs.Common.{◌≡◌, ℕ, ◌^◌, ◌<◌, length, slice_get, ◌∙◌, ap, subst, arith, refl}
-use Rattle.std.proofs.lemmas.List.{length-map}
+use Rattle.std.proofs.Common.{◌≡◌, ℕ, ◌^◌, ◌<◌, None, length, slice_get, ◌∙◌, ap, subst, arith, refl, sym}
 use Rattle.std.proofs.lemmas.Option.{slice_get_within}
 use Rattle.self_id.specs.declared.standard.Standard.TheVariants.{Ieee2000}
 use Rattle.topology_stack.specs.Tree.{Tree, walk, IsBusTreeOf}
@@ -8,7 +7,7 @@ use Rattle.topology_stack.specs.OneAnswer.{NoListHasTwoTrees}
 use Rattle.cabling.specs.Component.{IsComponent}
 use Rattle.cabling.specs.Labels.{labels}
 use Rattle.cabling.specs.Sees.{numbers}
-use Rattle.cabling.proofs.Lemmas.{visits, at_root, shown_node, walk_seen, Loopless, length-visits, shared, seen_loopless}
+use Rattle.cabling.proofs.Lemmas.{Loopless, shared, seen_loopless}
 use Rattle.cable_world.specs.World.{CableWorld}
 use Rattle.cable_world.specs.Lawful.{IsLawful}
 use Rattle.cable_world.specs.Outcome.{IsTree, attrs_now}
@@ -17,7 +16,7 @@ use Rattle.bus_manager.specs.Hops.{IsHops}
 use Rattle.root_plan.proofs.Lemmas.{candidate_within}
 use Rattle.settle.specs.Planned.{PlansSuit}
 use Rattle.settle.proofs.SameNodes.{same-component, same-tree}
-use Rattle.settle.proofs.Suited.{bus-of}
+use Rattle.settle.proofs.SeenTrees.{so-many, bus-of}
 
 pub suits :
     NoListHasTwoTrees → (w : CableWorld) → IsLawful w → (from whole : ℕ) → from < length w.cabling →
@@ -46,10 +45,7 @@ suits one w l from whole there component small set root stands told plan own is 
     loopless = seen_loopless w.cabling (labels (attrs_now w)) root whole stands l.well_formed.cabling root-there small (shared w.cabling from root whole l.well_formed.cabling component tree-there.holds_root) is.seen
 
     counts : length (walk stands) ≡ length (numbers w.cabling root stands)
-    counts =
-        ap length (walk_seen w.cabling (labels (attrs_now w)) (at_root root) stands l.well_formed.cabling root-there is.seen)
-        ∙ length-map (visits w.cabling (at_root root) stands) (shown_node w.cabling (labels (attrs_now w)))
-        ∙ length-visits w.cabling (at_root root) stands
+    counts = sym (so-many w.cabling (labels (attrs_now w)) root None stands is.seen)
 
     stands-bus : IsBusTreeOf Ieee2000 stands
     stands-bus = bus-of w.cabling w l.well_formed refl root whole loopless stands is.seen

@@ -11,6 +11,7 @@ pub mod Settled
 pub mod Greatest
 -- all components
 pub mod PartsSoFar
+pub mod SeenTrees
 pub mod ReadBack
 pub mod OneReport
 pub mod ReportedOutcome

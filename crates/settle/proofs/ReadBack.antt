@@ -1,36 +1,28 @@
 -- The list of a reported tree is read back.
-use Rattle.std.proofs.Common.{◌≡◌, ℕ, ◌-◌, ◌^◌, ◌<◌, None, List, All, length, sym, ◌∙◌, ap, subst, arith}
-use Rattle.std.proofs.lemmas.List.{length-map}
+use Rattle.std.proofs.Common.{◌≡◌, ℕ, ◌^◌, ◌<◌, None, List, All, length, refl, sym, ◌∙◌, ap, subst, arith}
 use Rattle.std.proofs.lemmas.List.Elements.{All-map, All-weaker}
 use Rattle.self_id.specs.declared.standard.Standard.TheVariants.{Ieee2000}
-use Rattle.topology_stack.specs.Tree.{Tree, walk, emits}
+use Rattle.topology_stack.specs.Tree.{Tree, emits}
 use Rattle.topology_stack.specs.OneAnswer.{NoListHasTwoTrees}
 use Rattle.cabling.specs.Component.{IsComponent}
 use Rattle.cabling.specs.Labels.{labels}
 use Rattle.cabling.specs.Sees.{numbers}
-use Rattle.cabling.proofs.Lemmas.{visits, at_root, shown_node, one-tree, Fit, labels_fit, bus_seen, walk_seen, good_at, good_root, good_visits, Loopless, loopless, tree_few, node_of, nodes-visits, length-visits, shared, small-set}
+use Rattle.cabling.proofs.Lemmas.{visits, at_root, one-tree, good_at, good_root, good_visits, Loopless, loopless, node_of, nodes-visits, shared, small-set}
 use Rattle.cable_world.specs.World.{CableWorld}
 use Rattle.cable_world.specs.Lawful.{IsWellFormed}
 use Rattle.cable_world.specs.Run.{IsReached}
 use Rattle.cable_world.specs.Outcome.{IsTree, attrs_now}
-use Rattle.cable_world.proofs.Lemmas.{lawful-now, attrs-fit}
-use Rattle.port_state.specs.Group.{shown_attrs}
-use Rattle.port_state.specs.Machine.{PortNode}
+use Rattle.cable_world.proofs.Lemmas.{lawful-now}
 use Rattle.settle.specs.declared.report.Outcome.{Outcome}
 use Rattle.settle.specs.declared.report.Outcome.TheVariants as reported
 use Rattle.settle.specs.declared.report.Part.{Part}
 use Rattle.settle.specs.declared.report.Report.{Report}
 use Rattle.settle.specs.Report.{AreThere, IsPart, IsReport}
 use Rattle.settle.specs.Reported.{IsReported}
+use Rattle.settle.proofs.SeenTrees.{so-many, bus-of}
 use Rattle.settle.specs.ReadBack.{IsReadBack, IsTheCables, IfTree, AtTrees}
 
 module _ (w : CableWorld) (formed : IsWellFormed w) where
-  entries : length (attrs_now w) ≡ length w.cabling
-  entries = length-map w.nodes (λ (x : PortNode). shown_attrs x.state) ∙ formed.count
-
-  fit : Fit w.cabling (labels (attrs_now w))
-  fit = labels_fit w.cabling (attrs_now w) entries (attrs-fit w formed)
-
   module _ (set node root : ℕ) (t : Tree) (is : IsComponent w.cabling node set) (there : AreThere w set) (h : IsTree w set root t) where
     top : root < length w.cabling
     top = there root h.holds_root
@@ -40,12 +32,6 @@ module _ (w : CableWorld) (formed : IsWellFormed w) where
 
     no-loop : Loopless w.cabling root set
     no-loop = loopless w.cabling root set h.no_loop.core formed.cabling top (shared w.cabling node root set formed.cabling is h.holds_root) small h.no_loop.is_core h.no_loop.empty
-
-    walk-length : length (numbers w.cabling root t) ≡ length (walk t)
-    walk-length =
-        sym (length-visits w.cabling (at_root root) t)
-        ∙ sym (length-map (visits w.cabling (at_root root) t) (shown_node w.cabling (labels (attrs_now w))))
-        ∙ sym (ap length (walk_seen w.cabling (labels (attrs_now w)) (at_root root) t formed.cabling top h.seen))
 
     nodes-there : All (λ (k : ℕ). k < length w.cabling) (numbers w.cabling root t)
     nodes-there =
@@ -57,11 +43,11 @@ module _ (w : CableWorld) (formed : IsWellFormed w) where
     pub read-back : (list order : List ℕ) → list ≡ emits t → order ≡ numbers w.cabling root t → IsReadBack w root list order
     read-back list order emitted walked = record {
       tree = t;
-      bus = bus_seen w.cabling (labels (attrs_now w)) root t formed.cabling fit top h.seen (tree_few w.cabling (labels (attrs_now w)) root set t no-loop h.seen);
+      bus = bus-of w.cabling w formed refl root set no-loop t h.seen;
       emitted = sym emitted;
       seen = h.seen;
       walked = walked;
-      whole = ap length walked ∙ walk-length;
+      whole = ap length walked ∙ so-many w.cabling (labels (attrs_now w)) root None t h.seen;
       top = top;
       there = subst (All (λ (k : ℕ). k < length w.cabling)) (sym walked) nodes-there;
     }

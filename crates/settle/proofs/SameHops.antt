@@ -15,7 +15,8 @@ use Rattle.bus_manager.specs.Hops.{IsHops, IsLongestPath, HopsAreOfNodePaths}
 use Rattle.bus_manager.proofs.Lemmas.{reach, is_hops}
 use Rattle.outcomes.proofs.Lemmas.{component-small, in-read, one-place}
 use Rattle.settle.specs.Hops.{HopsStay}
-use Rattle.settle.proofs.Cables.{Agree, Leads, so-many, tree-leads}
+use Rattle.settle.proofs.SeenTrees.{so-many}
+use Rattle.settle.proofs.Cables.{Agree, Leads, tree-leads}
 
 -- ---- places in lists
 

@@ -3,40 +3,25 @@ use Rattle.std.proofs.Common.{◌≡◌, ℕ, zero, suc, ◌^◌, ◌<◌, ◌�
 use Rattle.std.specs.Prelude.{unwrap_or}
 use Rattle.std.proofs.lemmas.Bool.{lt-ltb}
 use Rattle.std.proofs.lemmas.Option.{slice_get-get_or, slice_get_within}
-use Rattle.std.proofs.lemmas.List.{length-map}
-use Rattle.self_id.specs.declared.standard.Standard.TheVariants.{Ieee2000}
-use Rattle.topology_stack.specs.Tree.{Tree, IsBusTreeOf}
-use Rattle.cabling.specs.Wiring.{Wiring}
 use Rattle.cabling.specs.NodeSet.{Holds}
 use Rattle.cabling.specs.Component.{IsComponent}
 use Rattle.cabling.specs.Labels.{labels}
-use Rattle.cabling.specs.Sees.{Sees, numbers}
-use Rattle.cabling.proofs.Lemmas.{labels_fit, bus_seen, Loopless, tree_within, tree_once, tree_few, shared, seen_loopless, small-set}
+use Rattle.cabling.specs.Sees.{numbers}
+use Rattle.cabling.proofs.Lemmas.{Loopless, tree_within, tree_once, tree_few, shared, seen_loopless, small-set}
 use Rattle.port_state.specs.Config.{config_packet}
-use Rattle.port_state.specs.Group.{shown_attrs}
 use Rattle.port_state.specs.Machine.{PortNode}
 use Rattle.cable_world.specs.World.{CableWorld}
 use Rattle.cabling.specs.declared.cable.CableFault.TheVariants.{NoNode}
 use Rattle.cable_world.specs.declared.act.Act.TheVariants.{Config}
 use Rattle.cable_world.specs.Act.{IsConfigPacket, act_fault}
-use Rattle.cable_world.specs.Lawful.{IsWellFormed, IsLawful}
+use Rattle.cable_world.specs.Lawful.{IsLawful}
 use Rattle.settle.proofs.SameNodes.{SameNodes, same-component, same-tree}
 use Rattle.cable_world.specs.Outcome.{IsTree, Shows, attrs_now}
-use Rattle.cable_world.proofs.Lemmas.{some-of, some-at, some-same, attrs-fit}
+use Rattle.cable_world.proofs.Lemmas.{some-of, some-at, some-same}
 use Rattle.outcomes.proofs.Lemmas.{in-read, one-place}
 use Rattle.bus_manager.specs.Gap.{gaps, gap_of}
 use Rattle.root_plan.specs.declared.choice.RootPlan.{RootPlan}
 use Rattle.settle.specs.Planned.{SuitsTree, HasId}
-
--- ---- bus trees
-
--- a tree that cables without loop show is a bus tree
-pub bus-of :
-    (c : Wiring) (u : CableWorld) → IsWellFormed u → u.cabling ≡ c → (root set : ℕ) → Loopless c root set →
-    (t : Tree) → Sees c (labels (attrs_now u)) root None t → IsBusTreeOf Ieee2000 t
-bus-of c u f same root set l t seen =
-    let count : length (attrs_now u) ≡ length c = length-map u.nodes (λ (x : PortNode). shown_attrs x.state) ∙ f.count ∙ ap length same in
-    bus_seen c (labels (attrs_now u)) root t l.cabling (labels_fit c (attrs_now u) count (attrs-fit u f)) l.there seen (tree_few c (labels (attrs_now u)) root set t l seen)
 
 -- ---- gap counts have six bits
 
