@@ -1,5 +1,5 @@
 -- A plan for the tree that a list tells suits the component that has the list.
-use Rattle.std.proofs.Common.{◌≡◌, ℕ, ◌^◌, ◌<◌, None, length, slice_get, ◌∙◌, ap, subst, arith, refl, sym}
+use Rattle.std.proofs.Common.{◌≡◌, ℕ, ◌^◌, ◌<◌, None, length, slice_get, ap, subst, arith, refl, sym}
 use Rattle.std.proofs.lemmas.Option.{slice_get_within}
 use Rattle.self_id.specs.declared.standard.Standard.TheVariants.{Ieee2000}
 use Rattle.topology_stack.specs.Tree.{Tree, walk, IsBusTreeOf}

@@ -1,5 +1,5 @@
 -- A world is given as many turns as it wants.
-use Rattle.std.proofs.Common.{◌≡◌, ℕ, ◌≤◌, length, max, ◌∙◌, ap, arith}
+use Rattle.std.proofs.Common.{◌≡◌, ℕ, ◌≤◌, length, max, ap, arith}
 use Rattle.std.proofs.Math.Nat.{le-max_right}
 use Rattle.cable_world.specs.World.{CableWorld}
 use Rattle.cable_world.specs.Run.{quiet_turns}
