@@ -37,8 +37,8 @@ hold-lawful end n w none h =
     lawful-of (hold end n w) (hold-formed end n w none h.well_formed) (hold-levels end n w none h.well_formed h.agrees.levels) (hold-coupled end n w none h.well_formed h.coupled)
 
 pub act-lawful : KeptByActs IsLawful
-act-lawful a w v is none e h =
-    lawful-of v (act-formed a w v is none e h.well_formed) (act-levels a w v is none e h.well_formed h.agrees.levels) (act-coupled a w v is none e h.well_formed h.coupled)
+act-lawful a w v did h =
+    lawful-of v (act-formed a w v did h.well_formed) (act-levels a w v did h.well_formed h.agrees.levels) (act-coupled a w v did h.well_formed h.coupled)
 
 pub turns-lawful : KeptByTurns IsLawful
 unfolding turns_after
@@ -46,7 +46,7 @@ turns-lawful zero w h = h
 turns-lawful (suc k) w h = turns-lawful k (turn w) (turn-lawful w h)
 
 event-lawful : (e : Event) (w v : CableWorld) → Happens e w v → IsLawful w → IsLawful v
-event-lawful (acts a) w v h l = act-lawful a w v h.0 h.1 h.2 l
+event-lawful (acts a) w v h l = act-lawful a w v h l
 event-lawful (holds end n) w v h l = subst IsLawful (sym h.1) (hold-lawful end n w h.0 l)
 event-lawful turns w v h l = subst IsLawful (sym h) (turn-lawful w l)
 

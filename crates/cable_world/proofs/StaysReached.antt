@@ -38,7 +38,7 @@ pub hold-comes : KeptByHolds ComesOfPowerOn
 hold-comes end n w none r = event-comes (holds end n) w (hold end n w) (none, refl) r
 
 pub act-comes : KeptByActs ComesOfPowerOn
-act-comes a w v is none e r = event-comes (acts a) w v (is, none, e) r
+act-comes a w v did r = event-comes (acts a) w v did r
 
 -- ---- the same where each node can be forced
 
@@ -69,4 +69,4 @@ pub hold-reached : KeptByHolds IsReached
 hold-reached end n w none r = event-reached (holds end n) w (hold end n w) (none, refl) r
 
 pub act-reached : KeptByActs IsReached
-act-reached a w v is none e r = event-reached (acts a) w v (is, none, e) r
+act-reached a w v did r = event-reached (acts a) w v did r

@@ -120,6 +120,10 @@ IsAct (Pull end) = Unit {0}
 IsAct (Reset node) = Unit {0}
 IsAct (Config from root_id force gap) = IsConfigPacket (config_packet root_id force gap)
 
+-- an act that isn't refused turns the first world into the second
+abbrev pub Acted : Act → CableWorld → CableWorld → Type 0
+Acted a w v = IsAct a × (act_fault a w ≡ None) × ActLeads a w v
+
 -- ---- hold
 
 -- the wire that leaves this end is held for so many turns, whatever it was held for before

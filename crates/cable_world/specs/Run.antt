@@ -3,7 +3,7 @@ use Rattle.std.specs.Prelude.{◌≡◌, ℕ, ◌+◌, ◌*◌, List, [], ◌∷
 use Rattle.cabling.specs.declared.cable.End.{End}
 use Rattle.cable_world.specs.declared.act.Act.{Act}
 use Rattle.cable_world.specs.World.{CableWorld, AllCanBeForced, IsPowerOnWorld}
-use Rattle.cable_world.specs.Act.{ActLeads, IsAct, act_fault, hold, hold_fault}
+use Rattle.cable_world.specs.Act.{Acted, hold, hold_fault}
 use Rattle.cable_world.specs.Turn.{turn}
 
 -- what may happen to a world
@@ -14,7 +14,7 @@ pub data Event : Type 0 where
 
 -- an event that isn't refused turns the first world into the second
 abbrev pub Happens : Event → CableWorld → CableWorld → Type 0
-Happens (acts a) w v = IsAct a × (act_fault a w ≡ None) × ActLeads a w v
+Happens (acts a) w v = Acted a w v
 Happens (holds end k) w v = (hold_fault end w ≡ None) × (v ≡ hold end k w)
 Happens turns w v = v ≡ turn w
 

@@ -5,7 +5,7 @@ use Rattle.port_state.specs.Machine.{PortNode}
 use Rattle.cable_world.specs.declared.act.Act.{Act}
 use Rattle.cable_world.specs.World.{CableWorld, NodeNumber, AllCanBeForced, IsPowerOnWorld}
 use Rattle.cable_world.specs.Turn.{turns_after}
-use Rattle.cable_world.specs.Act.{ActLeads, IsAct, act_fault, hold, hold_fault}
+use Rattle.cable_world.specs.Act.{Acted, hold, hold_fault}
 use Rattle.cable_world.specs.Lawful.{IsLawful}
 use Rattle.cable_world.specs.Run.{Event, Runs, ComesOfPowerOn, IsReached}
 
@@ -23,7 +23,7 @@ KeptByHolds P =
 
 abbrev pub KeptByActs : (CableWorld → Type 0) → Type 0
 KeptByActs P =
-    (a : Act) (w v : CableWorld) → IsAct a → act_fault a w ≡ None → ActLeads a w v → P w → P v
+    (a : Act) (w v : CableWorld) → Acted a w v → P w → P v
 
 -- ---- laws
 

@@ -5,7 +5,7 @@ use Rattle.cable_world.specs.declared.act.Act.{Act}
 use Rattle.cable_world.specs.World.{CableWorld}
 use Rattle.cable_world.specs.Turn.{turn}
 use Rattle.cable_world.specs.Quiet.{HoldSchedule, quiet_after}
-use Rattle.cable_world.specs.Act.{ActLeads, IsAct, act_fault, hold, hold_fault}
+use Rattle.cable_world.specs.Act.{Acted, hold, hold_fault}
 use Rattle.cable_world.specs.Lawful.{IsLawful}
 use Rattle.cable_world.specs.Run.{ComesOfPowerOn}
 use Rattle.convergence.specs.Acyclic.{IsAcyclic}
@@ -24,8 +24,7 @@ KeptByHold P =
 
 abbrev pub KeptByAct : (CableWorld → Type 0) → Type 0
 KeptByAct P =
-    (a : Act) (w v : CableWorld) → IsAct a → act_fault a w ≡ None → ActLeads a w v → IsLawful w →
-    P w → P v
+    (a : Act) (w v : CableWorld) → Acted a w v → IsLawful w → P w → P v
 
 abbrev pub HoldsFromPowerOn : (CableWorld → Type 0) → Type 0
 HoldsFromPowerOn P = (w : CableWorld) → ComesOfPowerOn w → P w

@@ -41,7 +41,7 @@ pub use Rattle.port_state.specs.declared.signal.Signal.{Signal}
 pub use Rattle.port_state.specs.declared.states.NodeState.{NodeState}
 pub use Rattle.port_state.specs.declared.timing.Timing.{Timing}
 pub use Rattle.cable_world.proofs.Lemmas.{Chosen, Pair, Side, act-comes, acting, after-cabling, after-delay, after-length, after_signals, arrivals, at, attrs, before, cable-connected, cabling-after, child-if, chosen, comes, departures, hear-stays, hearing, in-turn, late-roles, leftovers, no-packets, no-quiet, node-after, not-both, one-quiet, only, port-is, quiet-lawful, quiet-then, comes-lawful, risen, side, side-wire, some-at, some-of, some-same, start-before_tree, ticking, turn-lawful, turn-state, wire_after}
-pub use Rattle.cable_world.specs.Act.{ActLeads, IsAct, act_fault, change_in_set, hold, hold_fault, note_changes}
+pub use Rattle.cable_world.specs.Act.{Acted, ActLeads, IsAct, act_fault, change_in_set, hold, hold_fault, note_changes}
 pub use Rattle.cable_world.specs.Agreement.{leads_down, level_after, level_sent, level_shown, shown_or_idle}
 pub use Rattle.cable_world.specs.Coupling.{is_asking}
 pub use Rattle.cable_world.specs.Fresh.{IsFresh}

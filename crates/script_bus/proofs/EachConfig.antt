@@ -71,7 +71,7 @@ module _
   l = reached-lawful w reached
 
   sent-reached : IsReached sent
-  sent-reached = act-reached (Config from id force gap) w sent fits accepted act reached
+  sent-reached = act-reached (Config from id force gap) w sent (fits, accepted, act) reached
 
   sent-lawful : IsLawful sent
   sent-lawful = reached-lawful sent sent-reached

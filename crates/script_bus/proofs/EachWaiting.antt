@@ -298,7 +298,7 @@ is-given e d reports = go e.command refl reports
           from = c.sent.world;
           reached =
               act-reached packet (world_of e.before) c.sent.world
-              (plan-act c.shown c.is.bus c.plan c.planned p.node) c.sends.0 c.sends.1 h.reached;
+              (plan-act c.shown c.is.bus c.plan c.planned p.node, c.sends.0, c.sends.1) h.reached;
           given = c.reports.1;
         }
     go c same k = absurd k

@@ -119,7 +119,7 @@ module _
     sent = act-leads components packet w h.reached accepted
 
     sent-reached : IsReached sent.0
-    sent-reached = act-reached packet w sent.0 (packet-fits w l node p.plan suit c.set c.is c.small) accepted sent.1 h.reached
+    sent-reached = act-reached packet w sent.0 (packet-fits w l node p.plan suit c.set c.is c.small, accepted, sent.1) h.reached
 
     abbrev after : CableWorld
     after = turns_after (quiet_turns_of sent.0) sent.0

@@ -118,8 +118,8 @@ module _ (names : Names) (w v : CableWorld) (l : IsLawful v) where
               none-sent names w v end ((c.others end.node (λ inside. false≢true (sym e ∙ ap (λ (n : ℕ). n == 1) inside))).wires end refl)
 
 pub acts-shown : ActsByNumber → KeptByActs IsLawful → ActsShowTheirResets
-acts-shown numbers kept names a w v act none leads lawful =
-    by a none (kept a w v act none leads lawful) (numbers a w v act none leads lawful)
+acts-shown numbers kept names a w v did lawful =
+    by a did.1 (kept a w v did lawful) (numbers a w v did lawful)
   where
     by : (a : Act) → act_fault a w ≡ None → IsLawful v → Changes a w v → ShowsItsResets names a w v
     by (Plug a b) none l c = of-two names w v l (Plug a b) a.node b.node (node_plugged a.port) (node_plugged b.port) c.node_a c.node_b c.others (λ k e. e) (λ k e. e)

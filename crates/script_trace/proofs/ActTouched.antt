@@ -104,11 +104,11 @@ stands-at (Reset node) w v k c none = c.others k none
 stands-at (Config from root_id force gap) w v k c none = absurd (none tt)
 
 pub touches : ActsByNumber → (a : Act) (c : Wiring) (set : Nodes) → TakesTouched a c set → TouchesAtMost a c set
-touches numbers a c set takes w v same is none leads lawful k s y here now out =
+touches numbers a c set takes w v same did lawful k s y here now out =
     let found = act-at w 0 k k w.nodes s (omega arith) here in
     let x = found.0 in
     let inside : k < length c =
     omega (arith, slice_get_within w.nodes k x found.1, lawful.well_formed.count, ap length same) in
-    let stands = stands-at a w v k (numbers a w v is none leads lawful)
+    let stands = stands-at a w v k (numbers a w v did lawful)
     (λ may. out (takes k inside (subst (λ (d : Wiring). MayTouch a d k) same may))) in
     subst (λ (u : Seen). ShowsNothingNew v k u y.state.view) (sym found.2) (stands-old w v lawful k x found.1 stands y now)

@@ -1,11 +1,11 @@
 -- At which nodes something is new after an act.
-use Rattle.std.specs.Prelude.{◌≡◌, ◌⊎◌, ◌<◌, None, IsSomeAnd, length}
+use Rattle.std.specs.Prelude.{◌≡◌, ◌⊎◌, ◌<◌, IsSomeAnd, length}
 use Rattle.cabling.specs.Wiring.{Wiring, far}
 use Rattle.cabling.specs.NodeSet.{Nodes, Holds}
 use Rattle.cable_world.specs.declared.act.Act.{Act}
 use Rattle.cable_world.specs.declared.act.Act.TheVariants.{Plug, Pull, Reset, Config}
 use Rattle.cable_world.specs.World.{CableWorld, NodeNumber}
-use Rattle.cable_world.specs.Act.{ActLeads, IsAct, act_fault}
+use Rattle.cable_world.specs.Act.{Acted}
 use Rattle.cable_world.specs.Lawful.{IsLawful}
 use Rattle.script_trace.specs.News.{IsNewWithin}
 use Rattle.script_trace.specs.Step.{seen_before_act}
@@ -24,5 +24,5 @@ TakesTouched a c set = (k : NodeNumber) → k < length c → MayTouch a c k → 
 -- where these are the cables, and the act isn't refused: at nodes of the set alone
 abbrev pub TouchesAtMost : Act → Wiring → Nodes → Type 0
 TouchesAtMost a c set =
-    (w v : CableWorld) → w.cabling ≡ c → IsAct a → act_fault a w ≡ None → ActLeads a w v →
-    IsLawful w → IsNewWithin set (seen_before_act w 0 w.nodes) v
+    (w v : CableWorld) → w.cabling ≡ c → Acted a w v → IsLawful w →
+    IsNewWithin set (seen_before_act w 0 w.nodes) v

@@ -77,7 +77,7 @@ module _
 
   pub nodes-stay : length v.nodes ≡ length w.nodes
   nodes-stay = ∥∥₁_elim reached (Coded-set coded_ℕ (length v.nodes) (length w.nodes)) (λ r.
-      let s = act-reached (Config from plan.root_id true (Some plan.gap)) w sent fits accepted act r in
+      let s = act-reached (Config from plan.root_id true (Some plan.gap)) w sent (fits, accepted, act) r in
       let u = reached-lawful v (subst IsReached (sym quiet) (turns-reached (quiet_turns_of sent) sent s)) in
       u.well_formed.count ∙ ap length cables ∙ sym l.well_formed.count)
 
@@ -97,7 +97,7 @@ module _
     moved : IsReached w → (t : Tree) × IsTree v set root t
     moved r =
         let n = (tree-there w l from plan s set component small).no_loop in
-        let can = reached-forced sent (act-reached (Config from plan.root_id true (Some plan.gap)) w sent fits accepted act r) root in
+        let can = reached-forced sent (act-reached (Config from plan.root_id true (Some plan.gap)) w sent (fits, accepted, act) r) root in
         let t = moves no_holds w sent (quiet_turns_of sent) from plan.root_id (Some plan.gap) set root (reached-comes w r) fits accepted (named r) can n (turns-enough sent) in
         (t.0, subst (λ (u : CableWorld). IsTree u set root t.0) (sym quiet) (plainly (λ u. IsTree u set root t.0) (quiet_turns_of sent) sent t.1))
 

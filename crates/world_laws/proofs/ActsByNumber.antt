@@ -14,7 +14,7 @@ use Rattle.cable_world.specs.declared.act.Act.{Act}
 use Rattle.cable_world.specs.declared.act.Act.TheVariants.{Plug, Pull, Reset, Config}
 use Rattle.cable_world.specs.Wire.{Wire, empty_wire, add_signals}
 use Rattle.cable_world.specs.World.{CableWorld, wire_of, put}
-use Rattle.cable_world.specs.Act.{ActLeads, IsAct, act_fault, with_step, plug, pull_from, reset, change_in_set, configure, note_changes}
+use Rattle.cable_world.specs.Act.{Acted, with_step, plug, pull_from, reset, change_in_set, configure, note_changes}
 use Rattle.cable_world.specs.Lawful.{IsWellFormed}
 use Rattle.cable_world.proofs.Lemmas.{Cabled, with_cable, without_cable, plug-cabled, pull-cabled, Resets as Resetting, resets-disturb, resets-plugged, resets-pulled, other_than, Untouched, untouched, same-wire, still-there, CableEnd, cable-end, recabled, others-alone, has-wire, has-cable, plug-formed, pull-formed, reset-formed, told-formed, HasEntry, put-same, put-other, put-lengths, step-cables}
 use Rattle.world_laws.specs.ByNumber.{BeginsReset, Stands, Plugs, Pulls, Resets, Configures, Changes, ActsByNumber}
@@ -240,10 +240,9 @@ module _
   }
 
 pub changes :
-    (a : Act) (w v : CableWorld) → IsAct a → act_fault a w ≡ None → ActLeads a w v →
-    IsWellFormed w → Changes a w v
-changes (Plug a b) w v is none e f = subst (λ (z : CableWorld). Plugs w z a b) (sym e) (plug-numbers a b w none f)
-changes (Pull a) w v is none e f =
+    (a : Act) (w v : CableWorld) → Acted a w v → IsWellFormed w → Changes a w v
+changes (Plug a b) w v (is, none, e) f = subst (λ (z : CableWorld). Plugs w z a b) (sym e) (plug-numbers a b w none f)
+changes (Pull a) w v (is, none, e) f =
     let cable = has-cable w.cabling a none in
     let b : End = cable.0 in
     let now = pulled-from a b w v cable.1 e in (
@@ -251,8 +250,8 @@ changes (Pull a) w v is none e f =
       subst (λ (z : CableWorld). Pulls w z a b) (sym now)
           (pull-numbers a b w cable.1 f (subst (λ (o : Option End). IsWellFormed (pull_from a o w)) cable.1 (pull-formed a (far w.cabling a) w refl f))),
     )
-changes (Reset node) w v is none e f = subst (λ (z : CableWorld). Resets w z node) (sym e) (reset-numbers node w f)
-changes (Config from root_id force gap) w v is none e f =
+changes (Reset node) w v (is, none, e) f = subst (λ (z : CableWorld). Resets w z node) (sym e) (reset-numbers node w f)
+changes (Config from root_id force gap) w v (is, none, e) f =
     let packet : ConfigPacket = config_packet root_id force gap in
     let formed : IsWellFormed (record w { nodes = change_in_set e.0 (node_set_config packet) 0 w.nodes }) = told-formed e.0 packet w is.bits f in (
       e.0,
@@ -261,4 +260,4 @@ changes (Config from root_id force gap) w v is none e f =
     )
 
 pub acts-by-number : ActsByNumber
-acts-by-number a w v is none e l = changes a w v is none e l.well_formed
+acts-by-number a w v did l = changes a w v did l.well_formed

@@ -9,7 +9,7 @@ use Rattle.cable_world.specs.declared.wire.Travelling.{Travelling}
 use Rattle.cable_world.specs.Wire.{Wire, new_signal, age_signal, age_wire, gives}
 use Rattle.cable_world.specs.World.{CableWorld, wire_of}
 use Rattle.cable_world.specs.Turn.{turn}
-use Rattle.cable_world.specs.Act.{ActLeads, IsAct, act_fault, hold, hold_fault}
+use Rattle.cable_world.specs.Act.{Acted, hold, hold_fault}
 use Rattle.cable_world.specs.Run.{Event, acts, holds, turns, Happens, Runs}
 use Rattle.cable_world.specs.Signals.{signals_of}
 use Rattle.cable_world.specs.Lawful.{AgesFall, IsWellFormed}
@@ -36,15 +36,15 @@ module _ (w : CableWorld) (a b : End) (f : IsWellFormed w) (cable : far w.cablin
   -- ---- an act or a hold: what was under way is so, and perhaps a Reset is sent
 
   act-after :
-      (act : Act) (v : CableWorld) → IsAct act → act_fault act w ≡ None → ActLeads act w v →
-      act ≢ Pull a → act ≢ Pull b → After w v a b (under_way w a) (sent_in_act a act w)
-  act-after act v is none e not_a not_b =
-      let joined : far v.cabling a ≡ Some b = act-cable act w v none e f a b cable not_a not_b in
+      (act : Act) (v : CableWorld) → Acted act w v → act ≢ Pull a → act ≢ Pull b →
+      After w v a b (under_way w a) (sent_in_act a act w)
+  act-after act v did not_a not_b =
+      let joined : far v.cabling a ≡ Some b = act-cable act w v did.1 did.2 f a b cable not_a not_b in
       record {
-        formed = act-formed act w v is none e f;
-        delay = (act-keeps act w v e).delay;
+        formed = act-formed act w v did f;
+        delay = (act-keeps act w v did.2).delay;
         cable = joined;
-        signals = sent-in-act act w v a b (changes act w v is none e f) f joined;
+        signals = sent-in-act act w v a b (changes act w v did f) f joined;
       }
 
   hold-after :
@@ -145,7 +145,7 @@ step :
     (e : Event) (w u : CableWorld) (a b : End) → IsWellFormed w → far w.cabling a ≡ Some b →
     (e ≢ acts (Pull a)) × (e ≢ acts (Pull b)) → Happens e w u →
     Step w u a b (heard_then b e w) (sent_then a e w) (turned_by e)
-step (acts act) w u a b f cable un h = same refl refl (act-after w a b f cable act u h.0 h.1 h.2 (not-pulled act a un.0) (not-pulled act b un.1))
+step (acts act) w u a b f cable un h = same refl refl (act-after w a b f cable act u h (not-pulled act a un.0) (not-pulled act b un.1))
 step (holds end n) w u a b f cable un h = same refl refl (moved w (hold end n w) u a b (under_way w a) [] h.1 (hold-after w a b f cable end n h.0))
 step turns w u a b f cable un h = turn-step w u a b f cable h
 

@@ -1,5 +1,5 @@
 -- Acts make components fresh: whoever is reset has just begun, and all others are as they were.
-use Rattle.std.proofs.Common.{◌≡◌, ◌≢◌, ◌⊎◌, inl, inr, ℕ, ◌^◌, ◌<◌, false, List, [], ◌∷◌, Some, None, length, slice_get, refl, sym, ◌∙◌, ap, subst, arith, true≢false}
+use Rattle.std.proofs.Common.{◌≡◌, ◌≢◌, ◌⊎◌, inl, inr, ℕ, ◌^◌, ◌<◌, false, List, [], ◌∷◌, Some, length, slice_get, refl, sym, ◌∙◌, ap, subst, arith, true≢false}
 use Rattle.std.proofs.lemmas.Bool.{cases_eq}
 use Rattle.std.proofs.lemmas.Option.{slice_get_cases, slice_get_within}
 use Rattle.cabling.specs.NodeSet.{Holds}
@@ -11,7 +11,7 @@ use Rattle.port_state.specs.Config.{ConfigPacket}
 use Rattle.port_state.specs.Machine.{PortNode, node_set_config}
 use Rattle.cable_world.specs.declared.act.Act.{Act}
 use Rattle.cable_world.specs.World.{CableWorld, IsPowerOnWorld}
-use Rattle.cable_world.specs.Act.{ActLeads, IsAct, act_fault, change_in_set}
+use Rattle.cable_world.specs.Act.{Acted, change_in_set}
 use Rattle.cable_world.specs.Run.{Event, acts, holds, turns, Happens, Runs, ComesOfPowerOn}
 use Rattle.cable_world.specs.Lawful.{IsLawful, IsWellFormed}
 use Rattle.cable_world.specs.Phases.{is_in_bus_reset}
@@ -64,10 +64,9 @@ told-phase w k set packet x at = elim (was set (node_set_config packet) 0 w.node
 ]
 
 act-fates :
-    (a : Act) (w v : CableWorld) → IsAct a → act_fault a w ≡ None → ActLeads a w v →
-    IsWellFormed w → Fates w v
-act-fates a w v is none e f k x at =
-    let t : Acting w v = acting a w v is none e f in
+    (a : Act) (w v : CableWorld) → Acted a w v → IsWellFormed w → Fates w v
+act-fates a w v did f k x at =
+    let t : Acting w v = acting a w v did f in
     elim (t.happens.nodes k x (sym (ap (λ (z : CableWorld). slice_get z.nodes k) t.is) ∙ at)) [
       | inl begun ↦ inl (begins x.state begun)
       | inr there ↦ elim t.hears [
@@ -92,7 +91,7 @@ same-fates w v e k x at = inr (same-phase w k x (sym (ap (λ (ns : List PortNode
 
 event-comes :
     (e : Event) (w v : CableWorld) → Happens e w v → ComesOfPowerOn w → ComesOfPowerOn v
-event-comes (acts a) w v h r = act-comes a w v h.0 h.1 h.2 r
+event-comes (acts a) w v h r = act-comes a w v h r
 event-comes (holds end n) w v h r = subst ComesOfPowerOn (sym h.1) (hold-comes end n w h.0 r)
 event-comes turns w v h r = subst ComesOfPowerOn (sym h) (turn-comes w r)
 
@@ -109,7 +108,7 @@ run-fates :
     ComesOfPowerOn w → Fates w v
 run-fates [] w v run none r = same-fates w v (ap (λ (z : CableWorld). z.nodes) run)
 run-fates (acts a ∷ events) w v run none r =
-    then-fates w run.0 v (act-fates a w run.0 run.1.0 run.1.1 run.1.2 (comes-lawful w r).well_formed)
+    then-fates w run.0 v (act-fates a w run.0 run.1 (comes-lawful w r).well_formed)
     (run-fates events run.0 v run.2 none (event-comes (acts a) w run.0 run.1 r))
 run-fates (holds end n ∷ events) w v run none r =
     then-fates w run.0 v (same-fates w run.0 (ap (λ (z : CableWorld). z.nodes) run.1.1))
@@ -151,7 +150,7 @@ touched-in :
     ComesOfPowerOn w → (k : ℕ) → IsTouchedIn k events w v run → InReset v k
 touched-in [] w v run none r k h = absurd h
 touched-in (acts a ∷ events) w v run none r k (inl touched) =
-    let b : Begun run.0 k = touched-begun a w run.0 run.1.0 run.1.1 run.1.2 (comes-lawful w r) k touched in
+    let b : Begun run.0 k = touched-begun a w run.0 run.1 (comes-lawful w r) k touched in
     stays-in-reset events run.0 v run.2 none (event-comes (acts a) w run.0 run.1 r) k (record { node = b.0; at = b.1; phase = b.2.phase })
 touched-in (acts a ∷ events) w v run none r k (inr later) = touched-in events run.0 v run.2 none (event-comes (acts a) w run.0 run.1 r) k later
 touched-in (holds end n ∷ events) w v run none r k h = touched-in events run.0 v run.2 none (event-comes (holds end n) w run.0 run.1 r) k h

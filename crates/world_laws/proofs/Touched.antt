@@ -13,7 +13,7 @@ use Rattle.port_state.specs.Machine.{PortNode, NodeStep, node_disturb, node_plug
 use Rattle.cable_world.specs.declared.act.Act.{Act}
 use Rattle.cable_world.specs.declared.act.Act.TheVariants.{Plug, Pull, Reset, Config}
 use Rattle.cable_world.specs.World.{CableWorld}
-use Rattle.cable_world.specs.Act.{ActLeads, IsAct, act_fault, node_fault}
+use Rattle.cable_world.specs.Act.{Acted, act_fault, node_fault}
 use Rattle.cable_world.specs.Lawful.{IsLawful, IsWellFormed}
 use Rattle.cable_world.proofs.Lemmas.{some-of, some-at, comes-lawful, act-lawful, HasBegun, resets-disturb, resets-plugged, resets-pulled, act-keeps, has-cable}
 use Rattle.convergence.specs.Milestones.{AreIdentifying}
@@ -79,15 +79,14 @@ begun-by (Config from root_id force gap) w v n k e x at =
     begun-at w v from k (λ y. node_disturb (heard y)) (λ y. resets-disturb.begins (heard y)) n.1.resets e x at
 
 pub touched-begun :
-    (a : Act) (w v : CableWorld) → IsAct a → act_fault a w ≡ None → ActLeads a w v → IsLawful w →
-    (k : ℕ) → Touches a w k → Begun v k
-touched-begun a w v is none e l k touched =
-    let x = node-there w k l.well_formed (touched-inside a w none l.well_formed k touched) in
-    begun-by a w v (acts-by-number a w v is none e l) k touched x.0 x.1
+    (a : Act) (w v : CableWorld) → Acted a w v → IsLawful w → (k : ℕ) → Touches a w k → Begun v k
+touched-begun a w v did l k touched =
+    let x = node-there w k l.well_formed (touched-inside a w did.1 l.well_formed k touched) in
+    begun-by a w v (acts-by-number a w v did l) k touched x.0 x.1
 
 pub touched-reset : TouchedNodesReset
-touched-reset a w v is none e l k touched =
-    let z = touched-begun a w v is none e l k touched in
+touched-reset a w v did l k touched =
+    let z = touched-begun a w v did l k touched in
     some-at (slice_get v.nodes k) z.0 (λ (x : PortNode). (x.state.view.phase ≡ ResetStart) × (x.state.view.timer ≡ 0)) z.1 (z.2.phase, z.2.timer)
 
 -- ---- untouched components
@@ -105,20 +104,20 @@ stands-by (Config from root_id force gap) w v l n node set u k h = n.1.others k 
     u.none from (own.least set h comp.closed from n.1.component.holds) refl)
 
 pub stands : ActsTouchTheirComponent
-stands a w v is none e l node set u = stands-by a w v l (acts-by-number a w v is none e l) node set u
+stands a w v did l node set u = stands-by a w v l (acts-by-number a w v did l) node set u
 
 pub component-stays : UntouchedComponentsStay
-component-stays a w v is none e l node set u =
-    same-component v.cabling w.cabling set (λ k h. (stands a w v is none e l node set u k h).ports) node u.component
+component-stays a w v did l node set u =
+    same-component v.cabling w.cabling set (λ k h. (stands a w v did l node set u k h).ports) node u.component
 
 pub tree-stays : UntouchedTreesStay
-tree-stays a w v node set root t is none e r u h =
+tree-stays a w v node set root t did r u h =
     let l : IsLawful w = comes-lawful w r in
-    let m : IsLawful v = act-lawful a w v is none e l in
+    let m : IsLawful v = act-lawful a w v did l in
     let x = some-of (slice_get w.nodes node) _ (h.ids node u.component.holds) in
-    let here : node < length v.nodes = omega (arith, slice_get_within w.nodes node x.0 x.1, (act-keeps a w v e).nodes) in
+    let here : node < length v.nodes = omega (arith, slice_get_within w.nodes node x.0 x.1, (act-keeps a w v did.2).nodes) in
     let small : set < 2 ^ 63 = small-component v.cabling node set m.well_formed.cabling (omega (arith, here, m.well_formed.count)) u.component in
     let all : AreIdentifying v set = λ k z inside at.
-    let still : slice_get v.nodes k ≡ slice_get w.nodes k = (stands a w v is none e l node set u k inside).node in
+    let still : slice_get v.nodes k ≡ slice_get w.nodes k = (stands a w v did l node set u k inside).node in
     ready-hears z.state.view.phase (tree-ready w set root t (comes-numbering w r).identifies h k z inside (sym still ∙ at)) in
-    act-tree a w v is none e r node set u.component here small all root t h
+    act-tree a w v did r node set u.component here small all root t h

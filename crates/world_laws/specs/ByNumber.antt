@@ -1,5 +1,5 @@
 -- What an act makes of each node, of each wire and of the cables, by number.
-use Rattle.std.specs.Prelude.{◌≡◌, ◌≢◌, [], ◌∷◌, None, Some, slice_get}
+use Rattle.std.specs.Prelude.{◌≡◌, ◌≢◌, [], ◌∷◌, Some, slice_get}
 use Rattle.cabling.specs.declared.cable.End.{End}
 use Rattle.cabling.specs.Wiring.{far, ports_of}
 use Rattle.cabling.specs.NodeSet.{Holds}
@@ -12,7 +12,7 @@ use Rattle.cable_world.specs.declared.act.Act.{Act}
 use Rattle.cable_world.specs.declared.act.Act.TheVariants.{Plug, Pull, Reset, Config}
 use Rattle.cable_world.specs.Wire.{add_signals}
 use Rattle.cable_world.specs.World.{CableWorld, NodeNumber, NodeSet, wire_of}
-use Rattle.cable_world.specs.Act.{ActLeads, IsAct, act_fault}
+use Rattle.cable_world.specs.Act.{Acted}
 use Rattle.cable_world.specs.Lawful.{IsLawful}
 
 -- ---- one node
@@ -84,8 +84,7 @@ Changes (Config from root_id force gap) w v =
 -- this follows of an act on a lawful world that isn't refused
 abbrev pub InActs : (Act → CableWorld → CableWorld → Type 0) → Type 0
 InActs P =
-    (a : Act) (w v : CableWorld) → IsAct a → act_fault a w ≡ None → ActLeads a w v → IsLawful w →
-    P a w v
+    (a : Act) (w v : CableWorld) → Acted a w v → IsLawful w → P a w v
 
 abbrev pub ActsByNumber : Type 0
 ActsByNumber = InActs Changes

@@ -9,7 +9,7 @@ use Rattle.port_state.specs.declared.signal.Phase.TheVariants.{ResetStart}
 use Rattle.cable_world.specs.declared.act.Act.{Act}
 use Rattle.cable_world.specs.declared.act.Act.TheVariants.{Plug, Pull, Reset, Config}
 use Rattle.cable_world.specs.World.{CableWorld, NodeNumber, NodeSet}
-use Rattle.cable_world.specs.Act.{ActLeads, IsAct, act_fault}
+use Rattle.cable_world.specs.Act.{Acted}
 use Rattle.cable_world.specs.Run.{ComesOfPowerOn}
 use Rattle.cable_world.specs.Outcome.{Shows, IsTree}
 use Rattle.world_laws.specs.ByNumber.{Stands, InActs}
@@ -68,5 +68,5 @@ UntouchedComponentsStay =
 abbrev pub UntouchedTreesStay : Type 0
 UntouchedTreesStay =
     (a : Act) (w v : CableWorld) (node : NodeNumber) (set : NodeSet) (root : NodeNumber)
-    (t : Tree) → IsAct a → act_fault a w ≡ None → ActLeads a w v → ComesOfPowerOn w →
-    IsUntouched a w v node set → IsTree w set root t → IsTree v set root t
+    (t : Tree) → Acted a w v → ComesOfPowerOn w → IsUntouched a w v node set → IsTree w set root t →
+    IsTree v set root t

@@ -13,7 +13,7 @@ use Rattle.cable_world.specs.declared.act.Act.{Act}
 use Rattle.cable_world.specs.declared.act.Act.TheVariants.{Plug, Pull, Reset, Config}
 use Rattle.cable_world.specs.Wire.{Travelling, Wire, new_signal}
 use Rattle.cable_world.specs.World.{CableWorld, wire_of}
-use Rattle.cable_world.specs.Act.{step_at, with_step, plug, pull_from, reset, change_in_set, note_changes, ActLeads, act_fault, IsAct, hold, hold_fault}
+use Rattle.cable_world.specs.Act.{step_at, with_step, plug, pull_from, reset, change_in_set, note_changes, Acted, hold, hold_fault}
 use Rattle.cable_world.specs.Lawful.{IsWellFormed}
 use Rattle.cable_world.proofs.levels.LastHeard.{shown_if_there}
 use Rattle.cable_world.proofs.Options.{some-same, none-some}
@@ -268,12 +268,11 @@ pub record Acting (w v : CableWorld) : Type 0 where
   pub is : v ≡ note_changes w done
 
 pub acting :
-    (a : Act) (w v : CableWorld) → IsAct a → act_fault a w ≡ None → ActLeads a w v →
-    IsWellFormed w → Acting w v
-acting (Plug a b) w v is none e f = record { told = w; hears = inl refl; done = plug a b w; happens = plug-happens a b w none f; is = e }
-acting (Pull end) w v is none e f = record { told = w; hears = inl refl; done = pull_from end (far w.cabling end) w; happens = pull-happens end (far w.cabling end) w refl f; is = e }
-acting (Reset node) w v is none e f = record { told = w; hears = inl refl; done = reset node w; happens = reset-happens node w f (reset-formed node w f); is = e }
-acting (Config from root_id force gap) w v is none e f =
+    (a : Act) (w v : CableWorld) → Acted a w v → IsWellFormed w → Acting w v
+acting (Plug a b) w v (is, none, e) f = record { told = w; hears = inl refl; done = plug a b w; happens = plug-happens a b w none f; is = e }
+acting (Pull end) w v (is, none, e) f = record { told = w; hears = inl refl; done = pull_from end (far w.cabling end) w; happens = pull-happens end (far w.cabling end) w refl f; is = e }
+acting (Reset node) w v (is, none, e) f = record { told = w; hears = inl refl; done = reset node w; happens = reset-happens node w f (reset-formed node w f); is = e }
+acting (Config from root_id force gap) w v (is, none, e) f =
     let told : CableWorld = record w { nodes = change_in_set e.0 (node_set_config (config_packet root_id force gap)) 0 w.nodes } in
     let formed : IsWellFormed told = told-formed e.0 (config_packet root_id force gap) w is.bits f in
     record { told = told; hears = inr (e.0, config_packet root_id force gap, refl); done = reset from told; happens = reset-happens from told formed (reset-formed from told formed); is = e.2 }

@@ -15,7 +15,7 @@ use Rattle.port_state.specs.Machine.{PortNode, node_set_config}
 use Rattle.cable_world.specs.declared.act.Act.{Act}
 use Rattle.cable_world.specs.Wire.{Travelling, new_signal}
 use Rattle.cable_world.specs.World.{CableWorld, wire_of, IsPowerOnWorld}
-use Rattle.cable_world.specs.Act.{change_in_set, note_changes, ActLeads, act_fault, IsAct, hold, hold_fault}
+use Rattle.cable_world.specs.Act.{change_in_set, note_changes, Acted, hold, hold_fault}
 use Rattle.cable_world.specs.Signals.{is_reset, signals_of, has_reset, shows_no_notice, AllAsOldAs}
 use Rattle.cable_world.specs.Agreement.{level_after_one, level_shown, leads_down}
 use Rattle.cable_world.specs.Lawful.{IsWellFormed}
@@ -177,10 +177,9 @@ noting-coupled w u v e c =
     subst IsCoupled (sym e) all
 
 pub act-coupled :
-    (a : Act) (w v : CableWorld) → IsAct a → act_fault a w ≡ None → ActLeads a w v →
-    IsWellFormed w → IsCoupled w → IsCoupled v
-act-coupled a w v is none e f c =
-    let t : Acting w v = acting a w v is none e f in
+    (a : Act) (w v : CableWorld) → Acted a w v → IsWellFormed w → IsCoupled w → IsCoupled v
+act-coupled a w v did f c =
+    let t : Acting w v = acting a w v did f in
     let heard : IsCoupled t.told = elim t.hears [
       | inl same ↦ subst IsCoupled (sym same) c
       | inr h ↦ subst IsCoupled (sym h.2) (told-coupled h.0 h.1 w c)

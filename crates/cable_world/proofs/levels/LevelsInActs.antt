@@ -8,7 +8,7 @@ use Rattle.port_state.specs.Machine.{PortNode, node_set_config}
 use Rattle.cable_world.specs.declared.act.Act.{Act}
 use Rattle.cable_world.specs.Wire.{new_signal}
 use Rattle.cable_world.specs.World.{CableWorld, wire_of}
-use Rattle.cable_world.specs.Act.{change_in_set, ActLeads, act_fault, IsAct, hold, hold_fault}
+use Rattle.cable_world.specs.Act.{change_in_set, Acted, hold, hold_fault}
 use Rattle.cable_world.specs.Signals.{signals_of}
 use Rattle.cable_world.specs.Agreement.{level_sent, level_sent_at, level_shown, level_after, leads_down, LevelsAgree}
 use Rattle.cable_world.specs.Lawful.{IsWellFormed}
@@ -75,10 +75,9 @@ told-levels set packet w l a b x y e at there =
     (λ x at. each-kept set change w.nodes b.node (λ y. Pair x y) (λ y h. h) (λ y there. l a b x y e at there) y there) x at
 
 pub act-levels :
-    (a : Act) (w v : CableWorld) → IsAct a → act_fault a w ≡ None → ActLeads a w v →
-    IsWellFormed w → LevelsAgree w → LevelsAgree v
-act-levels a w v is none e f l =
-    let t : Acting w v = acting a w v is none e f in
+    (a : Act) (w v : CableWorld) → Acted a w v → IsWellFormed w → LevelsAgree w → LevelsAgree v
+act-levels a w v did f l =
+    let t : Acting w v = acting a w v did f in
     let heard : LevelsAgree t.told = elim t.hears [
       | inl same ↦ subst LevelsAgree (sym same) l
       | inr h ↦ subst LevelsAgree (sym h.2) (told-levels h.0 h.1 w l)

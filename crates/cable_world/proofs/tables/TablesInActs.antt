@@ -18,7 +18,7 @@ use Rattle.cable_world.specs.declared.act.Act.TheVariants.{Plug, Pull, Reset, Co
 use Rattle.cable_world.specs.Wire.{Wire, empty_wire}
 use Rattle.cable_world.specs.World.{CableWorld, wire_of, put}
 use Rattle.cable_world.proofs.tables.TablesInTurns.{length-changes}
-use Rattle.cable_world.specs.Act.{with_step, plug, pull_from, pull, reset, change_in_set, configure, note_changes, ActLeads, act_fault, IsAct, hold, hold_fault}
+use Rattle.cable_world.specs.Act.{with_step, plug, pull_from, pull, reset, change_in_set, configure, note_changes, Acted, hold, hold_fault}
 use Rattle.cable_world.specs.Lawful.{AgesFall, FitsCables, IsWellFormed}
 
 -- ---- wires
@@ -239,12 +239,11 @@ noting-formed w u v e many h g =
     subst IsWellFormed (sym e) all
 
 pub act-formed :
-    (a : Act) (w v : CableWorld) → IsAct a → act_fault a w ≡ None → ActLeads a w v →
-    IsWellFormed w → IsWellFormed v
-act-formed (Plug a b) w v is none e h = noting-formed w (plug a b w) v e (act-keeps (Plug a b) w v e).nodes h (plug-formed a b w none h)
-act-formed (Pull end) w v is none e h = noting-formed w (pull end w) v e (act-keeps (Pull end) w v e).nodes h (pull-formed end (far w.cabling end) w refl h)
-act-formed (Reset node) w v is none e h = noting-formed w (reset node w) v e (act-keeps (Reset node) w v e).nodes h (reset-formed node w h)
-act-formed (Config from root_id force gap) w v is none e h =
+    (a : Act) (w v : CableWorld) → Acted a w v → IsWellFormed w → IsWellFormed v
+act-formed (Plug a b) w v (is, none, e) h = noting-formed w (plug a b w) v e (act-keeps (Plug a b) w v e).nodes h (plug-formed a b w none h)
+act-formed (Pull end) w v (is, none, e) h = noting-formed w (pull end w) v e (act-keeps (Pull end) w v e).nodes h (pull-formed end (far w.cabling end) w refl h)
+act-formed (Reset node) w v (is, none, e) h = noting-formed w (reset node w) v e (act-keeps (Reset node) w v e).nodes h (reset-formed node w h)
+act-formed (Config from root_id force gap) w v (is, none, e) h =
     noting-formed w (configure e.0 from (config_packet root_id force gap) w) v e.2 (act-keeps (Config from root_id force gap) w v e).nodes h (configure-formed e.0 from (config_packet root_id force gap) w is.bits h)
 
 -- ---- hold

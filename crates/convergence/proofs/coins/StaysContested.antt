@@ -11,7 +11,7 @@ use Rattle.port_state.specs.Config.{ConfigPacket}
 use Rattle.port_state.specs.Machine.{node_set_config}
 use Rattle.cable_world.specs.declared.act.Act.{Act}
 use Rattle.cable_world.specs.World.{IsPowerOnWorld}
-use Rattle.cable_world.specs.Act.{change_in_set, note_changes, ActLeads, act_fault, IsAct, hold_fault}
+use Rattle.cable_world.specs.Act.{change_in_set, note_changes, Acted, hold_fault}
 use Rattle.cable_world.specs.Lawful.{IsWellFormed}
 use Rattle.cable_world.proofs.Lemmas.{power-on-apart, not-leading, ends-in-reset, Entered, Stayed, Acting, acting, each-kept, hold-happens, shown-is, ready, shown-same, shown_if_there, HasBegun, CableEnd, cable-end, none-some}
 use Rattle.cable_world.proofs.Lemmas as between
@@ -320,10 +320,9 @@ noting-contested w u v e c =
     subst IsContested (sym e) all
 
 pub act-contested :
-    (a : Act) (w v : CableWorld) → IsAct a → act_fault a w ≡ None → ActLeads a w v → IsLawful w →
-    IsContested w → IsContested v
-act-contested a w v is none e l c =
-    let t : Acting w v = acting a w v is none e l.well_formed in
+    (a : Act) (w v : CableWorld) → Acted a w v → IsLawful w → IsContested w → IsContested v
+act-contested a w v did l c =
+    let t : Acting w v = acting a w v did l.well_formed in
     let heard : IsContested t.told = elim t.hears [
       | inl same ↦ subst IsContested (sym same) c
       | inr h ↦ subst IsContested (sym h.2) (told-contested h.0 h.1 w c)

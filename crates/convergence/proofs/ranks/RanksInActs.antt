@@ -1,11 +1,11 @@
 -- What happens between turns only takes child cables away.
-use Rattle.std.proofs.Common.{◌≡◌, inl, inr, ℕ, true, Some, None, slice_get, sym, ap, subst, arith}
+use Rattle.std.proofs.Common.{◌≡◌, inl, inr, ℕ, true, Some, slice_get, sym, ap, subst, arith}
 use Rattle.convergence.proofs.Common.{End, far, is_port, PortNode, CableWorld, hold, is_before_tree, leads_down, IsLawful, not-both, IsChildCable, IsAcyclic, contrary}
 use Rattle.port_state.specs.Config.{ConfigPacket}
 use Rattle.port_state.specs.Machine.{node_set_config}
 use Rattle.cable_world.specs.declared.act.Act.{Act}
 use Rattle.cable_world.specs.World.{IsPowerOnWorld}
-use Rattle.cable_world.specs.Act.{change_in_set, note_changes, ActLeads, act_fault, IsAct}
+use Rattle.cable_world.specs.Act.{change_in_set, note_changes, Acted}
 use Rattle.cable_world.proofs.Lemmas.{power-on-apart, not-leading, Happens, Acting, acting, each-kept, none-some}
 use Rattle.convergence.proofs.turns.Roles.{early-parentless}
 
@@ -44,10 +44,9 @@ noted-no-more : (w u : CableWorld) → NoMore u (note_changes w u)
 noted-no-more w u a b e = record { joined = e.joined; above = e.above; above_at = e.above_at; child = e.child; below = e.below; below_at = e.below_at; parent = e.parent }
 
 pub act-acyclic :
-    (a : Act) (w v : CableWorld) → IsAct a → act_fault a w ≡ None → ActLeads a w v → IsLawful w →
-    IsAcyclic w → IsAcyclic v
-act-acyclic a w v is none e l c =
-    let t : Acting w v = acting a w v is none e l.well_formed in
+    (a : Act) (w v : CableWorld) → Acted a w v → IsLawful w → IsAcyclic w → IsAcyclic v
+act-acyclic a w v did l c =
+    let t : Acting w v = acting a w v did l.well_formed in
     let told : IsAcyclic t.told = elim t.hears [
       | inl same ↦ subst IsAcyclic (sym same) c
       | inr h ↦ subst IsAcyclic (sym h.2) (no-more-acyclic w (record w { nodes = change_in_set h.0 (node_set_config h.1) 0 w.nodes }) (told-no-more h.0 h.1 w) c)

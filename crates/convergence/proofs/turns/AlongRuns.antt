@@ -17,7 +17,7 @@ module _ (P : CableWorld → Type 0) (k : IsKept P) where
   Both w = IsLawful w × P w
 
   event-both : (e : Event) (w v : CableWorld) → Happens e w v → Both w → Both v
-  event-both (acts a) w v h b = (act-lawful a w v h.0 h.1 h.2 b.0, k.act a w v h.0 h.1 h.2 b.0 b.1)
+  event-both (acts a) w v h b = (act-lawful a w v h b.0, k.act a w v h b.0 b.1)
   event-both (holds end n) w v h b = subst Both (sym h.1) (hold-lawful end n w h.0 b.0, k.hold end n w h.0 b.0 b.1)
   event-both turns w v h b = subst Both (sym h) (turn-lawful w b.0, k.turn w b.0 b.1)
 

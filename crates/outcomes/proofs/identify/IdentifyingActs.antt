@@ -2,7 +2,7 @@
 use Rattle.std.proofs.Common.{◌≡◌, ◌⊎◌, inl, inr, ℕ, zero, suc, ◌+◌, ◌-◌, Bool, true, false, ◌&&◌, ◌||◌, List, [], ◌∷◌, ◌++◌, replicate, length, Option, Some, None, slice_get, slice_set, refl, sym, ◌∙◌, ap, subst, arith, append-nil, true≢false}
 use Rattle.std.proofs.lemmas.Bool.{cases_eq, or_parts}
 use Rattle.std.proofs.lemmas.Option.{slice_get_within}
-use Rattle.outcomes.proofs.Common.{contrary, End, far, Level, Phase, ResetStart, Signal, PortView, NodeState, port_is, is_port, hears_packets, IsValid, PortNode, node_disturb, node_set_config, Act, Config, Travelling, new_signal, CableWorld, wire_of, IsPowerOnWorld, change_in_set, note_changes, ActLeads, act_fault, IsAct, hold, hold_fault, level_sent, level_shown, leads_down, level_after, signals_of, has_reset, is_before_tree, is_shaking, is_asking, IsLawful, acting, some-same, IsMarked, silent, quads_in, mode, fits, any_child, Greets, Identifies, IsIdentifying, config_packet}
+use Rattle.outcomes.proofs.Common.{contrary, End, far, Level, Phase, ResetStart, Signal, PortView, NodeState, port_is, is_port, hears_packets, IsValid, PortNode, node_disturb, node_set_config, Act, Config, Travelling, new_signal, CableWorld, wire_of, IsPowerOnWorld, change_in_set, note_changes, Acted, ActLeads, hold, hold_fault, level_sent, level_shown, leads_down, level_after, signals_of, has_reset, is_before_tree, is_shaking, is_asking, IsLawful, acting, some-same, IsMarked, silent, quads_in, mode, fits, any_child, Greets, Identifies, IsIdentifying, config_packet}
 use Rattle.port_state.specs.declared.signal.Level.TheVariants as level
 use Rattle.port_state.specs.declared.signal.Signal.TheVariants as signal
 use Rattle.port_state.specs.PowerOn.{power_on, free_port}
@@ -278,12 +278,11 @@ told-identifying set packet w i =
     }
 
 pub act-identifying :
-    (a : Act) (w v : CableWorld) → IsAct a → act_fault a w ≡ None → ActLeads a w v → IsLawful w →
-    IsIdentifying w → IsIdentifying v
-act-identifying a w v is none e l i =
-    let t : Acting w v = acting a w v is none e l.well_formed in
-    let now : IsLawful (note_changes w t.done) = subst IsLawful t.is (act-lawful a w v is none e l) in
-    let marked : AllMarked (note_changes w t.done) = subst AllMarked t.is (act-marked a w v e i.nodes) in
+    (a : Act) (w v : CableWorld) → Acted a w v → IsLawful w → IsIdentifying w → IsIdentifying v
+act-identifying a w v did l i =
+    let t : Acting w v = acting a w v did l.well_formed in
+    let now : IsLawful (note_changes w t.done) = subst IsLawful t.is (act-lawful a w v did l) in
+    let marked : AllMarked (note_changes w t.done) = subst AllMarked t.is (act-marked a w v did.2 i.nodes) in
     let told : IsIdentifying t.told = elim t.hears [
       | inl same ↦ subst IsIdentifying (sym same) i
       | inr h ↦ subst IsIdentifying (sym h.2) (told-identifying h.0 h.1 w i)

@@ -1,7 +1,7 @@
 -- An act leaves a component alone in which no node enters R0, and what is so of its self identify.
 use Rattle.std.proofs.Common.{◌≡◌, inl, inr, ℕ, ◌+◌, Bool, false, is_some, Option, Some, None, List, slice_get, slice_index_or, refl, sym, ◌∙◌, ap, subst, arith, true≢false, bit_and}
 use Rattle.std.proofs.lemmas.List.{ext_get_or}
-use Rattle.outcomes.proofs.Common.{contrary, Signal, Tree, End, Wiring, far, ports_of, Holds, IsComponent, IsCore, HasTwo, labels, end_at, NodeState, PortView, port_is, hears_packets, shown_attrs, PortNode, node_set_config, Act, Travelling, CableWorld, wire_of, ActLeads, IsAct, act_fault, change_in_set, note_changes, leads_down, IsLawful, attrs_now, is_before_tree, signals_of, acting, some-same, IsAcyclic, AreIdentifying, IsRoot, Alike, emit, kept, quads_in, has_grant, has_done, is_ready, StandsAt, IsNumbered, IsSettling, place_now, RootWalk, mark}
+use Rattle.outcomes.proofs.Common.{contrary, Signal, Tree, End, Wiring, far, ports_of, Holds, IsComponent, IsCore, HasTwo, labels, end_at, NodeState, PortView, port_is, hears_packets, shown_attrs, PortNode, node_set_config, Act, Travelling, CableWorld, wire_of, Acted, change_in_set, note_changes, leads_down, IsLawful, attrs_now, is_before_tree, signals_of, acting, some-same, IsAcyclic, AreIdentifying, IsRoot, Alike, emit, kept, quads_in, has_grant, has_done, is_ready, StandsAt, IsNumbered, IsSettling, place_now, RootWalk, mark}
 use Rattle.cabling.specs.NodeSet.{IsWithin}
 use Rattle.cabling.specs.Looped.{IsLooped, LeadsInto}
 use Rattle.cabling.proofs.Lemmas.{in_both}
@@ -224,28 +224,26 @@ module _
 
 -- a component in which all identify after it
 module _
-    (w v : CableWorld) (a : Act) (is : IsAct a) (none : act_fault a w ≡ None)
-    (leads : ActLeads a w v)
-    (l : IsLawful w) (set : ℕ) where
-  told-cables : (acting a w v is none leads l.well_formed).told.cabling ≡ w.cabling
-  told-cables = elim (acting a w v is none leads l.well_formed).hears [
+    (w v : CableWorld) (a : Act) (did : Acted a w v) (l : IsLawful w) (set : ℕ) where
+  told-cables : (acting a w v did l.well_formed).told.cabling ≡ w.cabling
+  told-cables = elim (acting a w v did l.well_formed).hears [
     | inl same ↦ ap (λ (u : CableWorld). u.cabling) same
     | inr h ↦ ap (λ (u : CableWorld). u.cabling) h.2
   ]
 
   told-wires :
-      (e : End) → (wire_of (acting a w v is none leads l.well_formed).told e).signals
+      (e : End) → (wire_of (acting a w v did l.well_formed).told e).signals
       ≡ (wire_of w e).signals
-  told-wires e = elim (acting a w v is none leads l.well_formed).hears [
+  told-wires e = elim (acting a w v did l.well_formed).hears [
     | inl same ↦ ap (λ (u : CableWorld). (wire_of u e).signals) same
     | inr h ↦ ap (λ (u : CableWorld). (wire_of u e).signals) h.2
   ]
 
   told-node :
       (k : ℕ) (z : PortNode) →
-      slice_get (acting a w v is none leads l.well_formed).told.nodes k ≡ Some z →
+      slice_get (acting a w v did l.well_formed).told.nodes k ≡ Some z →
       (x : PortNode) × (slice_get w.nodes k ≡ Some x) × SameNode x.state z.state
-  told-node k z at = elim (acting a w v is none leads l.well_formed).hears [
+  told-node k z at = elim (acting a w v did l.well_formed).hears [
     | inl same ↦ (z, sym (ap (λ (u : CableWorld). slice_get u.nodes k) same) ∙ at, as-it-is z.state)
     | inr h ↦ heard h.0 h.1 (sym (ap (λ (u : CableWorld). slice_get u.nodes k) h.2) ∙ at)
   ]
@@ -287,10 +285,10 @@ module _
 
   module _
       (there : (k : ℕ) → Holds set k → (z : PortNode)
-      × (slice_get (acting a w v is none leads l.well_formed).done.nodes k ≡ Some z))
-      (all : AreIdentifying (acting a w v is none leads l.well_formed).done set) where
+      × (slice_get (acting a w v did l.well_formed).done.nodes k ≡ Some z))
+      (all : AreIdentifying (acting a w v did l.well_formed).done set) where
     abbrev o : Acting w v
-    o = acting a w v is none leads l.well_formed
+    o = acting a w v did l.well_formed
 
     not-begun : (k : ℕ) (z : PortNode) → Holds set k → slice_get o.done.nodes k ≡ Some z →
         HasBegun z.state → ⊥

@@ -177,7 +177,7 @@ module _
     (sent : SendsPacket w v from id force gap set) (is : IsAct (Config from id force gap))
     (none : act_fault (Config from id force gap) w ≡ None) where
   reached : ComesOfPowerOn v
-  reached = act-comes (Config from id force gap) w v is none sent.act r
+  reached = act-comes (Config from id force gap) w v (is, none, sent.act) r
 
   same-cables : v.cabling ≡ w.cabling
   same-cables =

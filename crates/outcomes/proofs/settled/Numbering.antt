@@ -2,7 +2,7 @@
 -- identify or A0.
 use Rattle.std.proofs.Common.{◌≡◌, inl, inr, ℕ, None, Some, length, slice_get, refl, sym, ◌∙◌, ap, subst, arith}
 use Rattle.std.proofs.lemmas.Option.{slice_get_cases, slice_get_within}
-use Rattle.outcomes.proofs.Common.{contrary, End, Wiring, ports_of, Holds, hears_packets, PortNode, Act, CableWorld, IsPowerOnWorld, turn, ActLeads, IsAct, act_fault, hold, hold_fault, note_changes, ComesOfPowerOn, IsLawful, acting, turn-lawful, cabling-after, some-same, IsAcyclic, AreIdentifying, turn-acyclic, HoldSchedule, quiet_after, NodeState, IsIdentifying, Settles, IsNumbering}
+use Rattle.outcomes.proofs.Common.{contrary, End, Wiring, ports_of, Holds, hears_packets, PortNode, Act, CableWorld, IsPowerOnWorld, turn, Acted, hold, hold_fault, note_changes, ComesOfPowerOn, IsLawful, acting, turn-lawful, cabling-after, some-same, IsAcyclic, AreIdentifying, turn-acyclic, HoldSchedule, quiet_after, NodeState, IsIdentifying, Settles, IsNumbering}
 use Rattle.cable_world.proofs.Lemmas.{act-lawful}
 use Rattle.convergence.proofs.Lemmas.{power-on-acyclic, hold-acyclic, act-acyclic, IsKept, kept-comes, kept-quiet}
 use Rattle.outcomes.proofs.identify.IdentifyingTurn.{turn-identifying}
@@ -56,33 +56,31 @@ hold-numbering end turns w none l n =
 -- ---- acts
 
 module _
-    (a : Act) (w v : CableWorld) (is : IsAct a) (none : act_fault a w ≡ None)
-    (leads : ActLeads a w v)
-    (l : IsLawful w) (n : IsNumbering w) where
+    (a : Act) (w v : CableWorld) (did : Acted a w v) (l : IsLawful w) (n : IsNumbering w) where
   abbrev after : CableWorld
-  after = note_changes w (acting a w v is none leads l.well_formed).done
+  after = note_changes w (acting a w v did l.well_formed).done
 
   m : IsLawful after
   m =
-      subst IsLawful (acting a w v is none leads l.well_formed).is
-      (act-lawful a w v is none leads l)
+      subst IsLawful (acting a w v did l.well_formed).is
+      (act-lawful a w v did l)
 
   after-acyclic : IsAcyclic after
   after-acyclic =
-      subst IsAcyclic (acting a w v is none leads l.well_formed).is
-      (act-acyclic a w v is none leads l n.acyclic)
+      subst IsAcyclic (acting a w v did l.well_formed).is
+      (act-acyclic a w v did l n.acyclic)
 
   after-identifying : IsIdentifying after
   after-identifying =
-      subst IsIdentifying (acting a w v is none leads l.well_formed).is
-      (act-identifying a w v is none leads l n.identifies)
+      subst IsIdentifying (acting a w v did l.well_formed).is
+      (act-identifying a w v did l n.identifies)
 
   module _ (p : Part after) (all : AreIdentifying after p.set) where
     node-there : (k : ℕ) → Holds p.set k → (z : PortNode) × (slice_get after.nodes k ≡ Some z)
     node-there = nodes-there after m p.node p.set p.component p.there
 
     alone : LeavesAlone w after p.set
-    alone = leaves-alone w v a is none leads l p.set node-there all
+    alone = leaves-alone w v a did l p.set node-there all
 
     back : (k : ℕ) → Holds p.set k → ports_of after.cabling k ≡ ports_of w.cabling k
     back k h = sym (alone.ports k h)
@@ -119,12 +117,11 @@ module _
 
   act-numbering-of : IsNumbering v
   act-numbering-of =
-      subst IsNumbering (sym (acting a w v is none leads l.well_formed).is)
+      subst IsNumbering (sym (acting a w v did l.well_formed).is)
       (parts-number after after-acyclic after-identifying settled)
 
 pub act-numbering :
-    (a : Act) (w v : CableWorld) → IsAct a → act_fault a w ≡ None → ActLeads a w v → IsLawful w →
-    IsNumbering w → IsNumbering v
+    (a : Act) (w v : CableWorld) → Acted a w v → IsLawful w → IsNumbering w → IsNumbering v
 act-numbering = act-numbering-of
 
 -- ---- power-on, and runs

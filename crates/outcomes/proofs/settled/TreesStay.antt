@@ -1,6 +1,6 @@
 -- A component that has come to a tree is at rest, and so it stays in its tree.
-use Rattle.std.proofs.Common.{◌≡◌, ℕ, ◌^◌, ◌<◌, true, List, [], ◌∷◌, None, Some, length, slice_get, sym, ◌∙◌, ap, subst}
-use Rattle.outcomes.proofs.Common.{Tree, emits, Wiring, Holds, IsComponent, PortNode, CableWorld, turn, Act, ActLeads, IsAct, act_fault, hold, note_changes, acting, some-of, some-same, comes-lawful, act-comes, cabling-after, Event, acts, holds, turns, Runs, ComesOfPowerOn, IsLawful, IsTree, AreIdentifying, is_ready, Settles, IsNumbering, IsSettling, IsAtRest, HasNoAct}
+use Rattle.std.proofs.Common.{◌≡◌, ℕ, ◌^◌, ◌<◌, true, List, [], ◌∷◌, Some, length, slice_get, sym, ◌∙◌, ap, subst}
+use Rattle.outcomes.proofs.Common.{Tree, emits, Wiring, Holds, IsComponent, PortNode, CableWorld, turn, Act, Acted, hold, note_changes, acting, some-of, some-same, comes-lawful, act-comes, cabling-after, Event, acts, holds, turns, Runs, ComesOfPowerOn, IsLawful, IsTree, AreIdentifying, is_ready, Settles, IsNumbering, IsSettling, IsAtRest, HasNoAct}
 use Rattle.cable_world.proofs.Lemmas.{turn-comes, hold-comes}
 use Rattle.outcomes.proofs.identify.MarksKept.{ready-hears}
 use Rattle.outcomes.proofs.numbers.AtRest.{rests-where, rests-on, rest-tree}
@@ -99,22 +99,22 @@ alone-tree w v r reached node set alone comp small there all root t h =
         (tree-settles w r node set comp small root t h) there all
 
 pub act-tree :
-    (a : Act) (w v : CableWorld) → IsAct a → act_fault a w ≡ None → ActLeads a w v → ComesOfPowerOn w →
-    (node set : ℕ) → IsComponent v.cabling node set → node < length v.nodes → set < 2 ^ 63 →
+    (a : Act) (w v : CableWorld) → Acted a w v → ComesOfPowerOn w → (node set : ℕ) →
+    IsComponent v.cabling node set → node < length v.nodes → set < 2 ^ 63 →
     AreIdentifying v set → (root : ℕ) (t : Tree) → IsTree w set root t → IsTree v set root t
-act-tree a w v is none leads r node set comp here small all root t h =
+act-tree a w v did r node set comp here small all root t h =
     alone-tree w v r reached node set alone (same-component v.cabling w.cabling set (λ k inside. sym (alone.ports k inside)) node comp) small there all root t h
   where
     reached : ComesOfPowerOn v
-    reached = act-comes a w v is none leads r
+    reached = act-comes a w v did r
 
     there : (k : ℕ) → Holds set k → (z : PortNode) × (slice_get v.nodes k ≡ Some z)
     there = nodes-there v (comes-lawful v reached) node set comp here
 
-    same : v ≡ note_changes w (acting a w v is none leads (comes-lawful w r).well_formed).done
-    same = (acting a w v is none leads (comes-lawful w r).well_formed).is
+    same : v ≡ note_changes w (acting a w v did (comes-lawful w r).well_formed).done
+    same = (acting a w v did (comes-lawful w r).well_formed).is
 
     alone : LeavesAlone w v set
     alone = subst (λ (u : CableWorld). LeavesAlone w u set) (sym same)
-        (leaves-alone w v a is none leads (comes-lawful w r) set
+        (leaves-alone w v a did (comes-lawful w r) set
         (subst (λ (u : CableWorld). (k : ℕ) → Holds set k → (z : PortNode) × (slice_get u.nodes k ≡ Some z)) same there) (subst (λ (u : CableWorld). AreIdentifying u set) same all))

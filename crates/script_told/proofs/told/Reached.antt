@@ -138,7 +138,7 @@ within bus n Comes some = if-test (nat_lt 2000000 (bus.world.turns + n)) (λ r. 
 pub do-act : ActKeepsNodes → (bus : Bus) (a : Act) → IsReachedBus bus → IsAct a →
     Leaves (Acts bus a)
 do-act keeps bus a h is (Ok (after, text)) x = record {
-  reached = act-reached a bus.world after.world is x.0 x.1 h.reached;
+  reached = act-reached a bus.world after.world (is, x.0, x.1) h.reached;
   named = ap (λ (n : Notes). length n.names) x.2 ∙ h.named ∙ sym (keeps a bus.world after.world x.1);
   reported = subst (λ (n : Notes). IfSome n.report (IsOfReached after.world)) (sym x.2) tt;
 }

@@ -41,7 +41,7 @@ invariant_of-self g c =
     (c.deref_mut-2.ensures.value, c.deref_mut-2.ensures.len, auto.wires)
     (c.deref_mut-3.ensures.value, c.deref_mut-3.ensures.len, auto.changed) (c.in-Ok.ensures.done self.delay self.longest) in
     record {
-      reached = λ fine. ∥∥₁_map (self.reached c.if-self.false) (act-reached act w _ c.requires none leads);
+      reached = λ fine. ∥∥₁_map (self.reached c.if-self.false) (act-reached act w _ (c.requires, none, leads));
       marks = ap length cs ∙ auto.changed ∙ ap length c.deref_mut-3.ensures.value ∙ self.marks ∙ sym (ap length ms ∙ auto.machines ∙ ap length c.deref_mut.ensures.value);
       same = λ fine. self.same c.if-self.false ∙ sym (ap (λ (l : List (List Wire)). map length l) ws ∙ c.in-Ok.ensures.rows ∙ ap (λ (l : List (List Wire)). map length l) c.deref_mut-2.ensures.value);
     }

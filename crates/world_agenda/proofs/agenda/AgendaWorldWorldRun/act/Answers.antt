@@ -62,7 +62,7 @@ invariant_of-self g c =
     (c.deref_mut-2.ensures.value, c.deref_mut-2.ensures.len, auto.wires)
     (c.deref_mut-3.ensures.value, c.deref_mut-3.ensures.len, auto.changed) (c.in-Ok.ensures.done self.delay self.longest) in
     record {
-      reached = λ fine. ∥∥₁_map (self.reached c.if-self.false) (c.worlds_stay_reached.ensures.act act w _ c.requires none leads);
+      reached = λ fine. ∥∥₁_map (self.reached c.if-self.false) (c.worlds_stay_reached.ensures.act act w _ (c.requires, none, leads));
       early = omega arith;
       abreast = λ fine e. subst (λ xs. All (λ n. n.clock ≡ self.turns) xs) (sym ns) c.act_agenda-done.ensures.clocks;
       behind = λ fine. subst (λ xs. All (λ n. n.clock ≤ self.turns) xs) (sym ns)
