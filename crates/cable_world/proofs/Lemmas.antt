@@ -12,11 +12,13 @@ pub use Rattle.cable_world.proofs.PhaseFacts.{start-before_tree, start-slack, st
 pub use Rattle.cable_world.proofs.Times.{SuitsCables, suits-cables, in-range-counted, in-range-forced, in-range-suits, powered-in-range}
 -- Quiet turns, with holds placed between them: how they are counted, and what they keep.
 pub use Rattle.cable_world.proofs.QuietTurns.{after-cabling, holds-are-calls, holds-kept, holds-lawful, holds-signals, no-quiet, one-quiet, plain-quiet, plainly, quiet-comes, quiet-first, quiet-lawful, quiet-reached, quiet-then, quiet-timed, turns-cabling}
+-- Quiet turns one after the other, and runs without an act.
+pub use Rattle.cable_world.proofs.Rests.{one-hold, one-turn, quiet-run, rests-cabling, rests-come, rests-then, turns-rest}
 -- Turns, holds and acts keep a world lawful, and so every world that comes of a power-on world is
 -- lawful; and each node of a reached world can be forced.
 pub use Rattle.cable_world.proofs.StaysLawful.{act-lawful, comes-lawful, hold-lawful, power-on-lawful, reached-forced, reached-lawful, turn-lawful}
 -- What comes of a world that comes of power-on comes of it too, and so for reached worlds.
-pub use Rattle.cable_world.proofs.StaysReached.{act-comes, act-reached, hold-comes, hold-reached, power-on-comes, power-on-reached, reached-comes, turn-comes, turn-reached, turns-come, turns-reached}
+pub use Rattle.cable_world.proofs.StaysReached.{act-comes, act-reached, event-comes, hold-comes, hold-reached, power-on-comes, power-on-reached, reached-comes, run-comes, turn-comes, turn-reached, turns-come, turns-reached}
 -- What plugging and pulling do to the cables.
 pub use Rattle.cable_world.proofs.acts.Cabled.{Cabled, plug-cabled, pull-cabled, with_cable, without_cable}
 -- What happens between two turns: to each node, and to each end of a cable.

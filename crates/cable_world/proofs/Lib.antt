@@ -10,8 +10,8 @@
 --   running   worlds that run: how the code goes from item to item
 --
 -- `StaysLawful` joins tables, levels and coupling (`worlds_stay_lawful`); `StaysReached` has
--- `worlds_stay_reached`, `QuietTurns` has `quiet_turns_add_up`, `OneOutcome` has
--- `outcomes_are_one`. `PhaseFacts` and `Options` are used throughout.
+-- `worlds_stay_reached`, `QuietTurns` has `quiet_turns_add_up`, `Rests` has
+-- quiet turns one after the other, `OneOutcome` has `outcomes_are_one`. `PhaseFacts` and `Options` are used throughout.
 pub mod turns
 pub mod tables
 pub mod levels
@@ -27,6 +27,7 @@ pub mod OneProof
 pub mod StaysReached
 pub mod StaysLawful
 pub mod QuietTurns
+pub mod Rests
 pub mod OneOutcome
 pub mod Fitting
 pub mod Lemmas

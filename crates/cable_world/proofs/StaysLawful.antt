@@ -3,10 +3,11 @@
 use Rattle.std.proofs.Common.{◌≡◌, ℕ, zero, suc, List, [], ◌∷◌, slice_get, refl, ◌∙◌, ap, subst, sym}
 use Rattle.port_state.specs.declared.timing.Timing.{Timing}
 use Rattle.port_state.specs.Machine.{PortNode}
-use Rattle.cable_world.specs.World.{CableWorld, AllCanBeForced}
+use Rattle.cable_world.specs.World.{CableWorld}
 use Rattle.cable_world.specs.Turn.{turn, turns_after}
 use Rattle.cable_world.specs.Act.{hold}
-use Rattle.cable_world.specs.Run.{Event, acts, holds, turns, Happens, Runs}
+use Rattle.cable_world.specs.Run.{starts, acted, held, turned}
+use Rattle.cable_world.specs.Events.{Event, acts, holds, turns, Happens, Runs}
 use Rattle.cable_world.specs.Agreement.{LevelsAgree}
 use Rattle.cable_world.specs.Coupling.{IsCoupled}
 use Rattle.cable_world.specs.StaysLawful.{HoldsAtPowerOn, KeptByTurns, KeptByHolds, KeptByActs, ComesIsLawful, ReachedIsLawful, ReachedCanBeForced, TimesStay}
@@ -45,22 +46,21 @@ unfolding turns_after
 turns-lawful zero w h = h
 turns-lawful (suc k) w h = turns-lawful k (turn w) (turn-lawful w h)
 
-event-lawful : (e : Event) (w v : CableWorld) → Happens e w v → IsLawful w → IsLawful v
-event-lawful (acts a) w v h l = act-lawful a w v h l
-event-lawful (holds end n) w v h l = subst IsLawful (sym h.1) (hold-lawful end n w h.0 l)
-event-lawful turns w v h l = subst IsLawful (sym h) (turn-lawful w l)
-
-runs-lawful : (events : List Event) (w v : CableWorld) → Runs events w v → IsLawful w → IsLawful v
-runs-lawful [] w v r l = subst IsLawful (sym r) l
-runs-lawful (e ∷ events) w v r l = runs-lawful events r.0 v r.2 (event-lawful e w r.0 r.1 l)
-
 pub comes-lawful : ComesIsLawful
-comes-lawful w r = runs-lawful r.events r.start w r.run (power-on-lawful r.start r.power_on)
+comes-lawful _ (starts w p) = power-on-lawful w p
+comes-lawful _ (acted a w v did r) = act-lawful a w v did (comes-lawful w r)
+comes-lawful _ (held end n w none r) = hold-lawful end n w none (comes-lawful w r)
+comes-lawful _ (turned w r) = turn-lawful w (comes-lawful w r)
 
 pub reached-lawful : ReachedIsLawful
 reached-lawful w r = comes-lawful w (reached-comes w r)
 
 -- ---- a node's times never change
+
+event-lawful : (e : Event) (w v : CableWorld) → Happens e w v → IsLawful w → IsLawful v
+event-lawful (acts a) w v h l = act-lawful a w v h l
+event-lawful (holds end n) w v h l = subst IsLawful (sym h.1) (hold-lawful end n w h.0 l)
+event-lawful turns w v h l = subst IsLawful (sym h) (turn-lawful w l)
 
 event-timed :
     (P : ℕ → Timing → Type 0) (e : Event) (w v : CableWorld) → Happens e w v → IsLawful w →
@@ -80,17 +80,8 @@ times-stay events w v k x y l r at_x at_y =
     runs-timed (λ j t. j ≡ k → t ≡ x.state.timing) events w v r l
     (λ j z at same. ap (λ (u : PortNode). u.state.timing) (some-same z x (sym at ∙ ap (slice_get w.nodes) same ∙ at_x))) k y at_y refl
 
-event-forced :
-    (e : Event) (w v : CableWorld) → Happens e w v → IsLawful w → AllCanBeForced w → AllCanBeForced v
-event-forced (acts a) w v h l f = act-forced a w v h.2 f
-event-forced (holds end n) w v h l f = subst AllCanBeForced (sym h.1) f
-event-forced turns w v h l f = subst AllCanBeForced (sym h) (turn-forced w l.well_formed f)
-
-runs-forced :
-    (events : List Event) (w v : CableWorld) → Runs events w v → IsLawful w → AllCanBeForced w →
-    AllCanBeForced v
-runs-forced [] w v r l f = subst AllCanBeForced (sym r) f
-runs-forced (e ∷ events) w v r l f = runs-forced events r.0 v r.2 (event-lawful e w r.0 r.1 l) (event-forced e w r.0 r.1 l f)
-
 pub reached-forced : ReachedCanBeForced
-reached-forced w r = runs-forced r.events r.start w r.run (power-on-lawful r.start r.power_on) r.forced
+reached-forced _ (starts w p) = p.1
+reached-forced _ (acted a w v did r) = act-forced a w v did.2 (reached-forced w r)
+reached-forced _ (held end n w none r) = reached-forced w r
+reached-forced _ (turned w r) = turn-forced w (reached-lawful w r).well_formed (reached-forced w r)

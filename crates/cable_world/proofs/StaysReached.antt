@@ -1,72 +1,68 @@
--- What comes of a power-on world, and what comes of it; and the same of reached worlds.
-use Rattle.std.proofs.Common.{zero, suc, List, [], ◌∷◌, ◌++◌, refl, subst}
+-- What comes of a world: what is kept by acts, holds and turns holds of it, and what comes of it
+-- comes of that world too.
+use Rattle.std.proofs.Common.{zero, suc, List, [], ◌∷◌, sym, subst}
 use Rattle.cable_world.specs.World.{CableWorld}
 use Rattle.cable_world.specs.Turn.{turn, turns_after}
-use Rattle.cable_world.specs.Act.{hold}
-use Rattle.cable_world.specs.Run.{Event, acts, holds, turns, Happens, Runs, ComesOfPowerOn, IsReached}
+use Rattle.cable_world.specs.Run.{ComesOf, starts, acted, held, turned, ComesOfPowerOn, IsReached}
+use Rattle.cable_world.specs.Events.{Event, acts, holds, turns, Happens, Runs}
 use Rattle.cable_world.specs.StaysLawful.{HoldsAtPowerOn, KeptByTurns, KeptByHolds, KeptByActs, ReachedAtPowerOn, ReachedComesOfPowerOn}
 
-runs-then :
-    (events : List Event) (e : Event) (w u v : CableWorld) → Runs events w u → Happens e u v →
-    Runs (events ++ e ∷ []) w v
-runs-then [] e w u v same h = (v, subst (λ (z : CableWorld). Happens e z v) same h, refl)
-runs-then (f ∷ events) e w u v r h = (r.0, r.1, runs-then events e r.0 u v r.2 h)
+-- ---- from any worlds
+
+pub event-comes :
+    {S : CableWorld → Type 0} → (e : Event) (w v : CableWorld) → Happens e w v → ComesOf S w →
+    ComesOf S v
+event-comes (acts a) w v h r = acted a w v h r
+event-comes {S = S} (holds end n) w v h r = subst (ComesOf S) (sym h.1) (held end n w h.0 r)
+event-comes {S = S} turns w v h r = subst (ComesOf S) (sym h) (turned w r)
+
+pub run-comes :
+    {S : CableWorld → Type 0} → (events : List Event) (w v : CableWorld) → Runs events w v →
+    ComesOf S w → ComesOf S v
+run-comes {S = S} [] w v run r = subst (ComesOf S) (sym run) r
+run-comes (e ∷ events) w v run r = run-comes events run.0 v run.2 (event-comes e w run.0 run.1 r)
+
+pub all-turned : {S : CableWorld → Type 0} → KeptByTurns (ComesOf S)
+unfolding turns_after
+all-turned zero w r = r
+all-turned (suc k) w r = all-turned k (turn w) (turned w r)
 
 -- ---- from a power-on world
 
 pub power-on-comes : HoldsAtPowerOn ComesOfPowerOn
-power-on-comes w h = record { start = w; events = []; power_on = h; run = refl }
-
-event-comes :
-    (e : Event) (w v : CableWorld) → Happens e w v → ComesOfPowerOn w → ComesOfPowerOn v
-event-comes e w v h r = record {
-  start = r.start;
-  events = r.events ++ e ∷ [];
-  power_on = r.power_on;
-  run = runs-then r.events e r.start w v r.run h;
-}
+power-on-comes = starts
 
 pub turn-comes : (w : CableWorld) → ComesOfPowerOn w → ComesOfPowerOn (turn w)
-turn-comes w r = event-comes turns w (turn w) refl r
+turn-comes = turned
 
 pub turns-come : KeptByTurns ComesOfPowerOn
-unfolding turns_after
-turns-come zero w r = r
-turns-come (suc k) w r = turns-come k (turn w) (turn-comes w r)
+turns-come = all-turned
 
 pub hold-comes : KeptByHolds ComesOfPowerOn
-hold-comes end n w none r = event-comes (holds end n) w (hold end n w) (none, refl) r
+hold-comes = held
 
 pub act-comes : KeptByActs ComesOfPowerOn
-act-comes a w v did r = event-comes (acts a) w v did r
+act-comes = acted
 
 -- ---- the same where each node can be forced
 
 pub reached-comes : ReachedComesOfPowerOn
-reached-comes w r = record { start = r.start; events = r.events; power_on = r.power_on; run = r.run }
-
-event-reached : (e : Event) (w v : CableWorld) → Happens e w v → IsReached w → IsReached v
-event-reached e w v h r = record {
-  start = r.start;
-  events = r.events ++ e ∷ [];
-  power_on = r.power_on;
-  forced = r.forced;
-  run = runs-then r.events e r.start w v r.run h;
-}
+reached-comes _ (starts w p) = starts w p.0
+reached-comes _ (acted a w v did r) = acted a w v did (reached-comes w r)
+reached-comes _ (held end n w none r) = held end n w none (reached-comes w r)
+reached-comes _ (turned w r) = turned w (reached-comes w r)
 
 pub power-on-reached : ReachedAtPowerOn
-power-on-reached w h forced = record { start = w; events = []; power_on = h; forced = forced; run = refl }
+power-on-reached w h forced = starts w (h, forced)
 
 pub turn-reached : (w : CableWorld) → IsReached w → IsReached (turn w)
-turn-reached w r = event-reached turns w (turn w) refl r
+turn-reached = turned
 
 pub turns-reached : KeptByTurns IsReached
-unfolding turns_after
-turns-reached zero w r = r
-turns-reached (suc k) w r = turns-reached k (turn w) (turn-reached w r)
+turns-reached = all-turned
 
 pub hold-reached : KeptByHolds IsReached
-hold-reached end n w none r = event-reached (holds end n) w (hold end n w) (none, refl) r
+hold-reached = held
 
 pub act-reached : KeptByActs IsReached
-act-reached a w v did r = event-reached (acts a) w v did r
+act-reached = acted

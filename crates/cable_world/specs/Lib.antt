@@ -8,6 +8,7 @@ pub mod Turn
 pub mod Act
 pub mod Quiet
 pub mod Run
+pub mod Events
 pub mod Still
 -- what comes of it
 pub mod Outcome

@@ -1,44 +1,37 @@
 -- What comes of a world.
-use Rattle.std.specs.Prelude.{◌≡◌, ℕ, ◌+◌, ◌*◌, List, [], ◌∷◌, None}
+use Rattle.std.specs.Prelude.{◌≡◌, ℕ, zero, suc, ◌+◌, ◌*◌, None}
 use Rattle.cabling.specs.declared.cable.End.{End}
 use Rattle.cable_world.specs.declared.act.Act.{Act}
 use Rattle.cable_world.specs.World.{CableWorld, AllCanBeForced, IsPowerOnWorld}
 use Rattle.cable_world.specs.Act.{Acted, hold, hold_fault}
 use Rattle.cable_world.specs.Turn.{turn}
 
--- what may happen to a world
-pub data Event : Type 0 where
-  acts : Act → Event
-  holds : End → ℕ → Event
-  turns : Event
-
--- an event that isn't refused turns the first world into the second
-abbrev pub Happens : Event → CableWorld → CableWorld → Type 0
-Happens (acts a) w v = Acted a w v
-Happens (holds end k) w v = (hold_fault end w ≡ None) × (v ≡ hold end k w)
-Happens turns w v = v ≡ turn w
-
--- so do events, one after the other
-abbrev pub Runs : List Event → CableWorld → CableWorld → Type 0
-Runs [] w v = v ≡ w
-Runs (e ∷ events) w v = (u : CableWorld) × Happens e w u × Runs events u v
+-- a world that comes of one of these, by acts, holds and turns of which none is refused
+pub data ComesOf (Start : CableWorld → Type 0) : CableWorld → Type 0 where
+  starts : (w : CableWorld) → Start w → ComesOf Start w
+  acted : (a : Act) (w v : CableWorld) → Acted a w v → ComesOf Start w → ComesOf Start v
+  held :
+      (end : End) (k : ℕ) (w : CableWorld) → hold_fault end w ≡ None → ComesOf Start w →
+      ComesOf Start (hold end k w)
+  turned : (w : CableWorld) → ComesOf Start w → ComesOf Start (turn w)
 
 -- a world that comes of a power-on world
-pub record ComesOfPowerOn (w : CableWorld) : Type 0 where
-  pub start : CableWorld
-  pub events : List Event
-  pub power_on : IsPowerOnWorld start
-  pub run : Runs events start w
+abbrev pub ComesOfPowerOn : CableWorld → Type 0
+ComesOfPowerOn = ComesOf IsPowerOnWorld
 
 -- the same, where each node can be forced: a world that runs
-pub record IsReached (w : CableWorld) : Type 0 where
-  pub start : CableWorld
-  pub events : List Event
-  pub power_on : IsPowerOnWorld start
-  pub forced : AllCanBeForced start
-  pub run : Runs events start w
+abbrev pub IsReached : CableWorld → Type 0
+IsReached = ComesOf (λ w. IsPowerOnWorld w × AllCanBeForced w)
 
--- A turn is quiet where no act came since the turn before; holds may have come. After so many quiet
--- turns a world of n nodes has settled, where cables delay by at most d turns.
+-- A turn is quiet where no act came since the turn before; holds may have come. By so many quiet
+-- turns the first world comes to the second.
+pub data Rests : ℕ → CableWorld → CableWorld → Type 0 where
+  still : {w : CableWorld} → Rests zero w w
+  hold_first :
+      {n : ℕ} {w v : CableWorld} → (end : End) (k : ℕ) → hold_fault end w ≡ None →
+      Rests n (hold end k w) v → Rests n w v
+  turn_first : {n : ℕ} {w v : CableWorld} → Rests n (turn w) v → Rests (suc n) w v
+
+-- after so many quiet turns a world of n nodes has settled, where cables delay by at most d turns
 abbrev pub quiet_turns : ℕ → ℕ → ℕ
 quiet_turns n d = d * (2000 + 4 * n * n + 8 * n)

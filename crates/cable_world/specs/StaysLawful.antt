@@ -7,7 +7,8 @@ use Rattle.cable_world.specs.World.{CableWorld, NodeNumber, AllCanBeForced, IsPo
 use Rattle.cable_world.specs.Turn.{turns_after}
 use Rattle.cable_world.specs.Act.{Acted, hold, hold_fault}
 use Rattle.cable_world.specs.Lawful.{IsLawful}
-use Rattle.cable_world.specs.Run.{Event, Runs, ComesOfPowerOn, IsReached}
+use Rattle.cable_world.specs.Run.{ComesOfPowerOn, IsReached}
+use Rattle.cable_world.specs.Events.{Event, Runs}
 
 -- ---- what holds at power-on, and is kept by turns, holds and acts
 

@@ -50,7 +50,7 @@ pub use Rattle.cable_world.specs.Outcome.{IsSettled, IsTree, Shows, attrs_now, c
 pub use Rattle.cable_world.specs.Phases.{is_after_hold, is_before_tree, is_in_bus_reset, is_shaking}
 pub use Rattle.cable_world.specs.Quiet.{HoldSchedule, PlacedHold, holds_after, with_holds}
 unfoldable pub use Rattle.cable_world.specs.Quiet.{quiet_after}
-pub use Rattle.cable_world.specs.Run.{Event, ComesOfPowerOn, Runs, acts, holds, quiet_turns, turns}
+pub use Rattle.cable_world.specs.Run.{ComesOfPowerOn, quiet_turns}
 pub use Rattle.cable_world.specs.Signals.{has_reset, signals_of}
 pub use Rattle.cable_world.specs.Turn.{hear_all, inbox, turn_at}
 unfoldable pub use Rattle.cable_world.specs.Turn.{turn, turns_after}
@@ -72,6 +72,5 @@ pub use Rattle.outcomes.specs.NodeMarks.{IsMarked, is_asked, is_named, is_ready}
 pub use Rattle.outcomes.specs.Numbered.{IsAtRest, IsNumbered, IsNumbering, IsSettling, Settles, StandsAt}
 pub use Rattle.outcomes.specs.Parents.{LeadsUp, ParentsAre, ParentsBelow}
 pub use Rattle.outcomes.specs.RootWalk.{RootWalk, parent_now, parent_of, place_now}
-pub use Rattle.outcomes.specs.Settled.{HasNoAct}
 pub use Rattle.outcomes.specs.WalkMarks.{Marked, mark, place}
 pub use Rattle.outcomes.specs.WaysUp.{WaysUp}

@@ -21,10 +21,8 @@ pub use Rattle.outcomes.proofs.settled.ForcedOutcome.{forced-outcome}
 pub use Rattle.outcomes.proofs.settled.Numbering.{quiet-numbering, comes-numbering}
 -- Whichever way a component without loop is decided, it has an outcome.
 pub use Rattle.outcomes.proofs.settled.Outcomes.{tree-ready}
--- A run of holds and turns is so many quiet turns.
-pub use Rattle.outcomes.proofs.settled.QuietRuns.{ComesBy, comes-by, comes-then}
--- Turns alone.
-pub use Rattle.outcomes.proofs.settled.LeftAlone.{only_turns, no-acts, turns-run}
+-- Quiet turns, with the holds between them in a schedule.
+pub use Rattle.outcomes.proofs.settled.QuietRuns.{ComesBy, comes-by}
 -- After so many quiet turns every component has an outcome.
 pub use Rattle.outcomes.proofs.settled.QuietTurns.{done-at-last, range-enough, room-to-rest}
 -- A component that has come to a tree is at rest, and so it stays in its tree.

@@ -9,26 +9,23 @@
 --                Turn                  a turn of all nodes
 --                Act                   an act: a plug, a pull, a reset, a packet; and a hold
 --                Times                 times of nodes that suit a bus
---                Run                   what comes of a power-on world
+--                Run                   what comes of a power-on world, and what of quiet turns
 --   convergence  Turns                 how many turns `turns_to_settle` are
 --   cabling      Component             the component of a node
 --                Looped, Sees          its core, and the tree that cables show from a root
 --   cable_world  Outcome               the three outcomes: a loop, a tree, a contention
---   outcomes     Settled               `HasNoAct` and `turn_count`
-use Rattle.std.specs.Prelude.{◌<◌, ◌≤◌, List, length}
+use Rattle.std.specs.Prelude.{◌<◌, ◌≤◌, ℕ, length}
 use Rattle.cabling.specs.Component.{IsComponent}
 use Rattle.cable_world.specs.World.{CableWorld, NodeNumber, NodeSet}
-use Rattle.cable_world.specs.Run.{Event, Runs, ComesOfPowerOn}
+use Rattle.cable_world.specs.Run.{ComesOfPowerOn, Rests}
 use Rattle.cable_world.specs.Outcome.{IsSettled}
 use Rattle.convergence.specs.Turns.{turns_to_settle}
-use Rattle.outcomes.specs.Settled.{HasNoAct, turn_count}
 
 -- from the one world to the other no act came, and turns enough
 pub record IsLeftAlone (w v : CableWorld) : Type 0 where
-  pub events : List Event
-  pub quiet : HasNoAct events
-  pub run : Runs events w v
-  pub long : turns_to_settle w ≤ turn_count events
+  pub turns : ℕ
+  pub rests : Rests turns w v
+  pub long : turns_to_settle w ≤ turns
 
 -- each component has come to an outcome
 abbrev pub AllSettled : CableWorld → Type 0

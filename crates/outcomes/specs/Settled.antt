@@ -1,5 +1,5 @@
 -- Components that come to an outcome: a loop, a tree or a contention.
-use Rattle.std.specs.Prelude.{◌≡◌, ℕ, Bool, suc, ◌<◌, ◌≤◌, true, Option, Some, None, List, [], ◌∷◌, length, slice_get}
+use Rattle.std.specs.Prelude.{◌≡◌, ℕ, Bool, ◌<◌, ◌≤◌, true, Option, Some, None, length, slice_get}
 use Rattle.topology_stack.specs.Tree.{Tree}
 use Rattle.cabling.specs.NodeSet.{Holds}
 use Rattle.cabling.specs.Component.{IsComponent}
@@ -8,12 +8,11 @@ use Rattle.port_state.specs.Config.{gap_or}
 use Rattle.port_state.specs.Machine.{PortNode}
 use Rattle.cable_world.specs.World.{CableWorld, NodeNumber, NodeSet}
 use Rattle.cable_world.specs.Quiet.{HoldSchedule, quiet_after}
-use Rattle.cable_world.specs.Run.{Event, acts, holds, turns, Runs, ComesOfPowerOn}
+use Rattle.cable_world.specs.Run.{ComesOfPowerOn, Rests}
 use Rattle.cable_world.specs.declared.act.Act.TheVariants.{Config}
-use Rattle.cable_world.specs.declared.act.Act.{Act}
-use Rattle.cable_world.specs.Act.{ActLeads, IsAct, act_fault}
+use Rattle.cable_world.specs.Act.{IsAct, act_fault}
 use Rattle.cable_world.specs.Outcome.{HasNoLoop, Shows, IsLoop, IsTree, IsSettled}
-use Rattle.convergence.specs.Milestones.{ResetsAreDone, AreIdentifying}
+use Rattle.convergence.specs.Milestones.{ResetsAreDone}
 use Rattle.convergence.specs.Turns.{turns_to_settle, turns_to_over, turns_to_loops}
 use Rattle.outcomes.specs.Forced.{SendsPacket, CanBeForcedAt, IsForced, IsNamedAlone, NamesRoot}
 
@@ -40,42 +39,26 @@ ResetsAreDoneByThen =
     (holds : HoldSchedule) (w : CableWorld) (k : ℕ) → ComesOfPowerOn w →
     turns_to_settle w ≤ k → ResetsAreDone (quiet_after holds k w)
 
--- holds and turns, and no act
-abbrev pub HasNoAct : List Event → Type 0
-HasNoAct [] = Unit {0}
-HasNoAct (acts a ∷ events) = ⊥
-HasNoAct (holds end k ∷ events) = HasNoAct events
-HasNoAct (turns ∷ events) = HasNoAct events
-
--- how many turns are among these events
-abbrev pub turn_count : List Event → ℕ
-turn_count [] = 0
-turn_count (acts a ∷ events) = turn_count events
-turn_count (holds end k ∷ events) = turn_count events
-turn_count (turns ∷ events) = suc (turn_count events)
-
--- So every component has an outcome after each run of holds and turns that has so many turns.
+-- So every component has an outcome after so many quiet turns, one after the other.
 abbrev pub EveryQuietRunSettles : Type 0
 EveryQuietRunSettles =
-    (w v : CableWorld) (events : List Event) (node : NodeNumber) (set : NodeSet) →
-    ComesOfPowerOn w → HasNoAct events → Runs events w v →
-    turns_to_settle w ≤ turn_count events → node < length w.nodes →
+    (w v : CableWorld) (k : ℕ) (node : NodeNumber) (set : NodeSet) → ComesOfPowerOn w →
+    Rests k w v → turns_to_settle w ≤ k → node < length w.nodes →
     IsComponent w.cabling node set → IsSettled v set
 
 -- what has an outcome after so many quiet turns has one still, whatever holds and turns follow
 abbrev pub ComponentsStaySettled : Type 0
 ComponentsStaySettled =
-    (holds : HoldSchedule) (w v : CableWorld) (k : ℕ) (events : List Event) (node : NodeNumber)
-    (set : NodeSet) → ComesOfPowerOn w → turns_to_settle w ≤ k →
-    HasNoAct events → Runs events (quiet_after holds k w) v → node < length w.nodes →
-    IsComponent w.cabling node set → IsSettled v set
+    (holds : HoldSchedule) (w v : CableWorld) (k more : ℕ) (node : NodeNumber) (set : NodeSet) →
+    ComesOfPowerOn w → turns_to_settle w ≤ k → Rests more (quiet_after holds k w) v →
+    node < length w.nodes → IsComponent w.cabling node set → IsSettled v set
 
 -- a tree stays in every hold and turn: the same root, IDs and lists
 abbrev pub TreesStay : Type 0
 TreesStay =
-    (w v : CableWorld) (events : List Event) (node : NodeNumber) (set : NodeSet)
-    (root : NodeNumber) (t : Tree) → ComesOfPowerOn w → HasNoAct events → Runs events w v →
-    IsComponent w.cabling node set → IsTree w set root t → IsTree v set root t
+    (w v : CableWorld) (k : ℕ) (node : NodeNumber) (set : NodeSet) (root : NodeNumber) (t : Tree) →
+    ComesOfPowerOn w → Rests k w v → IsComponent w.cabling node set → IsTree w set root t →
+    IsTree v set root t
 
 -- ---- forced roots
 

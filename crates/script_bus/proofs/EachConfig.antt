@@ -20,13 +20,13 @@ use Rattle.cable_world.specs.Unchanged.{ActKeepsNodes}
 use Rattle.cable_world.specs.Lawful.{IsLawful}
 use Rattle.cable_world.specs.Phases.{is_in_bus_reset}
 use Rattle.cable_world.specs.Outcome.{IsTree, Shows}
-use Rattle.cable_world.specs.Quiet.{no_holds}
-use Rattle.cable_world.specs.Run.{Event, Runs, IsReached}
-use Rattle.cable_world.proofs.Lemmas.{some-of, some-at, plain-quiet, reached-comes, reached-forced, reached-lawful, act-reached, step-cables, after-cabling, after-length, after-delay, after-longest}
+use Rattle.cable_world.specs.Run.{IsReached, Rests, still}
+use Rattle.cable_world.specs.Events.{turn_count}
+use Rattle.cable_world.proofs.Lemmas.{some-of, some-at, quiet-run, rests-then, turns-rest, reached-comes, reached-forced, reached-lawful, act-reached, step-cables, after-cabling, after-length, after-delay, after-longest}
 use Rattle.convergence.specs.Turns.{turns_to_settle}
 use Rattle.outcomes.specs.Forced.{NamesRoot}
-use Rattle.outcomes.specs.Settled.{HasNoAct, turn_count, TreesStay, IdsNameOneNode, ConfigsMoveRoots, PacketsSetGaps}
-use Rattle.outcomes.proofs.Lemmas.{ComesBy, comes-by, comes-then}
+use Rattle.outcomes.specs.Settled.{TreesStay, IdsNameOneNode, ConfigsMoveRoots, PacketsSetGaps}
+use Rattle.outcomes.proofs.Lemmas.{ComesBy, comes-by}
 use Rattle.settle.specs.declared.report.Part.{Part}
 use Rattle.settle.specs.Report.{AreParts, IsTreeFrom, IsAfterQuiet, quiet_turns_of}
 use Rattle.settle.proofs.Lemmas.{found, same-component, turns-enough}
@@ -46,7 +46,7 @@ use Rattle.script_told.specs.PrintedTree.{PrintsTree}
 use Rattle.script_told.proofs.Lemmas.{prints-tree, config-act, stage-in, printed-in, sound-bus, IsDone, each-done, runs-on}
 use Rattle.script_bus.specs.codings.Standing.{StandsAs}
 use Rattle.script_bus.specs.EachConfig.{ConfigComesOut, EachConfigComesOut}
-use Rattle.script_bus.proofs.Standing.{reported-stands, none-both, runs-both}
+use Rattle.script_bus.proofs.Standing.{reported-stands}
 use Rattle.script_bus.proofs.Planning.{holds-its, its-there, its-id}
 use Rattle.script_bus.proofs.SomePlan.{stands-since}
 use Rattle.script_bus.proofs.FollowOn.{LeadsOn, leads-on, leads-behind, at-split, behind-split, front-split}
@@ -65,8 +65,8 @@ module _
     (there : from < length w.cabling) (tree : Reported) (s : StandsAs w from tree) (id : ℕ) (force : Bool)
     (gap : Option ℕ) (fits : IsAct (Config from id force gap))
     (accepted : act_fault (Config from id force gap) w ≡ None)
-    (act : ActLeads (Config from id force gap) w sent) (events : List Event) (none : HasNoAct events)
-    (run : Runs events sent u) (quiet : IsAfterQuiet u v) where
+    (act : ActLeads (Config from id force gap) w sent) (j : ℕ) (rests : Rests j sent u)
+    (quiet : IsAfterQuiet u v) where
   l : IsLawful w
   l = reached-lawful w reached
 
@@ -77,12 +77,12 @@ module _
   sent-lawful = reached-lawful sent sent-reached
 
   abbrev given : ℕ
-  given = turn_count events + quiet_turns_of u
+  given = j + quiet_turns_of u
 
-  by-turns : ComesBy sent v (turn_count events + quiet_turns_of u)
+  by-turns : ComesBy sent v given
   by-turns =
-      comes-then events sent u v (quiet_turns_of u) none run
-      (record { schedule = no_holds; is = quiet ∙ sym (plain-quiet (quiet_turns_of u) u) })
+      comes-by (rests-then rests
+      (subst (Rests (quiet_turns_of u) u) (sym quiet) (turns-rest (quiet_turns_of u) u)))
 
   cables : v.cabling ≡ w.cabling
   cables =
@@ -95,14 +95,13 @@ module _
       ap (λ (x : CableWorld). length x.nodes) by-turns.is ∙ after-length by-turns.schedule sent sent-lawful given
       ∙ keeps (Config from id force gap) w sent act
 
-  enough : turns_to_settle sent ≤ turn_count events + quiet_turns_of u
+  enough : turns_to_settle sent ≤ given
   enough =
-      let c : ComesBy sent u (turn_count events) = comes-by events sent u none run in
-      let k : ℕ = turn_count events in
+      let c : ComesBy sent u j = comes-by rests in
       let same : turns_to_settle u ≡ turns_to_settle sent = same-share u sent
-      (ap (λ (x : CableWorld). length x.nodes) c.is ∙ after-length c.schedule sent sent-lawful k)
-      (ap (λ (x : CableWorld). x.delay) c.is ∙ after-delay c.schedule sent sent-lawful k)
-      (ap (λ (x : CableWorld). x.longest) c.is ∙ after-longest c.schedule sent sent-lawful k) in
+      (ap (λ (x : CableWorld). length x.nodes) c.is ∙ after-length c.schedule sent sent-lawful j)
+      (ap (λ (x : CableWorld). x.delay) c.is ∙ after-delay c.schedule sent sent-lawful j)
+      (ap (λ (x : CableWorld). x.longest) c.is ∙ after-longest c.schedule sent sent-lawful j) in
       omega (arith, same, turns-enough u)
 
   calm : (k : ℕ) → Holds s.set k → Shows w k (λ x. is_in_bus_reset x.phase ≡ false)
@@ -144,8 +143,8 @@ module _
     (there : from < length w.cabling) (tree : Reported) (s : StandsAs w from tree) (id : ℕ)
     (gap : Option ℕ) (fits : IsAct (Config from id true gap))
     (accepted : act_fault (Config from id true gap) w ≡ None)
-    (act : ActLeads (Config from id true gap) w sent) (events : List Event) (none : HasNoAct events)
-    (run : Runs events sent u) (quiet : IsAfterQuiet u v) (place : id < length tree.order) where
+    (act : ActLeads (Config from id true gap) w sent) (j : ℕ) (rests : Rests j sent u)
+    (quiet : IsAfterQuiet u v) (place : id < length tree.order) where
   abbrev root : NodeNumber
   root = node_with tree id
 
@@ -164,11 +163,11 @@ module _
 
   moved : (t : Tree) × IsTree v s.set root t
   moved =
-      let c = by-turns keeps names-one moves sets w sent u v reached from there tree s id true gap fits accepted act events none run quiet in
-      let k : ℕ = turn_count events + quiet_turns_of u in
-      let on = sent-reached keeps names-one moves sets w sent u v reached from there tree s id true gap fits accepted act events none run quiet in
+      let c = by-turns keeps names-one moves sets w sent u v reached from there tree s id true gap fits accepted act j rests quiet in
+      let k : ℕ = j + quiet_turns_of u in
+      let on = sent-reached keeps names-one moves sets w sent u v reached from there tree s id true gap fits accepted act j rests quiet in
       let t = moves c.schedule w sent k from id gap s.set root (reached-comes w reached) fits accepted names-root (reached-forced sent on root) s.stands.is.no_loop
-      (enough keeps names-one moves sets w sent u v reached from there tree s id true gap fits accepted act events none run quiet) in
+      (enough keeps names-one moves sets w sent u v reached from there tree s id true gap fits accepted act j rests quiet) in
       (t.0, subst (λ (x : CableWorld). IsTree x s.set root t.0) (sym c.is) t.1)
 
   no-loop : Loopless w.cabling root s.set
@@ -180,7 +179,7 @@ module _
   pub tree-from : (parts : List Part) → AreParts v parts →
       Any (IsTreeFrom w.cabling from root) parts
   tree-from parts are =
-      found w.cabling v (cables keeps names-one moves sets w sent u v reached from there tree s id true gap fits accepted act events none run quiet) from s.set root s.component no-loop there (IsReached w) ∣ reached ∣₁ (λ r. moved) parts are
+      found w.cabling v (cables keeps names-one moves sets w sent u v reached from there tree s id true gap fits accepted act j rests quiet) from s.set root s.component no-loop there (IsReached w) ∣ reached ∣₁ (λ r. moved) parts are
 
 -- ---- the packet that was sent
 
@@ -248,9 +247,8 @@ by-answer bus c next t (Err kind) does same = absurd cc
 
 -- the bus that runs from one stage comes of that of another by holds and turns
 record PassesTo (w : CableWorld) (names : Names) (stage : Stage) : Type 0 where
-  events : List Event
-  none : HasNoAct events
-  run : Runs events w (bus_of stage).world
+  turns : ℕ
+  rests : Rests turns w (bus_of stage).world
   same : (bus_of stage).notes.names ≡ names
 
 not-declared : (c : Command) → LeavesAlone c → Declares c → ⊥
@@ -264,17 +262,18 @@ passes :
     All IsDone entries → All (λ (e : Entry). LeavesAlone e.command) entries →
     LeadsOn from (entries ++ two ∷ rest) → PassesTo (bus_of from).world (bus_of from).notes.names two.before
 passes [] from two rest done alone leads =
-    subst (PassesTo (bus_of from).world (bus_of from).notes.names) (sym leads.0) (record { events = []; none = tt; run = refl; same = refl })
+    subst (PassesTo (bus_of from).world (bus_of from).notes.names) (sym leads.0) (record { turns = 0; rests = still; same = refl })
 passes (e ∷ entries) from two rest done alone leads =
     let quiet : LeavesAlone e.command = alone 0 e (omega arith) in
     let r : RunsOn e = runs-on e (done 0 e (omega arith)) (not-declared e.command quiet) in
     let next = passes entries e.after two rest (λ i d inside. done (suc i) d (omega (arith, inside))) (λ i d inside. alone (suc i) d (omega (arith, inside))) leads.1 in
     let at : bus_of e.after ≡ r.after = ap bus_of r.is in
-    let first : Runs r.does.events (bus_of e.before).world (bus_of e.after).world = subst (λ (b : Bus). Runs r.does.events (bus_of e.before).world b.world) (sym at) r.does.run in
+    let first : Rests (turn_count r.does.events) (bus_of e.before).world (bus_of e.after).world =
+    subst (λ (b : Bus). Rests (turn_count r.does.events) (bus_of e.before).world b.world) (sym at)
+    (quiet-run r.does.events (bus_of e.before).world r.after.world (r.does.alone quiet) r.does.run) in
     subst (λ (g : Stage). PassesTo (bus_of g).world (bus_of g).notes.names two.before) leads.0 (record {
-      events = r.does.events ++ next.events;
-      none = none-both r.does.events next.events (r.does.alone quiet) next.none;
-      run = runs-both r.does.events next.events (bus_of e.before).world (bus_of e.after).world (bus_of two.before).world first next.run;
+      turns = turn_count r.does.events + next.turns;
+      rests = rests-then first next.rests;
       same = next.same ∙ ap (λ (b : Bus). b.notes.names) at ∙ r.does.names;
     })
 
@@ -285,7 +284,7 @@ module _
     (names-one : IdsNameOneNode) (moves : ConfigsMoveRoots) (sets : PacketsSetGaps) where
   module _
       (bus sent now after : Bus) (h : IsReachedBus bus) (name : List ℕ) (id gap : Option ℕ) (range : IsConfigInRange id gap)
-      (c : IsSent bus name id gap sent) (events : List Event) (none : HasNoAct events) (run : Runs events sent.world now.world)
+      (c : IsSent bus name id gap sent) (j : ℕ) (rests : Rests j sent.world now.world)
       (text : List ℕ) (is : Reports now (Ok (after, text))) where
     abbrev w : CableWorld
     w = bus.world
@@ -315,7 +314,7 @@ module _
         let a : act_fault (Config c.node i true gap) w ≡ None = ap (λ o. act_fault (config_of c.node o gap) w) (sym e) ∙ c.accepted in
         let x : ActLeads (Config c.node i true gap) w sent.world = subst (λ o. ActLeads (config_of c.node o gap) w sent.world) e c.act in
         prints-tree w.cabling c.node (node_with c.tree i) after is.0 text [] after.notes.reports (ap (λ (n : Notes). n.report) is.3)
-        (tree-from keeps names-one moves sets w sent.world now.world after.world h.reached c.node there c.tree s i gap f a x events none run is.1 place is.0.parts is.2.parts)
+        (tree-from keeps names-one moves sets w sent.world now.world after.world h.reached c.node there c.tree s i gap f a x j rests is.1 place is.0.parts is.2.parts)
         (subst (λ (ns : Names). IsReportText ns after.notes.reports is.0 text) (sym (ap (λ (n : Notes). n.names) is.3)) is.4)
 
     root-printed :
@@ -325,7 +324,7 @@ module _
     root-printed (Some i) e = prints i e
 
     have : IfSome gap (HaveGap after.world c.node)
-    have = gaps keeps names-one moves sets w sent.world now.world after.world h.reached c.node there c.tree s (unwrap_or id 0) (is_some id) gap fits c.accepted c.act events none run is.1 gap refl
+    have = gaps keeps names-one moves sets w sent.world now.world after.world h.reached c.node there c.tree s (unwrap_or id 0) (is_some id) gap fits c.accepted c.act j rests is.1 gap refl
 
   comes :
       (one two : Entry) (name : List ℕ) (id gap : Option ℕ) → IsDone one → IsDone two →
@@ -342,8 +341,8 @@ module _
       let b = by-answer (bus_of two.before) command.Settle two.after two.text g.0 g.1 g.2 in
       let c = packet-sent (bus_of one.before) name id gap a.after a.text a.does in
       let at : bus_of one.after ≡ a.after = ap bus_of a.next_is in
-      let run : Runs time.events a.after.world (bus_of two.before).world =
-      subst (λ (u : Bus). Runs time.events u.world (bus_of two.before).world) at time.run in
+      let rests : Rests time.turns a.after.world (bus_of two.before).world =
+      subst (λ (u : Bus). Rests time.turns u.world (bus_of two.before).world) at time.rests in
       let r : Reports (bus_of two.before) (Ok (b.after, b.text)) = reports-of (bus_of two.before) b.after b.text b.does in
       let h : IsReachedBus (bus_of one.before) = sound-bus one.before first.sound in
       record {
@@ -355,8 +354,8 @@ module _
         after_is = b.next_is;
         root =
             subst (λ t. IfSome id (λ i. i < length c.tree.order → PrintsTree (bus_of one.before).world.cabling c.node (node_with c.tree i) b.after t)) (sym b.text_is)
-            (root-printed (bus_of one.before) a.after (bus_of two.before) b.after h name id gap range c time.events time.none run b.text r id refl);
-        gaps = have (bus_of one.before) a.after (bus_of two.before) b.after h name id gap range c time.events time.none run b.text r;
+            (root-printed (bus_of one.before) a.after (bus_of two.before) b.after h name id gap range c time.turns rests b.text r id refl);
+        gaps = have (bus_of one.before) a.after (bus_of two.before) b.after h name id gap range c time.turns rests b.text r;
       }
 
   pub each-config : EachConfigComesOut

@@ -11,8 +11,6 @@ use Rattle.cabling.specs.declared.cable.End.{End}
 use Rattle.cabling.specs.Wiring.{Wiring, ports_of}
 use Rattle.cabling.specs.Component.{IsComponent}
 use Rattle.cabling.specs.Existence.{HasComponent, ComponentsExist}
-use Rattle.port_state.specs.declared.signal.Phase.{Phase}
-use Rattle.port_state.specs.declared.signal.Phase.TheVariants.{ResetStart}
 use Rattle.port_state.specs.Coins.{coin}
 use Rattle.port_state.specs.Heard.{is_resetting}
 use Rattle.port_state.specs.Machine.{PortNode}
@@ -20,7 +18,7 @@ use Rattle.cable_world.specs.Times.{Suits}
 use Rattle.cable_world.specs.Lawful.{IsLawful}
 use Rattle.cable_world.specs.Outcome.{IsTree}
 use Rattle.cable_world.specs.Phases.{is_in_bus_reset}
-use Rattle.cable_world.specs.Run.{IsReached, holds, turns}
+use Rattle.cable_world.specs.Run.{IsReached, still, hold_first, turn_first}
 use Rattle.convergence.proofs.Lemmas.{not-waiting}
 use Rattle.cable_world.proofs.Lemmas.{reached-lawful, reached-comes, turn-reached, hold-reached, hears, ticks, turn-counts, node-after, cabling-after, some-of, some-at, some-same}
 use Rattle.outcomes.specs.Settled.{TreesStay, IdsNameOneNode}
@@ -92,18 +90,18 @@ module _ (stay : TreesStay) (names-one : IdsNameOneNode) where
   counts-in-turn :
       (w : CableWorld) → IsLawful w → (j : ℕ) (x y : PortNode) → slice_get w.nodes j ≡ Some x → slice_get (turn w).nodes j ≡ Some y →
       is_resetting y.state.view.phase ≡ false → y.state.view.resets ≡ x.state.view.resets
-  counts-in-turn w l j x y at_x at_y still =
+  counts-in-turn w l j x y at_x at_y unmoved =
       let range : Suits w.delay w.longest x.state.timing = (l.well_formed.nodes j x at_x).timing in
       let is = some-same _ y (sym (node-after w j x l.well_formed.count at_x) ∙ at_y) in
       sym (ap (λ (z : PortNode). z.state.view.resets) is)
       ∙ turn-counts (inbox w 0 (ports_of w.cabling j)) (coin x.coins) x.state
       (omega (arith, range.hold_least, l.well_formed.some_delay)) (omega (arith, range.hold_most, range.counted.hold))
       (hears w j x l.well_formed at_x) (ticks w j x l.well_formed at_x)
-      (λ e. ap (λ (z : PortNode). is_resetting z.state.view.phase) is ∙ still)
+      (λ e. ap (λ (z : PortNode). is_resetting z.state.view.phase) is ∙ unmoved)
 
   one-turn : (w : CableWorld) → Rests w (turn w)
   one-turn w node set root t r c is =
-      let after : IsTree (turn w) set root t = stay w (turn w) (turns ∷ []) node set root t (reached-comes w r) tt (turn w, refl, refl) c is in
+      let after : IsTree (turn w) set root t = stay w (turn w) 1 node set root t (reached-comes w r) (turn_first still) c is in
       let reached : IsReached (turn w) = turn-reached w r in
       let x = some-of (slice_get w.nodes root) _ (is.ids root is.holds_root) in
       let y = some-of (slice_get (turn w).nodes root) _ (after.ids root after.holds_root) in
@@ -126,7 +124,7 @@ module _ (stay : TreesStay) (names-one : IdsNameOneNode) where
   in-hold end n w none node set root t r c is = record {
     reached = hold-reached end n w none r;
     component = c;
-    tree = stay w (hold end n w) (holds end n ∷ []) node set root t (reached-comes w r) tt (hold end n w, (none, refl), refl) c is;
+    tree = stay w (hold end n w) 0 node set root t (reached-comes w r) (hold_first end n none still) c is;
     counts = refl;
   }
 

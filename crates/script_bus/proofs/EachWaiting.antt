@@ -16,9 +16,9 @@ use Rattle.cable_world.specs.Quiet.{no_holds, quiet_after}
 use Rattle.cable_world.specs.Turn.{turns_after}
 use Rattle.cable_world.specs.Fresh.{IsFresh}
 use Rattle.cable_world.specs.Outcome.{IsTree}
-use Rattle.cable_world.specs.Run.{Event, acts, holds, turns, Runs, IsReached}
+use Rattle.cable_world.specs.Run.{IsReached}
+use Rattle.cable_world.specs.Events.{Event, acts, holds, turns, Runs, turn_count}
 use Rattle.cable_world.proofs.Lemmas.{some-of, plain-quiet, reached-comes, reached-forced, reached-lawful, act-reached, after-cabling}
-use Rattle.outcomes.specs.Settled.{turn_count}
 use Rattle.settle.specs.Report.{IsTreeFrom, quiet_turns_of}
 use Rattle.settle.proofs.Lemmas.{found, turns-enough}
 use Rattle.world_laws.specs.Freshness.{IsTouchedIn, PowerOnIsFresh, ActsMakeFreshOnceSettled, FreshRootsSettle}

@@ -46,9 +46,8 @@ stands-since w (Some report) h = record {
   before = h.world;
   reached = ∣ h.reached ∣₁;
   is = h.is;
-  events = h.events;
-  no_act = h.no_act;
-  run = h.run;
+  turns = h.turns;
+  rests = h.rests;
 }
 
 -- where there is a manager there is a candidate

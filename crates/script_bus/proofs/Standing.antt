@@ -1,5 +1,5 @@
 -- A tree that was reported stands, in turns and holds.
-use Rattle.std.proofs.Common.{◌≡◌, ℕ, zero, suc, ◌^◌, ◌<◌, ◌==◌, Bool, true, false, cond, List, [], ◌∷◌, ◌++◌, find, length, slice_get, All, Option, None, Some, IfSome, refl, sym, ◌∙◌, subst, ap, arith}
+use Rattle.std.proofs.Common.{◌≡◌, ℕ, suc, ◌+◌, ◌^◌, ◌<◌, ◌==◌, Bool, true, false, cond, List, [], ◌∷◌, find, length, slice_get, All, Option, None, Some, IfSome, refl, sym, ◌∙◌, subst, ap, arith}
 use Rattle.std.specs.Coded.{Coded-set, coded_ℕ, coded_bool, coded_option, coded_list}
 use Rattle.std.specs.Int.{bit_at}
 use Rattle.std.specs.Option.{option_and_then}
@@ -17,13 +17,13 @@ use Rattle.cabling.specs.Labels.{labels}
 use Rattle.cabling.specs.Sees.{Sees, numbers, SmallTree}
 use Rattle.cabling.proofs.Lemmas.{one-tree, Loopless, small_tree, shared, seen_loopless}
 use Rattle.cable_world.specs.World.{CableWorld}
-use Rattle.cable_world.specs.Turn.{turn, turns_after}
+use Rattle.cable_world.specs.Turn.{turns_after}
 use Rattle.cable_world.specs.Act.{hold, hold_fault}
-use Rattle.cable_world.specs.Run.{Event, acts, holds, turns, Runs, IsReached}
+use Rattle.cable_world.specs.Run.{IsReached, Rests}
 use Rattle.cable_world.specs.Lawful.{IsLawful}
 use Rattle.cable_world.specs.Outcome.{IsTree, HasNoLoop, attrs_now}
-use Rattle.cable_world.proofs.Lemmas.{some-of, some-same, some-and, lawful-now, cabling-after, reached-comes}
-use Rattle.outcomes.specs.Settled.{HasNoAct, TreesStay}
+use Rattle.cable_world.proofs.Lemmas.{some-of, some-same, some-and, lawful-now, reached-comes, one-hold, rests-cabling, rests-then, turns-rest}
+use Rattle.outcomes.specs.Settled.{TreesStay}
 use Rattle.settle.specs.declared.report.Outcome.{Outcome}
 use Rattle.settle.specs.declared.report.Outcome.TheVariants as reported
 use Rattle.settle.specs.declared.report.Part.{Part}
@@ -36,57 +36,29 @@ use Rattle.script_bus.specs.codings.Standing.{StandsSince, StandsAs}
 
 -- ---- since a report
 
-pub none-both : (events later : List Event) → HasNoAct events → HasNoAct later →
-    HasNoAct (events ++ later)
-none-both [] later h k = k
-none-both (acts a ∷ events) later h k = absurd h
-none-both (holds end n ∷ events) later h k = none-both events later h k
-none-both (turns ∷ events) later h k = none-both events later h k
-
-pub runs-both :
-    (events later : List Event) (w u v : CableWorld) → Runs events w u → Runs later u v →
-    Runs (events ++ later) w v
-runs-both [] later w u v same h = subst (λ (z : CableWorld). Runs later z v) same h
-runs-both (e ∷ events) later w u v r h = (r.0, r.1, runs-both events later r.0 u v r.2 h)
-
 since-more :
-    (report : Report) (later : List Event) (w v : CableWorld) → HasNoAct later → Runs later w v →
-    StandsSince report w → StandsSince report v
-since-more report later w v none run s = record {
+    (report : Report) (k : ℕ) (w v : CableWorld) → Rests k w v → StandsSince report w →
+    StandsSince report v
+since-more report k w v rests s = record {
   before = s.before;
   reached = s.reached;
   is = s.is;
-  events = s.events ++ later;
-  no_act = none-both s.events later s.no_act none;
-  run = runs-both s.events later s.before w v s.run run;
+  turns = s.turns + k;
+  rests = rests-then s.rests rests;
 }
-
-since-turns : (k : ℕ) (w : CableWorld) (report : Report) → StandsSince report w →
-    StandsSince report (turns_after k w)
-unfolding turns_after
-since-turns zero w report s = s
-since-turns (suc k) w report s = since-turns k (turn w) report (since-more report (turns ∷ []) w (turn w) tt (turn w, refl, refl) s)
 
 pub turns-stand :
     (k : ℕ) (w v : CableWorld) (o : Option Report) → v ≡ turns_after k w →
     IfSome o (λ r. StandsSince r w) → IfSome o (λ r. StandsSince r v)
 turns-stand k w v None e h = h
-turns-stand k w v (Some r) e h = subst (StandsSince r) (sym e) (since-turns k w r h)
+turns-stand k w v (Some r) e h = since-more r k w v (subst (Rests k w) (sym e) (turns-rest k w)) h
 
 pub hold-stands :
     (end : End) (n : ℕ) (w v : CableWorld) (o : Option Report) → hold_fault end w ≡ None →
     v ≡ hold end n w → IfSome o (λ r. StandsSince r w) → IfSome o (λ r. StandsSince r v)
 hold-stands end n w v None none e h = h
-hold-stands end n w v (Some r) none e h = since-more r (holds end n ∷ []) w v tt (v, (none, e), refl) h
-
-run-cables : (events : List Event) (w v : CableWorld) → HasNoAct events → Runs events w v →
-    v.cabling ≡ w.cabling
-run-cables [] w v none run = ap (λ (u : CableWorld). u.cabling) run
-run-cables (acts a ∷ events) w v none run = absurd none
-run-cables (holds end n ∷ events) w v none run =
-    run-cables events run.0 v none run.2 ∙ ap (λ (u : CableWorld). u.cabling) run.1.1
-run-cables (turns ∷ events) w v none run =
-    run-cables events run.0 v none run.2 ∙ ap (λ (u : CableWorld). u.cabling) run.1 ∙ cabling-after w
+hold-stands end n w v (Some r) none e h =
+    since-more r 0 w v (subst (Rests 0 w) (sym e) (one-hold end n w none)) h
 
 -- ---- the part of a report
 
@@ -189,7 +161,7 @@ module _
   l = lawful-now u s.reached
 
   cables : w.cabling ≡ u.cabling
-  cables = run-cables s.events u w s.no_act s.run
+  cables = rests-cabling s.rests
 
   before-whole : IsComponent u.cabling node whole
   before-whole = subst (λ (c : Wiring). IsComponent c node whole) cables component
@@ -224,7 +196,7 @@ module _
   }
 
   later : IsReached u → IsTree w whole tree.root k.tree
-  later r = stay u w s.events node whole tree.root k.tree (reached-comes u r) s.no_act s.run before-whole there
+  later r = stay u w s.turns node whole tree.root k.tree (reached-comes u r) s.rests before-whole there
 
   pub stands-as : StandsAs w node tree
   stands-as = record {

@@ -4,8 +4,7 @@ use Rattle.cabling.specs.declared.cable.End.{End}
 use Rattle.cable_world.specs.declared.act.Act.TheVariants as act
 use Rattle.cable_world.specs.declared.act.Act.{Act}
 use Rattle.cable_world.specs.World.{NodeNumber}
-use Rattle.cable_world.specs.Run.{Event, acts, Runs}
-use Rattle.outcomes.specs.Settled.{HasNoAct, turn_count}
+use Rattle.cable_world.specs.Events.{Event, acts, Runs, HasNoAct, turn_count}
 use Rattle.script_lines.specs.declared.command.Command.{Command}
 use Rattle.script_lines.specs.declared.command.Command.TheVariants.{Node, Plug, Pull, Reset, Turn, Settle, Config, Plan, Delay, Times}
 use Rattle.script_told.specs.Bus.{Bus, node_named}

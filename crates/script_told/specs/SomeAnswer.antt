@@ -1,8 +1,7 @@
 -- A command comes to some answer.
 use Rattle.std.specs.Prelude.{◌≡◌, ℕ, List, length, IfSome}
 use Rattle.cable_world.specs.World.{CableWorld}
-use Rattle.cable_world.specs.Run.{Event, Runs, IsReached}
-use Rattle.outcomes.specs.Settled.{HasNoAct}
+use Rattle.cable_world.specs.Run.{IsReached, Rests}
 use Rattle.settle.specs.declared.report.Report.{Report}
 use Rattle.settle.specs.Report.{IsReport}
 use Rattle.script_lines.specs.declared.command.Command.{Command}
@@ -15,9 +14,8 @@ pub record IsOfReached (now : CableWorld) (report : Report) : Type 0 where
   pub world : CableWorld
   pub reached : IsReached world
   pub is : IsReport world report
-  pub events : List Event
-  pub no_act : HasNoAct events
-  pub run : Runs events world now
+  pub turns : ℕ
+  pub rests : Rests turns world now
 
 -- the world of a bus is reached, each of its nodes has a name, and the report is such a one
 pub record IsReachedBus (bus : Bus) : Type 0 where

@@ -10,11 +10,10 @@ use Rattle.cable_world.specs.Wire.{Wire, new_signal, age_signal, age_wire, gives
 use Rattle.cable_world.specs.World.{CableWorld, wire_of}
 use Rattle.cable_world.specs.Turn.{turn}
 use Rattle.cable_world.specs.Act.{Acted, hold, hold_fault}
-use Rattle.cable_world.specs.Run.{Event, acts, holds, turns, Happens, Runs}
+use Rattle.cable_world.specs.Events.{Event, acts, holds, turns, Happens, Runs, turn_count}
 use Rattle.cable_world.specs.Signals.{signals_of}
 use Rattle.cable_world.specs.Lawful.{AgesFall, IsWellFormed}
 use Rattle.cable_world.proofs.Lemmas.{comes-lawful, hold-signals, signals-append, signals-sent, signals-older, CableEnd, cable-end, act-keeps, act-formed, hold-formed, turn-formed, wire-after, cabling-after, delay-after, comes}
-use Rattle.outcomes.specs.Settled.{turn_count}
 use Rattle.world_laws.proofs.ActCables.{act-cable}
 use Rattle.world_laws.proofs.ActsByNumber.{changes}
 use Rattle.world_laws.proofs.SentInActs.{sent-in-act}

@@ -1,5 +1,5 @@
 -- Acts make components fresh: whoever is reset has just begun, and all others are as they were.
-use Rattle.std.proofs.Common.{◌≡◌, ◌≢◌, ◌⊎◌, inl, inr, ℕ, ◌^◌, ◌<◌, false, List, [], ◌∷◌, Some, length, slice_get, refl, sym, ◌∙◌, ap, subst, arith, true≢false}
+use Rattle.std.proofs.Common.{◌≡◌, ◌≢◌, ◌⊎◌, inl, inr, ℕ, ◌^◌, ◌<◌, false, List, [], ◌∷◌, Some, length, slice_get, refl, sym, ◌∙◌, ap, arith, true≢false}
 use Rattle.std.proofs.lemmas.Bool.{cases_eq}
 use Rattle.std.proofs.lemmas.Option.{slice_get_cases, slice_get_within}
 use Rattle.cabling.specs.NodeSet.{Holds}
@@ -12,13 +12,13 @@ use Rattle.port_state.specs.Machine.{PortNode, node_set_config}
 use Rattle.cable_world.specs.declared.act.Act.{Act}
 use Rattle.cable_world.specs.World.{CableWorld, IsPowerOnWorld}
 use Rattle.cable_world.specs.Act.{Acted, change_in_set}
-use Rattle.cable_world.specs.Run.{Event, acts, holds, turns, Happens, Runs, ComesOfPowerOn}
+use Rattle.cable_world.specs.Run.{acted, ComesOfPowerOn}
+use Rattle.cable_world.specs.Events.{Event, acts, holds, turns, Runs, turn_count}
 use Rattle.cable_world.specs.Lawful.{IsLawful, IsWellFormed}
 use Rattle.cable_world.specs.Phases.{is_in_bus_reset}
 use Rattle.cable_world.specs.Fresh.{IsFresh}
-use Rattle.cable_world.proofs.Lemmas.{some-of, some-at, some-same, comes-lawful, power-on-comes, turn-comes, hold-comes, act-comes, Acting, acting, HasBegun, act-keeps, as_before, altered, was, quiet-comes}
+use Rattle.cable_world.proofs.Lemmas.{some-of, some-at, some-same, comes-lawful, power-on-comes, event-comes, run-comes, Acting, acting, HasBegun, act-keeps, as_before, altered, was, quiet-comes}
 use Rattle.outcomes.specs.Forced.{IsForced, WaitsAlone}
-use Rattle.outcomes.specs.Settled.{turn_count}
 use Rattle.outcomes.proofs.Lemmas.{nodes-there, forced-outcome, done-at-last}
 use Rattle.cable_world.specs.Quiet.{quiet_after}
 use Rattle.world_laws.specs.Freshness.{IsTouchedIn, PowerOnIsFresh, ActsMakeFresh, ActsMakeFreshOnceSettled, HasOneWaiting, FreshRootsSettle, FirstRootsSettle}
@@ -89,17 +89,6 @@ same-fates w v e k x at = inr (same-phase w k x (sym (ap (λ (ns : List PortNode
 
 -- ---- runs
 
-event-comes :
-    (e : Event) (w v : CableWorld) → Happens e w v → ComesOfPowerOn w → ComesOfPowerOn v
-event-comes (acts a) w v h r = act-comes a w v h r
-event-comes (holds end n) w v h r = subst ComesOfPowerOn (sym h.1) (hold-comes end n w h.0 r)
-event-comes turns w v h r = subst ComesOfPowerOn (sym h) (turn-comes w r)
-
-pub run-comes :
-    (events : List Event) (w v : CableWorld) → Runs events w v → ComesOfPowerOn w → ComesOfPowerOn v
-run-comes [] w v run r = subst ComesOfPowerOn (sym run) r
-run-comes (e ∷ events) w v run r = run-comes events run.0 v run.2 (event-comes e w run.0 run.1 r)
-
 no-turn-first : (events : List Event) → turn_count (turns ∷ events) ≡ 0 → ⊥
 no-turn-first events e = omega (arith, e)
 
@@ -109,7 +98,7 @@ run-fates :
 run-fates [] w v run none r = same-fates w v (ap (λ (z : CableWorld). z.nodes) run)
 run-fates (acts a ∷ events) w v run none r =
     then-fates w run.0 v (act-fates a w run.0 run.1 (comes-lawful w r).well_formed)
-    (run-fates events run.0 v run.2 none (event-comes (acts a) w run.0 run.1 r))
+    (run-fates events run.0 v run.2 none (acted a w run.0 run.1 r))
 run-fates (holds end n ∷ events) w v run none r =
     then-fates w run.0 v (same-fates w run.0 (ap (λ (z : CableWorld). z.nodes) run.1.1))
     (run-fates events run.0 v run.2 none (event-comes (holds end n) w run.0 run.1 r))
@@ -151,8 +140,8 @@ touched-in :
 touched-in [] w v run none r k h = absurd h
 touched-in (acts a ∷ events) w v run none r k (inl touched) =
     let b : Begun run.0 k = touched-begun a w run.0 run.1 (comes-lawful w r) k touched in
-    stays-in-reset events run.0 v run.2 none (event-comes (acts a) w run.0 run.1 r) k (record { node = b.0; at = b.1; phase = b.2.phase })
-touched-in (acts a ∷ events) w v run none r k (inr later) = touched-in events run.0 v run.2 none (event-comes (acts a) w run.0 run.1 r) k later
+    stays-in-reset events run.0 v run.2 none (acted a w run.0 run.1 r) k (record { node = b.0; at = b.1; phase = b.2.phase })
+touched-in (acts a ∷ events) w v run none r k (inr later) = touched-in events run.0 v run.2 none (acted a w run.0 run.1 r) k later
 touched-in (holds end n ∷ events) w v run none r k h = touched-in events run.0 v run.2 none (event-comes (holds end n) w run.0 run.1 r) k h
 touched-in (turns ∷ events) w v run none r k h = absurd (no-turn-first events none)
 

@@ -23,7 +23,7 @@ use Rattle.cable_world.specs.World.{CableWorld, IsNodeAtPowerOn, IsPowerOnWorld,
 use Rattle.cable_world.specs.Turn.{turn, turns_after}
 use Rattle.cable_world.specs.Act.{hold}
 use Rattle.cable_world.specs.Quiet.{no_holds, quiet_after}
-use Rattle.cable_world.specs.Run.{Event, acts, turns, Runs}
+use Rattle.cable_world.specs.Events.{Event, acts, turns, Runs}
 use Rattle.cable_world.specs.Outcome.{Shows, IsTree}
 use Rattle.cable_world.proofs.Lemmas.{some-same, each-held, no-core, no-loop, attrs, at, after_plug, after_pull}
 use Rattle.outcomes.specs.Forced.{waits_due}

@@ -12,9 +12,9 @@ use Rattle.cable_world.specs.declared.act.Act.TheVariants.{Pull}
 use Rattle.cable_world.specs.declared.wire.Travelling.{Travelling}
 use Rattle.cable_world.specs.World.{CableWorld, wire_of}
 use Rattle.cable_world.specs.Turn.{inbox, turn_at}
-use Rattle.cable_world.specs.Run.{Event, acts, holds, turns, Runs, ComesOfPowerOn}
+use Rattle.cable_world.specs.Run.{ComesOfPowerOn}
+use Rattle.cable_world.specs.Events.{Event, acts, holds, turns, Runs, turn_count}
 use Rattle.cable_world.specs.Signals.{signals_of}
-use Rattle.outcomes.specs.Settled.{turn_count}
 use Rattle.world_laws.specs.Touched.{is_touched}
 
 -- what a port hears in a turn of this world, the oldest first

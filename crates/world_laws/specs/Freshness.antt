@@ -6,12 +6,12 @@ use Rattle.cabling.specs.Component.{IsComponent}
 use Rattle.port_state.specs.Machine.{PortNode}
 use Rattle.cable_world.specs.World.{CableWorld, NodeNumber, NodeSet, IsPowerOnWorld}
 use Rattle.cable_world.specs.Quiet.{HoldSchedule, quiet_after}
-use Rattle.cable_world.specs.Run.{Event, acts, holds, turns, Runs, ComesOfPowerOn}
+use Rattle.cable_world.specs.Run.{ComesOfPowerOn}
+use Rattle.cable_world.specs.Events.{Event, acts, holds, turns, Runs, turn_count}
 use Rattle.cable_world.specs.Phases.{is_in_bus_reset}
 use Rattle.cable_world.specs.Fresh.{IsFresh}
 use Rattle.cable_world.specs.Outcome.{HasNoLoop, IsTree}
 use Rattle.outcomes.specs.Forced.{CanBeForcedAt, WaitsAlone}
-use Rattle.outcomes.specs.Settled.{turn_count}
 use Rattle.convergence.specs.Turns.{turns_to_settle}
 use Rattle.world_laws.specs.Touched.{Touches}
 

@@ -25,7 +25,9 @@ use Rattle.cable_world.specs.Turn.{turn, turns_after}
 use Rattle.cable_world.specs.Act.{hold}
 use Rattle.cable_world.specs.Quiet.{PlacedHold, with_holds, quiet_after}
 use Rattle.cable_world.proofs.worked.Summary.{attrs, at, after_plug}
-use Rattle.cable_world.proofs.worked.ComesOf.{ComesOf, itself, comes-turns, comes-plugged, comes-held}
+use Rattle.cable_world.specs.Run.{ComesOf, starts}
+use Rattle.cable_world.proofs.StaysReached.{all-turned}
+use Rattle.cable_world.proofs.worked.ComesOf.{comes-plugged, comes-held}
 use Rattle.cable_world.proofs.worked.NeverSettles.{NeverSettles, IsOpen, always, each_view, is_unnamed, open-unnamed, first_draws, two-unlike, Below, below, comes-round}
 
 -- ---- times that suit but for one long wait
@@ -75,11 +77,11 @@ slow = record { end = at 1 0; turns = 1 } ∷ []
 abbrev start : CableWorld
 start = hold (at 1 0) 1 (turns_after 132 (pair 9))
 
-comes : ComesOf (bare 9) start
+comes : ComesOf (λ w. w ≡ bare 9) start
 unfolding turn turns_after enter tick on_signal
 comes =
-    comes-held (bare 9) (turns_after 132 (pair 9)) (at 1 0) 1 refl
-    (comes-turns (bare 9) (pair 9) 132 (comes-plugged (bare 9) (bare 9) (at 0 0) (at 1 0) refl (itself (bare 9))))
+    comes-held (turns_after 132 (pair 9)) (at 1 0) 1 refl
+    (all-turned 132 (pair 9) (comes-plugged (bare 9) (at 0 0) (at 1 0) refl (starts (bare 9) refl)))
 
 -- ---- each round is followed by another
 

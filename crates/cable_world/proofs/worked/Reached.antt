@@ -1,6 +1,6 @@
 -- The worked runs are runs as the definition has it, from the power-on world by events that none
 -- refuses; and where components are fresh.
-use Rattle.std.proofs.Common.{◌≡◌, ◌≢◌, ℕ, zero, suc, ◌<◌, ◌≤◌, Bool, true, false, List, [], ◌∷◌, ◌++◌, None, Some, length, slice_get, refl, subst, arith}
+use Rattle.std.proofs.Common.{◌≡◌, ◌≢◌, ℕ, zero, suc, ◌<◌, ◌≤◌, Bool, true, false, List, [], ◌∷◌, None, Some, length, slice_get, refl, subst, arith}
 use Rattle.self_id.specs.Group.{group}
 use Rattle.port_state.specs.declared.signal.Phase.TheVariants.{ResetStart, ResetWait}
 use Rattle.port_state.specs.Timing.{InRange, usual_timing}
@@ -9,52 +9,22 @@ use Rattle.port_state.specs.Heard.{on_signal}
 use Rattle.port_state.specs.Tick.{tick}
 use Rattle.port_state.specs.Machine.{PortNode}
 use Rattle.port_state.proofs.Lemmas.{valid-power_on}
-use Rattle.cabling.specs.declared.cable.End.{End}
 use Rattle.cabling.specs.declared.cable.CableFault.TheVariants.{NoNode, InUse, NotPlugged}
 use Rattle.cable_world.specs.declared.act.Act.TheVariants.{Plug, Pull}
 use Rattle.cable_world.specs.World.{CableWorld, IsNodeAtPowerOn, world_of_nodes}
 use Rattle.cable_world.specs.Turn.{turn, turns_after}
 use Rattle.cable_world.specs.Act.{act_fault, hold, hold_fault}
-use Rattle.cable_world.specs.Run.{Event, acts, holds, turns, Happens, Runs, IsReached}
+use Rattle.cable_world.specs.Run.{IsReached, starts}
 use Rattle.cable_world.specs.Outcome.{Shows}
 use Rattle.cable_world.specs.Fresh.{IsFresh}
-use Rattle.cable_world.proofs.worked.Summary.{node_of, attrs, at, after_plug, after_pull}
+use Rattle.cable_world.proofs.StaysReached.{all-turned}
+use Rattle.cable_world.proofs.worked.Summary.{node_of, attrs, at, after_plug}
+use Rattle.cable_world.proofs.worked.ComesOf.{comes-plugged, comes-pulled, comes-held}
 use Rattle.cable_world.proofs.Options.{some-same}
 use Rattle.cable_world.proofs.Times.{in-range-forced, powered-in-range}
 use Rattle.cable_world.proofs.worked.Settled.{each-held}
 use Rattle.cable_world.proofs.worked.TwoNodes as pair
 use Rattle.cable_world.proofs.worked.Desk as desk
-
--- ---- runs grow
-
-pub runs-more :
-    (events : List Event) (e : Event) (w u v : CableWorld) → Runs events w u → Happens e u v →
-    Runs (events ++ e ∷ []) w v
-runs-more [] e w u v r h = (v, subst (λ (x : CableWorld). Happens e x v) r h, refl)
-runs-more (first ∷ events) e w u v r h = (r.0, r.1, runs-more events e r.0 u v r.2 h)
-
-reached-more : (e : Event) (w v : CableWorld) → IsReached w → Happens e w v → IsReached v
-reached-more e w v r h = record { start = r.start; events = r.events ++ e ∷ []; power_on = r.power_on; forced = r.forced; run = runs-more r.events e r.start w v r.run h }
-
-reached-turns : (n : ℕ) (w : CableWorld) → IsReached w → IsReached (turns_after n w)
-unfolding turns_after
-reached-turns zero w r = r
-reached-turns (suc n) w r = reached-turns n (turn w) (reached-more turns w (turn w) r refl)
-
-reached-plugged :
-    (a b : End) (w : CableWorld) → act_fault (Plug a b) w ≡ None → IsReached w →
-    IsReached (after_plug a b w)
-reached-plugged a b w free r = reached-more (acts (Plug a b)) w (after_plug a b w) r (tt, free, refl)
-
-reached-pulled :
-    (a : End) (w : CableWorld) → act_fault (Pull a) w ≡ None → IsReached w →
-    IsReached (after_pull a w)
-reached-pulled a w there r = reached-more (acts (Pull a)) w (after_pull a w) r (tt, there, refl)
-
-reached-held :
-    (a : End) (n : ℕ) (w : CableWorld) → hold_fault a w ≡ None → IsReached w →
-    IsReached (hold a n w)
-reached-held a n w there r = reached-more (holds a n) w (hold a n w) r (there, refl)
 
 -- ---- from power-on
 
@@ -83,19 +53,16 @@ all-at (y ∷ ys) a (suc k) x e = all-at ys a.1 k x e
 
 reached-first :
     (nodes : List PortNode) → AllOn nodes → length nodes ≤ 63 → IsReached (world_of_nodes 4 nodes)
-reached-first nodes a few = record {
-  start = world_of_nodes 4 nodes;
-  events = [];
-  power_on = record { some_delay = omega arith; short_delay = omega arith; few_nodes = few; nodes = λ k x e. powered-in-range 4 x.state (omega arith) (omega arith) (all-at nodes a k x e); is = refl };
-  forced = λ k x e. in-range-forced 4 x.state.timing (omega arith) (all-at nodes a k x e).timing;
-  run = refl;
-}
+reached-first nodes a few = starts (world_of_nodes 4 nodes) (
+  record { some_delay = omega arith; short_delay = omega arith; few_nodes = few; nodes = λ k x e. powered-in-range 4 x.state (omega arith) (omega arith) (all-at nodes a k x e); is = refl },
+  λ k x e. in-range-forced 4 x.state.timing (omega arith) (all-at nodes a k x e).timing,
+)
 
 -- ---- the worked runs
 
 pair-reached : IsReached (turns_after 299 pair.start)
 pair-reached =
-    reached-turns 299 pair.start (reached-plugged (at 0 0) (at 1 0) (world_of_nodes 4 pair.nodes) refl
+    all-turned 299 pair.start (comes-plugged (world_of_nodes 4 pair.nodes) (at 0 0) (at 1 0) refl
     (reached-first pair.nodes (powered-on 3 2 0 true false (omega arith) (omega arith) (omega arith), (powered-on 3 2 1 true false (omega arith) (omega arith) (omega arith), tt)) (omega arith)))
 
 -- the desk: no act and no hold of it is refused
@@ -149,15 +116,15 @@ camera-there = refl
 
 plugged-reached : IsReached desk.plugged_in
 plugged-reached =
-    reached-plugged (at desk.tape 0) (at desk.hub 2) camera_in tape-free
-    (reached-plugged (at desk.camera 0) (at desk.hub 4) (turns_after 10 disk_in) camera-free (reached-turns 10 disk_in
-    (reached-plugged (at desk.disk 0) (at desk.hub 1) (turns_after 300 hub_in) disk-free (reached-turns 300 hub_in
-    (reached-plugged (at desk.computer 0) (at desk.hub 0) (world_of_nodes 4 desk.nodes) hub-free (reached-first desk.nodes desk-on (omega arith)))))))
+    comes-plugged camera_in (at desk.tape 0) (at desk.hub 2) tape-free
+    (comes-plugged (turns_after 10 disk_in) (at desk.camera 0) (at desk.hub 4) camera-free (all-turned 10 disk_in
+    (comes-plugged (turns_after 300 hub_in) (at desk.disk 0) (at desk.hub 1) disk-free (all-turned 300 hub_in
+    (comes-plugged (world_of_nodes 4 desk.nodes) (at desk.computer 0) (at desk.hub 0) hub-free (reached-first desk.nodes desk-on (omega arith)))))))
 
 desk-reached : IsReached (turns_after 290 desk.camera_out)
 desk-reached =
-    reached-turns 290 desk.camera_out (reached-pulled (at desk.camera 0) (hold (at desk.hub 0) 3 desk.before) camera-there
-    (reached-held (at desk.hub 0) 3 desk.before hold-there (reached-turns 270 desk.plugged_in plugged-reached)))
+    all-turned 290 desk.camera_out (comes-pulled (hold (at desk.hub 0) 3 desk.before) (at desk.camera 0) camera-there
+    (comes-held desk.before (at desk.hub 0) 3 hold-there (all-turned 270 desk.plugged_in plugged-reached)))
 
 -- a cable can't be plugged twice, and none can be pulled where none is
 in-use :

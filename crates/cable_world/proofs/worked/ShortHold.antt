@@ -23,7 +23,9 @@ use Rattle.cable_world.specs.World.{CableWorld, world_of_nodes}
 use Rattle.cable_world.specs.Turn.{turn, turns_after}
 use Rattle.cable_world.specs.Quiet.{quiet_after}
 use Rattle.cable_world.proofs.worked.Summary.{attrs, at, after_plug}
-use Rattle.cable_world.proofs.worked.ComesOf.{ComesOf, itself, comes-turns, comes-plugged, comes-reset, after_reset}
+use Rattle.cable_world.specs.Run.{ComesOf, starts}
+use Rattle.cable_world.proofs.StaysReached.{all-turned}
+use Rattle.cable_world.proofs.worked.ComesOf.{comes-plugged, comes-reset, after_reset}
 use Rattle.cable_world.proofs.worked.NeverSettles.{NeverSettles, IsOpen, always, each_view, is_fresh, open-fresh, Below, below, comes-round}
 
 -- ---- times that suit but for the hold
@@ -78,13 +80,14 @@ first hold = after_reset 1 (turns_after hold (ring hold))
 abbrev second : ℕ → CableWorld
 second hold = after_reset 0 (turns_after hold (first hold))
 
-comes : ComesOf (bare 3) (turns_after 4 (second 3))
+comes : ComesOf (λ w. w ≡ bare 3) (turns_after 4 (second 3))
 unfolding turn turns_after enter tick on_signal
 comes =
-    comes-turns (bare 3) (second 3) 4 (comes-reset (bare 3) (turns_after 3 (first 3)) 0 refl (comes-turns (bare 3) (first 3) 3
-    (comes-reset (bare 3) (turns_after 3 (ring 3)) 1 refl (comes-turns (bare 3) (ring 3) 3 (comes-plugged (bare 3) (three 3) (at 3 1) (at 0 0) refl
-    (comes-plugged (bare 3) (two 3) (at 2 1) (at 3 0) refl (comes-plugged (bare 3) (one 3) (at 1 1) (at 2 0) refl
-    (comes-plugged (bare 3) (bare 3) (at 0 1) (at 1 0) refl (itself (bare 3))))))))))
+    all-turned 4 (second 3) (comes-reset (turns_after 3 (first 3)) 0 refl
+    (all-turned 3 (first 3) (comes-reset (turns_after 3 (ring 3)) 1 refl
+    (all-turned 3 (ring 3) (comes-plugged (three 3) (at 3 1) (at 0 0) refl
+    (comes-plugged (two 3) (at 2 1) (at 3 0) refl (comes-plugged (one 3) (at 1 1) (at 2 0) refl
+    (comes-plugged (bare 3) (at 0 1) (at 1 0) refl (starts (bare 3) refl)))))))))
 
 -- ---- it comes round
 

@@ -25,7 +25,9 @@ use Rattle.cable_world.specs.Turn.{turn, turns_after}
 use Rattle.cable_world.specs.Act.{hold}
 use Rattle.cable_world.specs.Quiet.{quiet_after}
 use Rattle.cable_world.proofs.worked.Summary.{attrs, at, after_plug, summaries, summary, story}
-use Rattle.cable_world.proofs.worked.ComesOf.{ComesOf, itself, comes-turns, comes-plugged, comes-held}
+use Rattle.cable_world.specs.Run.{ComesOf, starts}
+use Rattle.cable_world.proofs.StaysReached.{all-turned}
+use Rattle.cable_world.proofs.worked.ComesOf.{comes-plugged, comes-held}
 use Rattle.cable_world.proofs.worked.NeverSettles.{NeverSettles, IsOpen, always, open-fresh, comes-round}
 
 -- ---- times that suit but for one short wait
@@ -80,13 +82,15 @@ both_wait short = turns_after 2 (hold (at 2 0) 2 (asked short))
 abbrev held : ℕ → CableWorld
 held short = hold (at 1 1) 2 (both_wait short)
 
-comes : (n : ℕ) → ComesOf (bare 4) (turns_after n (held 4))
+comes : (n : ℕ) → ComesOf (λ w. w ≡ bare 4) (turns_after n (held 4))
 unfolding turn turns_after enter tick on_signal
 comes n =
-    comes-turns (bare 4) (held 4) n (comes-held (bare 4) (both_wait 4) (at 1 1) 2 refl (comes-turns (bare 4) (hold (at 2 0) 2 (asked 4)) 2
-    (comes-held (bare 4) (asked 4) (at 2 0) 2 refl (comes-turns (bare 4) (hold (at 2 0) 1 (turns_after 194 (line 4))) 2
-    (comes-held (bare 4) (turns_after 194 (line 4)) (at 2 0) 1 refl (comes-turns (bare 4) (line 4) 194 (comes-plugged (bare 4) (one 4) (at 1 1) (at 2 0) refl
-    (comes-plugged (bare 4) (bare 4) (at 0 0) (at 1 0) refl (itself (bare 4))))))))))
+    all-turned n (held 4) (comes-held (both_wait 4) (at 1 1) 2 refl
+    (all-turned 2 (hold (at 2 0) 2 (asked 4)) (comes-held (asked 4) (at 2 0) 2 refl
+    (all-turned 2 (hold (at 2 0) 1 (turns_after 194 (line 4)))
+    (comes-held (turns_after 194 (line 4)) (at 2 0) 1 refl
+    (all-turned 194 (line 4) (comes-plugged (one 4) (at 1 1) (at 2 0) refl
+    (comes-plugged (bare 4) (at 0 0) (at 1 0) refl (starts (bare 4) refl)))))))))
 
 -- after 198 turns both wait; after 200 node 2 has taken node 1 for its child; after 202 it is root,
 -- and after 203 it has granted it; after 223 node 1 has done its wait and has found its parent

@@ -1,6 +1,6 @@
 -- Times that barely suit a bus, and times that don't; and two nodes with such times. d is 1 here, and
 -- the longest times are those in range.
-use Rattle.std.proofs.Common.{◌≡◌, ℕ, zero, suc, ◌*◌, ◌+◌, ◌<◌, ◌≤◌, true, false, [], ◌∷◌, Option, Some, map, slice_get, refl, subst, arith}
+use Rattle.std.proofs.Common.{◌≡◌, ℕ, zero, suc, true, false, [], ◌∷◌, Some, map, slice_get, refl, subst, arith}
 use Rattle.self_id.specs.Group.{group}
 use Rattle.port_state.specs.declared.timing.Timing.{Timing}
 use Rattle.port_state.specs.Coins.{coins_of_bits}
@@ -10,14 +10,14 @@ use Rattle.port_state.specs.PowerOn.{power_on}
 use Rattle.port_state.specs.Tick.{tick}
 use Rattle.port_state.specs.Machine.{PortNode}
 use Rattle.port_state.proofs.Lemmas.{valid-power_on}
-use Rattle.cable_world.specs.declared.act.Act.TheVariants.{Plug}
 use Rattle.cable_world.specs.Times.{Suits, CanBeForced, longest_in_range}
-use Rattle.cable_world.specs.World.{CableWorld, AllCanBeForced, IsPowered, IsPowerOnWorld, world_with_times}
+use Rattle.cable_world.specs.World.{CableWorld, AllCanBeForced, IsPowered, world_with_times}
 use Rattle.cable_world.specs.Turn.{turn, turns_after}
-use Rattle.cable_world.specs.Run.{acts, IsReached}
+use Rattle.cable_world.specs.Run.{IsReached, starts}
 use Rattle.cable_world.proofs.Options.{some-same}
 use Rattle.cable_world.proofs.Times.{in-range-counted}
 use Rattle.cable_world.proofs.worked.Summary.{attrs, at, after_plug}
+use Rattle.cable_world.proofs.worked.ComesOf.{comes-plugged}
 
 -- the least that suits each of them
 abbrev barely : Timing
@@ -85,13 +85,10 @@ each-forced (suc zero) x e = subst (λ (z : PortNode). CanBeForced 1 (longest_in
 each-forced (suc (suc k)) x e = absurd cc
 
 start-reached : IsReached start
-start-reached = record {
-  start = alone;
-  events = acts (Plug (at 0 0) (at 1 0)) ∷ [];
-  power_on = record { some_delay = omega arith; short_delay = omega arith; few_nodes = omega arith; nodes = each-powered; is = refl };
-  forced = each-forced;
-  run = (start, (tt, refl, refl), refl);
-}
+start-reached = comes-plugged alone (at 0 0) (at 1 0) refl (starts alone (
+  record { some_delay = omega arith; short_delay = omega arith; few_nodes = omega arith; nodes = each-powered; is = refl },
+  each-forced,
+))
 
 -- a hold of 64 turns, a long wait of 6, and the rest: the second is root
 settled : map (λ (x : PortNode). x.state.view.id) (turns_after 81 start).nodes ≡ Some 0 ∷ Some 1 ∷ []

@@ -1,10 +1,10 @@
--- A run of holds and turns is so many quiet turns, with its holds between them.
-use Rattle.std.proofs.Common.{◌≡◌, ℕ, zero, suc, ◌+◌, ◌≤◌, List, [], ◌∷◌, sym, ◌∙◌, ap, subst, arith}
+-- Quiet turns, with the holds between them in a schedule.
+use Rattle.std.proofs.Common.{◌≡◌, ℕ, zero, suc, ◌≤◌, [], ◌∷◌, sym, ◌∙◌, ap, subst}
 use Rattle.convergence.specs.Turns.{turns_to_settle}
-use Rattle.outcomes.proofs.Common.{CableWorld, IsSettled, turn, Event, acts, holds, turns, Runs, ComesOfPowerOn, PlacedHold, HoldSchedule, with_holds, quiet_after, no-quiet, HasNoAct}
+use Rattle.outcomes.proofs.Common.{CableWorld, IsSettled, turn, ComesOfPowerOn, PlacedHold, HoldSchedule, with_holds, quiet_after, no-quiet}
 use Rattle.cable_world.specs.Quiet.{no_holds, with_hold}
+use Rattle.cable_world.specs.Run.{Rests, still, hold_first, turn_first}
 use Rattle.cable_world.proofs.Lemmas.{holds-are-calls, quiet-first}
-use Rattle.outcomes.specs.Settled.{turn_count}
 use Rattle.outcomes.proofs.settled.Components.{Part}
 use Rattle.outcomes.proofs.settled.QuietTurns.{settles-at-last}
 
@@ -28,7 +28,7 @@ quiet-held h hs zero w = (holds-are-calls h (hs 0) w).1
 quiet-held h hs (suc k) w =
     ap (λ (v : CableWorld). with_holds (hs (suc k)) (turn v)) (quiet-held h hs k w)
 
--- ---- runs
+-- ---- quiet turns
 
 -- a world comes of another one by so many quiet turns
 pub record ComesBy (w v : CableWorld) (k : ℕ) : Type 0 where
@@ -48,40 +48,20 @@ after-hold h w v k c = record {
   is = c.is ∙ sym (quiet-held h c.schedule k w);
 }
 
--- holds and turns, and then quiet turns more
-pub comes-then :
-    (events : List Event) (w u v : CableWorld) (k : ℕ) → HasNoAct events → Runs events w u →
-    ComesBy u v k → ComesBy w v (turn_count events + k)
-comes-then [] w u v k none run c =
-    let z : 0 + k ≡ k = omega arith in
-    subst (ComesBy w v) (sym z) (subst (λ (x : CableWorld). ComesBy x v k) run c)
-comes-then (acts a ∷ events) w u v k none run c = absurd none
-comes-then (turns ∷ events) w u v k none run c =
-    let z : suc (turn_count events) + k ≡ suc (turn_count events + k) = omega arith in
-    subst (ComesBy w v) (sym z)
-    (after-turn w v (turn_count events + k)
-    (comes-then events (turn w) u v k none (subst (λ (x : CableWorld). Runs events x u) run.1 run.2)
-    c))
-comes-then (holds end n ∷ events) w u v k none run c =
+pub comes-by : {k : ℕ} {w v : CableWorld} → Rests k w v → ComesBy w v k
+comes-by {w = w} still = record { schedule = no_holds; is = sym (no-quiet no_holds w) }
+comes-by {k = k} {w = w} {v = v} (hold_first end n none rests) =
     let h : PlacedHold = record { end = end; turns = n } in
-    let same : run.0 ≡ with_hold h w = run.1.1 ∙ sym ((holds-are-calls h [] w).2 run.1.0) in
-    after-hold h w v (turn_count events + k)
-    (comes-then events (with_hold h w) u v k none
-    (subst (λ (x : CableWorld). Runs events x u) same run.2) c)
+    after-hold h w v k
+    (subst (λ (u : CableWorld). ComesBy u v k) (sym ((holds-are-calls h [] w).2 none))
+    (comes-by rests))
+comes-by {w = w} {v = v} (turn_first {n = k} rests) = after-turn w v k (comes-by rests)
 
-pub comes-by :
-    (events : List Event) (w v : CableWorld) → HasNoAct events → Runs events w v →
-    ComesBy w v (turn_count events)
-comes-by events w v none run =
-    let z : turn_count events + 0 ≡ turn_count events = omega arith in
-    subst (ComesBy w v) z (comes-then events w v v 0 none run
-    (record { schedule = no_holds; is = sym (no-quiet no_holds v) }))
-
--- so every component settles in it
-pub run-settles :
-    (w v : CableWorld) (events : List Event) (p : Part w) → ComesOfPowerOn w → HasNoAct events →
-    Runs events w v → turns_to_settle w ≤ turn_count events → IsSettled v p.set
-run-settles w v events p r none run enough =
-    let c : ComesBy w v (turn_count events) = comes-by events w v none run in
+-- so every component settles in them
+pub rests-settled :
+    (w v : CableWorld) (k : ℕ) (p : Part w) → ComesOfPowerOn w → Rests k w v →
+    turns_to_settle w ≤ k → IsSettled v p.set
+rests-settled w v k p r rests enough =
+    let c : ComesBy w v k = comes-by rests in
     subst (λ (u : CableWorld). IsSettled u p.set) (sym c.is)
-    (settles-at-last c.schedule w r p (turn_count events) enough)
+    (settles-at-last c.schedule w r p k enough)

@@ -1,11 +1,12 @@
 -- What has settled stays settled in turns and holds. A loop does, since its nodes don't leave T0
 -- and their timers rise;
 -- a tree is at rest; of a contention it is told at the end whether a tree has come of it.
-use Rattle.std.proofs.Common.{◌≡◌, inl, inr, ℕ, ◌+◌, ◌-◌, ◌^◌, ◌<◌, ◌≤◌, true, List, [], ◌∷◌, None, Some, length, slice_get, sym, ◌∙◌, ap, subst, arith}
-use Rattle.outcomes.proofs.Common.{Tree, Wiring, Holds, IsComponent, IsCore, End, NodeState, Timing, coin, PortNode, CableWorld, turn, hold, hold_fault, Event, acts, holds, turns, Runs, ComesOfPowerOn, IsLawful, loop, tree, contention, IsTree, IsSettled, is_before_tree, some-of, some-at, some-same, comes-lawful, after-length, cabling-after, risen, quiet-then, quiet-lawful, after-cabling, HoldSchedule, holds_after, quiet_after, ResetsAreDone, ResetsAreOver, HasContention, done-after, comes-contested, comes-acyclic, done-over, Calmly, heard_by, IsNumbering, HasNoAct}
+use Rattle.std.proofs.Common.{◌≡◌, inl, inr, ℕ, ◌+◌, ◌-◌, ◌^◌, ◌<◌, ◌≤◌, true, None, Some, length, slice_get, sym, ◌∙◌, ap, subst, arith}
+use Rattle.outcomes.proofs.Common.{Tree, Wiring, Holds, IsComponent, IsCore, End, NodeState, Timing, coin, PortNode, CableWorld, turn, hold, hold_fault, ComesOfPowerOn, IsLawful, loop, tree, contention, IsTree, IsSettled, is_before_tree, some-of, some-at, some-same, comes-lawful, after-length, cabling-after, risen, quiet-then, quiet-lawful, after-cabling, HoldSchedule, holds_after, quiet_after, ResetsAreDone, ResetsAreOver, HasContention, done-after, comes-contested, comes-acyclic, done-over, Calmly, heard_by, IsNumbering}
 use Rattle.port_state.specs.declared.signal.Phase.TheVariants as phase
 use Rattle.cable_world.specs.Outcome.{Outcome, IsLoop, IsContention, IsOutcome}
 use Rattle.cable_world.specs.Times.{Suits}
+use Rattle.cable_world.specs.Run.{Rests, still, hold_first, turn_first}
 use Rattle.cable_world.proofs.Lemmas.{after-longest, longest-after, turn-comes, hold-comes, nodes-after, quiet-comes}
 use Rattle.convergence.specs.Kept.{IsGrown}
 use Rattle.convergence.specs.Milestones.{TreesAreTaken}
@@ -226,19 +227,13 @@ hold-stays end k w node set none s = record {
 }
 
 stays-on :
-    (events : List Event) (w v : CableWorld) (node set : ℕ) → HasNoAct events → Runs events w v →
-    set < 2 ^ 63 →
+    {k : ℕ} {w v : CableWorld} → (node set : ℕ) → Rests k w v → set < 2 ^ 63 →
     Staying w node set → Staying v node set
-stays-on [] w v node set none run small s =
-    subst (λ (u : CableWorld). Staying u node set) (sym run) s
-stays-on (acts a ∷ events) w v node set none run small s = absurd none
-stays-on (holds end k ∷ events) w v node set none run small s =
-    stays-on events (hold end k w) v node set none
-    (subst (λ (z : CableWorld). Runs events z v) run.1.1 run.2) small
-    (hold-stays end k w node set run.1.0 s)
-stays-on (turns ∷ events) w v node set none run small s =
-    stays-on events (turn w) v node set none
-    (subst (λ (z : CableWorld). Runs events z v) run.1 run.2) small (turn-stays w node set small s)
+stays-on node set still small s = s
+stays-on {w = w} node set (hold_first end k none rests) small s =
+    stays-on node set rests small (hold-stays end k w node set none s)
+stays-on {w = w} node set (turn_first rests) small s =
+    stays-on node set rests small (turn-stays w node set small s)
 
 -- ---- what it has come to
 
@@ -258,9 +253,9 @@ settled-of w node set small s = go s.come
     go (looped core h late) = (loop core, h)
     go (treed root t h) = tree-outcome w set root t h
     go (contended a b h) = elim (all-or-not w set) [
-      | inr still ↦
+      | inr out ↦
           contention-outcome w lawful (comes-contested w s.reached) over node set s.component now
-          (no-tree-yet w set n.identifies still)
+          (no-tree-yet w set n.identifies out)
       | inl all ↦
           let walk =
           n.walks node set h.no_loop.core s.there s.component h.no_loop.is_core small all in
@@ -344,7 +339,6 @@ module _
     come = come-of (settles-at-last hs w r p k quiet);
   }
 
-  pub stays-settled : (v : CableWorld) (events : List Event) → HasNoAct events → Runs events u v →
-      IsSettled v p.set
-  stays-settled v events none run =
-      settled-of v p.node p.set p.small (stays-on events u v p.node p.set none run p.small staying)
+  pub stays-settled : (v : CableWorld) (more : ℕ) → Rests more u v → IsSettled v p.set
+  stays-settled v more rests =
+      settled-of v p.node p.set p.small (stays-on p.node p.set rests p.small staying)

@@ -1,6 +1,7 @@
 -- A component that has come to a tree is at rest, and so it stays in its tree.
-use Rattle.std.proofs.Common.{◌≡◌, ℕ, ◌^◌, ◌<◌, true, List, [], ◌∷◌, Some, length, slice_get, sym, ◌∙◌, ap, subst}
-use Rattle.outcomes.proofs.Common.{Tree, emits, Wiring, Holds, IsComponent, PortNode, CableWorld, turn, Act, Acted, hold, note_changes, acting, some-of, some-same, comes-lawful, act-comes, cabling-after, Event, acts, holds, turns, Runs, ComesOfPowerOn, IsLawful, IsTree, AreIdentifying, is_ready, Settles, IsNumbering, IsSettling, IsAtRest, HasNoAct}
+use Rattle.std.proofs.Common.{◌≡◌, ℕ, ◌^◌, ◌<◌, true, Some, length, slice_get, sym, ◌∙◌, ap, subst}
+use Rattle.outcomes.proofs.Common.{Tree, emits, Wiring, Holds, IsComponent, PortNode, CableWorld, turn, Act, Acted, hold, note_changes, acting, some-of, some-same, comes-lawful, act-comes, cabling-after, ComesOfPowerOn, IsLawful, IsTree, AreIdentifying, is_ready, Settles, IsNumbering, IsSettling, IsAtRest}
+use Rattle.cable_world.specs.Run.{Rests, still, hold_first, turn_first}
 use Rattle.cable_world.proofs.Lemmas.{turn-comes, hold-comes}
 use Rattle.outcomes.proofs.identify.MarksKept.{ready-hears}
 use Rattle.outcomes.proofs.numbers.AtRest.{rests-where, rests-on, rest-tree}
@@ -59,23 +60,23 @@ module _
       (settles-on w lawful numbering.acyclic numbering.identifies set h.no_loop.core root t tree-settles) (rests-on w lawful numbering.acyclic numbering.identifies set h.no_loop.core root t tree-settles tree-rests)
 
 pub tree-stays :
-    (events : List Event) (w v : CableWorld) → ComesOfPowerOn w → HasNoAct events → Runs events w v →
-    (node set : ℕ) → IsComponent w.cabling node set → set < 2 ^ 63 → (root : ℕ) (t : Tree) →
-    IsTree w set root t → IsTree v set root t
-tree-stays [] w v r none run node set comp small root t h = subst (λ (u : CableWorld). IsTree u set root t) (sym run) h
-tree-stays (acts a ∷ events) w v r none run node set comp small root t h = absurd none
-tree-stays (holds end k ∷ events) w v r none run node set comp small root t h =
+    {k : ℕ} {w v : CableWorld} → ComesOfPowerOn w → Rests k w v → (node set : ℕ) →
+    IsComponent w.cabling node set → set < 2 ^ 63 → (root : ℕ) (t : Tree) → IsTree w set root t →
+    IsTree v set root t
+tree-stays r still node set comp small root t h = h
+tree-stays {w = w} r (hold_first end k none rests) node set comp small root t h =
     let u : CableWorld = hold end k w in
-    let reached : ComesOfPowerOn u = hold-comes end k w run.1.0 r in
+    let reached : ComesOfPowerOn u = hold-comes end k w none r in
     let n : IsNumbering u = comes-numbering u reached in
     let held : IsTree u set root t =
     rest-tree u (comes-lawful u reached) n.acyclic n.identifies set h.no_loop.core root t
-    (hold-settles end k w run.1.0 (comes-lawful w r) set h.no_loop.core root t (tree-settles w r node set comp small root t h))
-    (hold-rests end k w run.1.0 (comes-lawful w r) set (tree-rests w r node set comp small root t h)) in
-    tree-stays events u v reached none (subst (λ (z : CableWorld). Runs events z v) run.1.1 run.2) node set comp small root t held
-tree-stays (turns ∷ events) w v r none run node set comp small root t h =
-    tree-stays events (turn w) v (turn-comes w r) none (subst (λ (z : CableWorld). Runs events z v) run.1 run.2) node set
-    (subst (λ (c : Wiring). IsComponent c node set) (sym (cabling-after w)) comp) small root t (turn-tree w r node set comp small root t h)
+    (hold-settles end k w none (comes-lawful w r) set h.no_loop.core root t (tree-settles w r node set comp small root t h))
+    (hold-rests end k w none (comes-lawful w r) set (tree-rests w r node set comp small root t h)) in
+    tree-stays reached rests node set comp small root t held
+tree-stays {w = w} r (turn_first rests) node set comp small root t h =
+    tree-stays (turn-comes w r) rests node set
+    (subst (λ (c : Wiring). IsComponent c node set) (sym (cabling-after w)) comp) small root t
+    (turn-tree w r node set comp small root t h)
 
 -- ---- acts on other components
 -- where the component is left alone, it keeps its tree

@@ -1,12 +1,13 @@
 -- Two nodes, one cable between them: the bus comes of power-on, it is left alone for 4393 turns, and
 -- so it has settled.
-use Rattle.std.proofs.Common.{◌≡◌, ℕ, zero, suc, true, false, [], ◌∷◌, None, Some, length, slice_get, refl, subst, arith}
+use Rattle.std.proofs.Common.{◌≡◌, ℕ, zero, suc, true, false, None, Some, slice_get, refl, subst, arith}
 use Rattle.convergence.specs.Turns.{turns_to_settle}
-use Rattle.outcomes.proofs.Common.{enter, PortNode, IsPowerOnWorld, turns_after, act_fault, acts, ComesOfPowerOn, some-same, attrs, at}
+use Rattle.outcomes.proofs.Common.{enter, PortNode, IsPowerOnWorld, turns_after, act_fault, ComesOfPowerOn, some-same, attrs, at}
 use Rattle.port_state.specs.Timing.{InRange, usual_timing}
 use Rattle.port_state.proofs.Lemmas.{valid-power_on}
 use Rattle.cable_world.specs.declared.act.Act.TheVariants.{Plug}
 use Rattle.cable_world.specs.World.{IsNodeAtPowerOn, world_of_nodes}
+use Rattle.cable_world.specs.Run.{starts, acted}
 use Rattle.cable_world.proofs.Lemmas.{plain_node}
 use Rattle.cable_world.proofs.Lemmas as pair
 use Rattle.outcomes.specs.Headline.{IsLeftAlone, AllSettled, EveryBusSettles}
@@ -35,12 +36,9 @@ free : act_fault (Plug (at 0 0) (at 1 0)) (world_of_nodes 4 pair.nodes) ≡ None
 free = refl
 
 reached : ComesOfPowerOn pair.start
-reached = record {
-  start = world_of_nodes 4 pair.nodes;
-  events = acts (Plug (at 0 0) (at 1 0)) ∷ [];
-  power_on = at-first;
-  run = (pair.start, (tt, free, refl), refl);
-}
+reached =
+    acted (Plug (at 0 0) (at 1 0)) (world_of_nodes 4 pair.nodes) pair.start (tt, free, refl)
+    (starts (world_of_nodes 4 pair.nodes) at-first)
 
 enough : turns_to_settle pair.start ≡ 4393
 unfolding enter

@@ -5,8 +5,7 @@ use Rattle.topology_stack.specs.Tree.{Tree}
 use Rattle.cabling.specs.Walk.{IsWalk}
 use Rattle.cabling.specs.Component.{IsComponent}
 use Rattle.cable_world.specs.World.{CableWorld, NodeNumber, NodeSet}
-use Rattle.cable_world.specs.Run.{Event, Runs, IsReached}
-use Rattle.outcomes.specs.Settled.{HasNoAct}
+use Rattle.cable_world.specs.Run.{IsReached, Rests}
 use Rattle.root_plan.specs.declared.choice.RootPlan.{RootPlan}
 use Rattle.settle.specs.declared.report.Report.{Report}
 use Rattle.settle.specs.Report.{IsReport}
@@ -25,9 +24,8 @@ pub record StandsSince (report : Report) (w : CableWorld) : Type 0 where
   pub before : CableWorld
   pub reached : ∥ IsReached before ∥₁
   pub is : IsReport before report
-  pub events : List Event
-  pub no_act : HasNoAct events
-  pub run : Runs events before w
+  pub turns : ℕ
+  pub rests : Rests turns before w
 
 -- the component of a node stands as a reported tree
 pub record StandsAs (w : CableWorld) (node : NodeNumber) (tree : Reported) : Type 0 where

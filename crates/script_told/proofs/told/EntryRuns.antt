@@ -9,13 +9,11 @@ use Rattle.port_state.specs.declared.ranges.TimeRanges.{TimeRanges}
 use Rattle.cable_world.specs.declared.act.Act.{Act}
 use Rattle.cable_world.specs.declared.act.Act.TheVariants as act
 use Rattle.cable_world.specs.World.{CableWorld, NodeNumber}
-use Rattle.cable_world.specs.Act.{ActLeads, IsAct, act_fault, hold, hold_fault}
-use Rattle.cable_world.specs.Turn.{turns_after}
+use Rattle.cable_world.specs.Act.{Acted, IsAct, hold, hold_fault}
+use Rattle.cable_world.specs.Turn.{turn, turns_after}
 use Rattle.cable_world.specs.Unchanged.{ActKeepsNodes}
 use Rattle.cable_world.proofs.Lemmas.{some-same}
-use Rattle.cable_world.specs.Run.{Event, acts, holds, turns, Runs}
-use Rattle.outcomes.specs.Settled.{HasNoAct, turn_count}
-use Rattle.outcomes.proofs.Lemmas.{only_turns, no-acts, turns-run}
+use Rattle.cable_world.specs.Events.{Event, acts, holds, turns, Runs, HasNoAct, turn_count}
 use Rattle.resource_manager.specs.declared.access.Access.{Access}
 use Rattle.resource_manager.specs.declared.access.Access.TheVariants as access
 use Rattle.resource_manager.specs.declared.access.Answer.{Answer}
@@ -61,6 +59,20 @@ first-act :
 first-act a b events none (zero, x, less, at, is) = ap (act-in a) (at ∙ is)
 first-act a b events none (suc k, x, less, at, is) = absurd (none-among b events none (k, x, omega (arith, less), at, is))
 
+-- turns alone
+abbrev only_turns : ℕ → List Event
+only_turns zero = []
+only_turns (suc k) = turns ∷ only_turns k
+
+no-acts : (k : ℕ) → HasNoAct (only_turns k)
+no-acts zero = tt
+no-acts (suc k) = no-acts k
+
+turns-run : (k : ℕ) (w : CableWorld) → Runs (only_turns k) w (turns_after k w)
+unfolding turns_after
+turns-run zero w = refl
+turns-run (suc k) w = (turn w, refl, turns-run k (turn w))
+
 -- ---- what an answer leads to
 
 abbrev Led : Bus → Command → LineAnswer → Type 0
@@ -85,15 +97,15 @@ without-act bus after command events none no_act at_once run names = record {
 
 -- an act, and then turns
 with-act :
-    (bus after : Bus) (command : Command) (a : Act) (sent : CableWorld) (k : ℕ) → IsAct a →
-    act_fault a bus.world ≡ None → ActLeads a bus.world sent → after.world ≡ turns_after k sent →
+    (bus after : Bus) (command : Command) (a : Act) (sent : CableWorld) (k : ℕ) →
+    Acted a bus.world sent → after.world ≡ turns_after k sent →
     after.notes.names ≡ bus.notes.names → (LeavesAlone command → ⊥) →
     ((end : End) → a ≡ act.Pull end → IsPullOf bus command end) →
     ((b : Act) → IsActOf bus command b → a ≡ b) → (TakesNoTurn command → k ≡ 0) →
     DoesEvents bus command after
-with-act bus after command a sent k is none leads quiet names not_alone pulls only at_once = record {
+with-act bus after command a sent k did quiet names not_alone pulls only at_once = record {
   events = acts a ∷ only_turns k;
-  run = (sent, (is, none, leads), subst (Runs (only_turns k) sent) (sym quiet) (turns-run k sent));
+  run = (sent, did, subst (Runs (only_turns k) sent) (sym quiet) (turns-run k sent));
   alone = λ x. absurd (not_alone x);
   pulls = λ end h. pulls end (first-act a (act.Pull end) (only_turns k) (no-acts k) h);
   first = λ b is. (only_turns k, ap (λ x. acts x ∷ only_turns k) (only b is));
@@ -115,7 +127,7 @@ module _ (bus : Bus) (command : Command) where
       Led bus command r
   unfolding turns_after
   acted a is not_alone pulls only (Ok (after, text)) x =
-      with-act bus after command a after.world 0 is x.0 x.1 refl (ap (λ (n : Notes). n.names) x.2) not_alone pulls only (λ h. refl)
+      with-act bus after command a after.world 0 (is, x.0, x.1) refl (ap (λ (n : Notes). n.names) x.2) not_alone pulls only (λ h. refl)
   acted a is not_alone pulls only (Err kind) x = tt
 
   -- no act
@@ -174,7 +186,8 @@ planned :
     Plans bus other node tree r → Led bus (Plan name) r
 planned bus name other node tree (Ok (after, text)) x =
     let a : Act = config_of node (Some x.plan.root_id) (Some x.plan.gap) in
-    with-act bus after (Plan name) a x.sent.world (quiet_turns_of x.sent.world) (plan-act x.shown x.is.bus x.plan x.planned node) x.sends.0 x.sends.1 x.reports.1
+    with-act bus after (Plan name) a x.sent.world (quiet_turns_of x.sent.world)
+    (plan-act x.shown x.is.bus x.plan x.planned node, x.sends.0, x.sends.1) x.reports.1
     (ap (λ (n : Notes). n.names) x.reports.3 ∙ ap (λ (n : Notes). n.names) x.sends.2) (λ h. h) (λ end e. absurd cc) (λ b h. absurd h) (λ h. absurd h)
 planned bus name other node tree (Err kind) x = absurd x
 

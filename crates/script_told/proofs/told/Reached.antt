@@ -14,12 +14,11 @@ use Rattle.port_state.specs.declared.ranges.TimeRanges.{TimeRanges}
 use Rattle.port_state.specs.Machine.{PortNode}
 use Rattle.port_state.proofs.Lemmas.{valid-power_on}
 use Rattle.cable_world.specs.World.{CableWorld, NodeNumber, IsPowerOnWorld, world_with_times}
-use Rattle.cable_world.proofs.Lemmas.{power-on, some-same, reached-lawful, power-on-reached, turns-reached, act-reached, hold-reached}
-use Rattle.cable_world.specs.Run.{Event, acts, holds, turns, Happens, Runs, IsReached}
+use Rattle.cable_world.proofs.Lemmas.{power-on, some-same, reached-lawful, power-on-reached, turns-reached, act-reached, hold-reached, one-hold, rests-then, turns-rest}
+use Rattle.cable_world.specs.Run.{IsReached, Rests, still}
 use Rattle.cable_world.specs.Act.{IsAct, hold, hold_fault}
-use Rattle.cable_world.specs.Turn.{turn, turns_after}
+use Rattle.cable_world.specs.Turn.{turns_after}
 use Rattle.cable_world.specs.Unchanged.{ActKeepsNodes}
-use Rattle.outcomes.specs.Settled.{HasNoAct}
 use Rattle.resource_manager.specs.declared.access.Access.{Access}
 use Rattle.resource_manager.specs.declared.access.Access.TheVariants as access
 use Rattle.resource_manager.specs.declared.access.Answer.{Answer}
@@ -52,36 +51,21 @@ use Rattle.script_told.proofs.told.Fitting.{profile-fits, times-within, suits, c
 
 -- ---- a report of a reached world, a turn or a hold later
 
-runs-then :
-    (events : List Event) (e : Event) (w u v : CableWorld) → Runs events w u → Happens e u v →
-    Runs (events ++ e ∷ []) w v
-runs-then [] e w u v same h = (v, subst (λ (z : CableWorld). Happens e z v) same h, refl)
-runs-then (f ∷ events) e w u v r h = (r.0, r.1, runs-then events e r.0 u v r.2 h)
-
-none-then : (events : List Event) (e : Event) → HasNoAct events → HasNoAct (e ∷ []) →
-    HasNoAct (events ++ e ∷ [])
-none-then [] e h k = k
-none-then (acts a ∷ events) e h k = absurd h
-none-then (holds end n ∷ events) e h k = none-then events e h k
-none-then (turns ∷ events) e h k = none-then events e h k
-
-of-event : (e : Event) (w v : CableWorld) (o : Option Report) → HasNoAct (e ∷ []) → Happens e w v →
-    IfSome o (IsOfReached w) → IfSome o (IsOfReached v)
-of-event e w v None none is h = tt
-of-event e w v (Some report) none is h = record {
+of-later :
+    (k : ℕ) (w v : CableWorld) (o : Option Report) → Rests k w v → IfSome o (IsOfReached w) →
+    IfSome o (IsOfReached v)
+of-later k w v None rests h = tt
+of-later k w v (Some report) rests h = record {
   world = h.world;
   reached = h.reached;
   is = h.is;
-  events = h.events ++ e ∷ [];
-  no_act = none-then h.events e h.no_act none;
-  run = runs-then h.events e h.world w v h.run is;
+  turns = h.turns + k;
+  rests = rests-then h.rests rests;
 }
 
 of-turns : (k : ℕ) (w : CableWorld) (o : Option Report) → IfSome o (IsOfReached w) →
     IfSome o (IsOfReached (turns_after k w))
-unfolding turns_after
-of-turns zero w o h = h
-of-turns (suc k) w o h = of-turns k (turn w) o (of-event turns w (turn w) o tt refl h)
+of-turns k w o = of-later k w (turns_after k w) o (turns-rest k w)
 
 -- ---- what an answer leaves
 
@@ -151,7 +135,7 @@ do-hold bus end n h r x = by (hold_fault end bus.world) refl
     by None e = known (Ok (record bus { world = hold end n bus.world }, [])) (record {
       reached = hold-reached end n bus.world e h.reached;
       named = h.named;
-      reported = of-event (holds end n) bus.world (hold end n bus.world) bus.notes.report tt (e, refl) h.reported;
+      reported = of-later 0 bus.world (hold end n bus.world) bus.notes.report (one-hold end n bus.world e) h.reported;
     }) r (rw e at x)
     by (Some fault) e = known (Err (kind_of fault)) tt r (rw e at x)
 
@@ -180,7 +164,7 @@ do-report bus h (Ok (after, text)) x =
       reached = reached;
       named = ap (λ (n : Notes). length n.names) x.3 ∙ h.named ∙ sym (same-nodes quiet bus.world h.reached) ∙ ap (λ (w : CableWorld). length w.nodes) (sym x.1);
       reported = subst (λ (n : Notes). IfSome n.report (IsOfReached after.world)) (sym x.3)
-          (record { world = after.world; reached = reached; is = x.2; events = []; no_act = tt; run = refl });
+          (record { world = after.world; reached = reached; is = x.2; turns = 0; rests = still });
     }
 do-report bus h (Err kind) x = absurd x
 

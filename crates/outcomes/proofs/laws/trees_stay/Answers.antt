@@ -5,6 +5,6 @@ use Rattle.outcomes.proofs.laws.trees_stay.Goals as goal
 
 pub returns : goal.returns
 returns c = record {
-  turns = λ w v events node set root t r none run comp h.
-      tree-stays events w v r none run node set comp (small-tree c.components_exist.ensures w (comes-lawful w r) node set root t comp h) root t h;
+  turns = λ w v k node set root t r rests comp h.
+      tree-stays r rests node set comp (small-tree c.components_exist.ensures w (comes-lawful w r) node set root t comp h) root t h;
 }
