@@ -1,6 +1,6 @@
 -- Where no quiet turn makes a node enter R0, holds end, and then waits: resets are done after
 -- the longest hold and d turns.
-use Rattle.std.proofs.Common.{◌≡◌, inl, inr, ℕ, zero, suc, ◌+◌, ◌-◌, ◌*◌, ◌<◌, ◌≤◌, Bool, true, false, not, ◌&&◌, ◌||◌, Option, Some, None, is_some, slice_get, refl, sym, ◌∙◌, ap, subst, arith, true≢false}
+use Rattle.std.proofs.Common.{◌≡◌, inl, inr, ℕ, zero, suc, ◌+◌, ◌-◌, ◌<◌, ◌≤◌, Bool, true, false, not, ◌&&◌, ◌||◌, Option, Some, None, is_some, slice_get, refl, sym, ◌∙◌, ap, subst, arith, true≢false}
 use Rattle.port_state.specs.declared.signal.Phase.{Phase}
 use Rattle.port_state.specs.declared.ports.PortView.{PortView}
 use Rattle.port_state.specs.declared.states.NodeState.{NodeState}
@@ -56,11 +56,14 @@ hold-runs w l k x y at_x at_y was there =
 
 module _
     (hs : HoldSchedule) (w : CableWorld) (l : IsLawful w) (none : NeverEnters hs w) where
-  lawful-then : (i : ℕ) → IsLawful (quiet_after hs i w)
+  abbrev later : ℕ → CableWorld
+  later i = quiet_after hs i w
+
+  lawful-then : (i : ℕ) → IsLawful (later i)
   lawful-then i = quiet-lawful hs i w l
 
-  next : (i : ℕ) → with_holds (hs (i + 1)) (turn (quiet_after hs i w)) ≡ quiet_after hs (suc i) w
-  next i = let z : i + 1 ≡ suc i = omega arith in sym (one-quiet hs i w) ∙ ap (λ n. quiet_after hs n w) z
+  next : (i : ℕ) → with_holds (hs (i + 1)) (turn (later i)) ≡ later (suc i)
+  next i = let z : i + 1 ≡ suc i = omega arith in sym (one-quiet hs i w) ∙ ap (λ n. later n) z
 
   -- each node in R0 has been there for so many turns
   abbrev Risen : ℕ → CableWorld → Type 0
@@ -68,47 +71,47 @@ module _
 
   -- it was there before
   stayed :
-      (i k : ℕ) (y : PortNode) → slice_get (turn (quiet_after hs i w)).nodes k ≡ Some y →
+      (i k : ℕ) (y : PortNode) → slice_get (turn (later i)).nodes k ≡ Some y →
       is_resetting y.state.view.phase ≡ true → (x : PortNode)
-      × (slice_get (quiet_after hs i w).nodes k ≡ Some x) × (is_resetting x.state.view.phase ≡ true)
+      × (slice_get (later i).nodes k ≡ Some x) × (is_resetting x.state.view.phase ≡ true)
   stayed i k y at there =
-      let x = before (quiet_after hs i w) k y (lawful-then i).well_formed at in
+      let x = before (later i) k y (lawful-then i).well_formed at in
       (x.0, x.1, was x.0 x.1 (is_resetting x.0.state.view.phase) refl)
     where
       was :
-          (x : PortNode) → slice_get (quiet_after hs i w).nodes k ≡ Some x → (b : Bool) →
+          (x : PortNode) → slice_get (later i).nodes k ≡ Some x → (b : Bool) →
           is_resetting x.state.view.phase ≡ b → b ≡ true
       was x at_x true e = refl
       was x at_x false e =
           absurd (true≢false (sym there ∙ none i k x y at_x (ap (λ (u : CableWorld). slice_get u.nodes k) (one-quiet hs i w) ∙ at) e))
 
-  rises : (i : ℕ) → Risen i (quiet_after hs i w) → Risen (suc i) (turn (quiet_after hs i w))
+  rises : (i : ℕ) → Risen i (later i) → Risen (suc i) (turn (later i))
   rises i h k y at there =
       let x = stayed i k y at there in
-      omega (arith, (in-turn (quiet_after hs i w) (lawful-then i) k x.0 y x.1 at).rises x.2 there, h k x.0 x.1 x.2)
+      omega (arith, (in-turn (later i) (lawful-then i) k x.0 y x.1 at).rises x.2 there, h k x.0 x.1 x.2)
 
-  all-risen : (i : ℕ) → Risen i (quiet_after hs i w)
+  all-risen : (i : ℕ) → Risen i (later i)
   all-risen zero = λ k x at r. omega arith
   all-risen (suc i) = subst (Risen (suc i)) (next i) (rises i (all-risen i))
 
   -- after the longest hold none is there
-  longest-hold : (i : ℕ) → (quiet_after hs i w).longest.hold ≡ w.longest.hold
+  longest-hold : (i : ℕ) → (later i).longest.hold ≡ w.longest.hold
   longest-hold i = ap (λ (t : Timing). t.hold) (after-longest hs w l i)
 
-  holds-over : (i : ℕ) → w.longest.hold ≤ i → NoneIn is_resetting (quiet_after hs i w)
+  holds-over : (i : ℕ) → w.longest.hold ≤ i → NoneIn is_resetting (later i)
   holds-over zero h = λ k x at.
-      let fits : Suits (quiet_after hs zero w).delay (quiet_after hs zero w).longest x.state.timing = ((lawful-then zero).well_formed.nodes k x at).timing in
+      let fits : Suits (later zero).delay (later zero).longest x.state.timing = ((lawful-then zero).well_formed.nodes k x at).timing in
       absurd (omega (arith, h, fits.hold_least, fits.hold_most, (lawful-then zero).well_formed.some_delay, longest-hold zero))
   holds-over (suc i) h = subst (NoneIn is_resetting) (next i) nobody
     where
-      nobody : NoneIn is_resetting (turn (quiet_after hs i w))
+      nobody : NoneIn is_resetting (turn (later i))
       nobody k y at = go (is_resetting y.state.view.phase) refl
         where
           go : (b : Bool) → is_resetting y.state.view.phase ≡ b → b ≡ false
           go false e = refl
           go true e =
               let x = stayed i k y at e in
-              absurd (omega (arith, h, (in-turn (quiet_after hs i w) (lawful-then i) k x.0 y x.1 at).rises x.2 e, all-risen i k x.0 x.1 x.2, hold-runs (quiet_after hs i w) (lawful-then i) k x.0 y x.1 at x.2 e, longest-hold i))
+              absurd (omega (arith, h, (in-turn (later i) (lawful-then i) k x.0 y x.1 at).rises x.2 e, all-risen i k x.0 x.1 x.2, hold-runs (later i) (lawful-then i) k x.0 y x.1 at x.2 e, longest-hold i))
 
 -- ---- R1
 

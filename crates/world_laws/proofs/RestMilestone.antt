@@ -25,54 +25,57 @@ module _
     (late : 315 * w.delay ≤ j) (node set core : ℕ)
     (comp : IsComponent (quiet_after hs (k + j) w).cabling node set)
     (is_core : IsCore (quiet_after hs (k + j) w).cabling set core) where
+  abbrev later : ℕ → CableWorld
+  later i = quiet_after hs i w
+
   lawful : IsLawful w
   lawful = comes-lawful w is.comes
 
-  v-lawful : IsLawful (quiet_after hs (k + j) w)
+  v-lawful : IsLawful (later (k + j))
   v-lawful = quiet-lawful hs (k + j) w lawful
 
-  u-lawful : IsLawful (quiet_after hs k w)
+  u-lawful : IsLawful (later k)
   u-lawful = quiet-lawful hs k w lawful
 
-  cables : (quiet_after hs (k + j) w).cabling ≡ (quiet_after hs k w).cabling
+  cables : (later (k + j)).cabling ≡ (later k).cabling
   cables = after-cabling hs (k + j) w ∙ sym (after-cabling hs k w)
 
-  comp-then : (n : ℕ) → IsComponent (quiet_after hs (k + j) w).cabling n set →
-      IsComponent (quiet_after hs k w).cabling n set
+  comp-then : (n : ℕ) → IsComponent (later (k + j)).cabling n set →
+      IsComponent (later k).cabling n set
   comp-then n c = subst (λ (d : Wiring). IsComponent d n set) cables c
 
-  core-then : IsCore (quiet_after hs k w).cabling set core
+  core-then : IsCore (later k).cabling set core
   core-then = subst (λ (d : Wiring). IsCore d set core) cables is_core
 
   -- a component of which node number n is there, all of whose nodes identified themselves
   rest-from :
-      AreIdentifying (quiet_after hs k w) set → (n : ℕ) → Holds set n →
-      n < length (quiet_after hs (k + j) w).cabling → IsAtRest (quiet_after hs (k + j) w) set
+      AreIdentifying (later k) set → (n : ℕ) → Holds set n →
+      n < length (later (k + j)).cabling → IsAtRest (later (k + j)) set
   rest-from all n inside less =
-      let whole : IsComponent (quiet_after hs (k + j) w).cabling n set = shared (quiet_after hs (k + j) w).cabling node n set v-lawful.well_formed.cabling comp inside in
-      let small : set < 2 ^ 63 = small-component (quiet_after hs (k + j) w).cabling n set v-lawful.well_formed.cabling less whole in
-      let here : n < length (quiet_after hs k w).nodes = omega (arith, less, ap length cables, u-lawful.well_formed.count) in
-      let s : Settles (quiet_after hs k w) set core = (quiet-numbering hs k w lawful (comes-numbering w is.comes)).walks n set core here (comp-then n whole) core-then small all in
-      let few : 5 * length (numbers (quiet_after hs k w).cabling s.root s.tree) * w.delay ≤ j = omega (arith, late, room-to-rest (length (numbers (quiet_after hs k w).cabling s.root s.tree)) w.delay s.is.walk.few) in
-      let tree : IsTree (quiet_after hs (k + j) w) set s.root s.tree = tree-soon hs w is.comes k is.over set core s.root s.tree s.is j few in
-      tree-rests (quiet_after hs (k + j) w) (quiet-comes hs (k + j) w is.comes) n set whole small s.root s.tree tree
+      let whole : IsComponent (later (k + j)).cabling n set = shared (later (k + j)).cabling node n set v-lawful.well_formed.cabling comp inside in
+      let small : set < 2 ^ 63 = small-component (later (k + j)).cabling n set v-lawful.well_formed.cabling less whole in
+      let here : n < length (later k).nodes = omega (arith, less, ap length cables, u-lawful.well_formed.count) in
+      let s : Settles (later k) set core = (quiet-numbering hs k w lawful (comes-numbering w is.comes)).walks n set core here (comp-then n whole) core-then small all in
+      let few : 5 * length (numbers (later k).cabling s.root s.tree) * w.delay ≤ j = omega (arith, late, room-to-rest (length (numbers (later k).cabling s.root s.tree)) w.delay s.is.walk.few) in
+      let tree : IsTree (later (k + j)) set s.root s.tree = tree-soon hs w is.comes k is.over set core s.root s.tree s.is j few in
+      tree-rests (later (k + j)) (quiet-comes hs (k + j) w is.comes) n set whole small s.root s.tree tree
 
-  rests : AreIdentifying (quiet_after hs k w) set → IsAtRest (quiet_after hs (k + j) w) set
+  rests : AreIdentifying (later k) set → IsAtRest (later (k + j)) set
   rests all = record {
     ready = λ n x inside at.
-        (rest-from all n inside (omega (arith, slice_get_within (quiet_after hs (k + j) w).nodes n x at, v-lawful.well_formed.count))).ready n x inside at;
+        (rest-from all n inside (omega (arith, slice_get_within (later (k + j)).nodes n x at, v-lawful.well_formed.count))).ready n x inside at;
     silent = λ a b inside joined.
-        (rest-from all a.node inside (plugged (quiet_after hs (k + j) w).cabling a b joined).node).silent a b inside joined;
+        (rest-from all a.node inside (plugged (later (k + j)).cabling a b joined).node).silent a b inside joined;
   }
 
-  contends : IsEmpty core → HasContention (quiet_after hs k w) set →
-      HasContention (quiet_after hs (k + j) w) set
+  contends : IsEmpty core → HasContention (later k) set →
+      HasContention (later (k + j)) set
   contends empty h =
       subst (λ (u : CableWorld). HasContention u set) (sym (quiet-then hs k j w))
-      (contention-after (holds_after k hs) (quiet_after hs k w) set (grown-of (quiet_after hs k w) node set core is.grown (comp-then node comp) core-then empty) j h)
+      (contention-after (holds_after k hs) (later k) set (grown-of (later k) node set core is.grown (comp-then node comp) core-then empty) j h)
 
   pub rest-or-contend :
-      IsEmpty core → IsAtRest (quiet_after hs (k + j) w) set ⊎ HasContention (quiet_after hs (k + j) w) set
+      IsEmpty core → IsAtRest (later (k + j)) set ⊎ HasContention (later (k + j)) set
   rest-or-contend empty = elim (is.decided node set core (comp-then node comp) core-then empty) [
     | inl all ↦ inl (rests all)
     | inr h ↦ inr (contends empty h)

@@ -182,31 +182,37 @@ cable-held holds w a b e = record {
 -- ---- quiet turns
 
 module _ (hs : HoldSchedule) (v : CableWorld) (set : ℕ) (g : Grown v set) where
-  pub grown-after : (i : ℕ) → Grown (quiet_after hs i v) set
-  grown-after zero = subst (λ (u : CableWorld). Grown u set) (sym (no-quiet hs v)) (grown-held (hs 0) v set g)
-  grown-after (suc i) = subst (λ n. Grown (quiet_after hs n v) set) (add-one i) (subst (λ (u : CableWorld). Grown u set) (sym (one-quiet hs i v)) (grown-held (hs (i + 1)) (turn (quiet_after hs i v)) set (grown-turn (quiet_after hs i v) set (grown-after i))))
+  abbrev later : ℕ → CableWorld
+  later i = quiet_after hs i v
 
-  pub cable-after : (a b : End) → IsChildCable v a b → (i : ℕ) →
-      IsChildCable (quiet_after hs i v) a b
-  cable-after a b e zero = subst (λ (u : CableWorld). IsChildCable u a b) (sym (no-quiet hs v)) (cable-held (hs 0) v a b e)
+  pub grown-after : (i : ℕ) → Grown (later i) set
+  unfolding quiet_after
+  grown-after zero = grown-held (hs 0) v set g
+  grown-after (suc i) =
+      grown-held (hs (suc i)) (turn (later i)) set
+      (grown-turn (later i) set (grown-after i))
+
+  pub cable-after : (a b : End) → IsChildCable v a b → (i : ℕ) → IsChildCable (later i) a b
+  unfolding quiet_after
+  cable-after a b e zero = cable-held (hs 0) v a b e
   cable-after a b e (suc i) =
-      subst (λ n. IsChildCable (quiet_after hs n v) a b) (add-one i)
-      (subst (λ (u : CableWorld). IsChildCable u a b) (sym (one-quiet hs i v)) (cable-held (hs (i + 1)) (turn (quiet_after hs i v)) a b (cable-turn (quiet_after hs i v) set (grown-after i) a b (cable-after a b e i))))
+      cable-held (hs (suc i)) (turn (later i)) a b
+      (cable-turn (later i) set (grown-after i) a b (cable-after a b e i))
 
   pub weight-step :
-      (k : ℕ) → Holds set k → (i : ℕ) → weight_in (slice_get (quiet_after hs (i + 1) v).nodes k)
-      ≤ weight_in (slice_get (quiet_after hs i v).nodes k)
-  weight-step k h i = subst (λ (u : CableWorld). weight_in (slice_get u.nodes k) ≤ weight_in (slice_get (quiet_after hs i v).nodes k)) (sym (one-quiet hs i v)) (weight-turn (quiet_after hs i v) set (grown-after i) k h)
+      (k : ℕ) → Holds set k → (i : ℕ) → weight_in (slice_get (later (i + 1)).nodes k)
+      ≤ weight_in (slice_get (later i).nodes k)
+  weight-step k h i = subst (λ (u : CableWorld). weight_in (slice_get u.nodes k) ≤ weight_in (slice_get (later i).nodes k)) (sym (one-quiet hs i v)) (weight-turn (later i) set (grown-after i) k h)
 
   pub weight-after :
-      (k : ℕ) → Holds set k → (i : ℕ) → weight_in (slice_get (quiet_after hs i v).nodes k)
+      (k : ℕ) → Holds set k → (i : ℕ) → weight_in (slice_get (later i).nodes k)
       ≤ weight_in (slice_get v.nodes k)
   weight-after k h zero = omega (arith, ap (λ (u : CableWorld). weight_in (slice_get u.nodes k)) (no-quiet hs v))
   weight-after k h (suc i) =
-      subst (λ n. weight_in (slice_get (quiet_after hs n v).nodes k) ≤ weight_in (slice_get v.nodes k)) (add-one i) (omega (arith, weight-step k h i, weight-after k h i))
+      subst (λ n. weight_in (slice_get (later n).nodes k) ≤ weight_in (slice_get v.nodes k)) (add-one i) (omega (arith, weight-step k h i, weight-after k h i))
 
   -- a node after one turn more
   pub calm-at :
-      (i k : ℕ) (y : PortNode) → slice_get (quiet_after hs (i + 1) v).nodes k ≡ Some y →
-      Calmly (quiet_after hs i v) k y.state
-  calm-at i k y at = calm-turn (quiet_after hs i v) set (grown-after i) k y (ap (λ (u : CableWorld). slice_get u.nodes k) (sym (one-quiet hs i v)) ∙ at)
+      (i k : ℕ) (y : PortNode) → slice_get (later (i + 1)).nodes k ≡ Some y →
+      Calmly (later i) k y.state
+  calm-at i k y at = calm-turn (later i) set (grown-after i) k y (ap (λ (u : CableWorld). slice_get u.nodes k) (sym (one-quiet hs i v)) ∙ at)

@@ -1,6 +1,6 @@
 -- A set with a root comes to self identify.
-use Rattle.std.proofs.Common.{◌≡◌, inl, inr, ℕ, zero, suc, ◌+◌, ◌*◌, ◌≤◌, false, length, List, Some, slice_get, sym, subst, arith, add-one}
-use Rattle.convergence.proofs.Common.{Holds, IsComponent, PortNode, CableWorld, turn_at, turn, node-after, one-quiet, no-quiet, after-cabling, PlacedHold, HoldSchedule, with_holds, quiet_after, IsRoot, AreIdentifying}
+use Rattle.std.proofs.Common.{◌≡◌, inl, inr, ℕ, zero, suc, ◌+◌, ◌*◌, ◌≤◌, false, length, List, Some, slice_get, sym, subst, arith}
+use Rattle.convergence.proofs.Common.{Holds, IsComponent, PortNode, CableWorld, turn_at, turn, node-after, one-quiet, after-cabling, PlacedHold, HoldSchedule, with_holds, quiet_after, IsRoot, AreIdentifying}
 use Rattle.convergence.proofs.coins.Drawers.{pair-no-root}
 use Rattle.convergence.proofs.rounds.Grown.{Grown, grown-turn, grown-after}
 use Rattle.convergence.proofs.resets.ResetsDone.{done-over}
@@ -39,15 +39,19 @@ module _ (hs : HoldSchedule) (set : ℕ) where
 
   pub root-after :
       (v : CableWorld) → Grown v set → (i : ℕ) → HasRoot v set → HasRoot (quiet_after hs i v) set
-  root-after v g zero r = subst (λ (u : CableWorld). HasRoot u set) (sym (no-quiet hs v)) (root-held set (hs 0) v r)
-  root-after v g (suc i) r = subst (λ n. HasRoot (quiet_after hs n v) set) (add-one i) (subst (λ (u : CableWorld). HasRoot u set) (sym (one-quiet hs i v)) (root-held set (hs (i + 1)) (turn (quiet_after hs i v)) (root-next set (quiet_after hs i v) (grown-after hs v set g i) (root-after v g i r))))
+  unfolding quiet_after
+  root-after v g zero r = root-held set (hs 0) v r
+  root-after v g (suc i) r =
+      root-held set (hs (suc i)) (turn (quiet_after hs i v))
+      (root-next set (quiet_after hs i v) (grown-after hs v set g i) (root-after v g i r))
 
   pub identify-after :
       (v : CableWorld) → Grown v set → (i : ℕ) → AreIdentifying v set →
       AreIdentifying (quiet_after hs i v) set
-  identify-after v g zero r = subst (λ (u : CableWorld). AreIdentifying u set) (sym (no-quiet hs v)) r
+  unfolding quiet_after
+  identify-after v g zero r = r
   identify-after v g (suc i) r =
-      subst (λ n. AreIdentifying (quiet_after hs n v) set) (add-one i) (subst (λ (u : CableWorld). AreIdentifying u set) (sym (one-quiet hs i v)) (identify-turn (quiet_after hs i v) set (grown-after hs v set g i) (identify-after v g i r)))
+      identify-turn (quiet_after hs i v) set (grown-after hs v set g i) (identify-after v g i r)
 
   pub rooted-ends :
       (v : CableWorld) → Grown v set → (node : ℕ) → IsComponent v.cabling node set → HasRoot v set →

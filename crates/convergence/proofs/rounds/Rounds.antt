@@ -33,11 +33,14 @@ module _ (set : ℕ) where
       run :
           (hs : HoldSchedule) (n i : ℕ) (w : CableWorld) → Grown w set → S i w →
           S (i + n) (quiet_after hs n w) ⊎ ((j : ℕ) × (j ≤ n) × T (quiet_after hs j w))
-      run hs zero i w g s = let z : i + 0 ≡ i = omega arith in inl (subst (S (i + 0)) (sym (no-quiet hs w)) (subst (λ k. S k (with_holds (hs 0) w)) (sym z) (held i (hs 0) w s)))
+      unfolding quiet_after
+      run hs zero i w g s =
+          let z : i ≡ i + 0 = omega arith in
+          inl (subst (λ k. S k (with_holds (hs 0) w)) z (held i (hs 0) w s))
       run hs (suc n) i w g s = elim (step v gv i (held i (hs 0) w s)) [
         | inr t ↦
             let few : 1 ≤ suc n = omega arith in
-            inr (1, few, subst T (sym (quiet-first hs 0 w)) (subst T (sym (no-quiet rest (turn v))) (held-then (rest 0) (turn v) t)))
+            inr (1, few, held-then (hs 1) (turn v) t)
         | inl t ↦ elim (run rest n (i + 1) (turn v) (grown-turn v set gv) t) [
           | inl u ↦ let z : i + 1 + n ≡ i + suc n = omega arith in inl (subst (S (i + suc n)) (sym (quiet-first hs n w)) (subst (λ k. S k (quiet_after rest n (turn v))) z u))
           | inr u ↦ let few : suc u.0 ≤ suc n = omega (arith, u.1) in inr (suc u.0, few, subst T (sym (quiet-first hs u.0 w)) u.2)
@@ -60,18 +63,22 @@ module _ (set : ℕ) where
         (hs : HoldSchedule) (n : ℕ) (w : CableWorld) → S w →
         ((j : ℕ) → j ≤ n → S (quiet_after (λ i. hs (suc i)) j (turn (with_holds (hs 0) w)))) →
         (j : ℕ) → j ≤ suc n → S (quiet_after hs j w)
-    all-along hs n w s rest zero h = subst S (sym (no-quiet hs w)) (held (hs 0) w s)
+    unfolding quiet_after
+    all-along hs n w s rest zero h = held (hs 0) w s
     all-along hs n w s rest (suc j) h = subst S (sym (quiet-first hs j w)) (rest j (omega (arith, h)))
 
     run-all :
         (hs : HoldSchedule) (n : ℕ) (w : CableWorld) → Grown w set → S w →
         ((j : ℕ) → j ≤ n → S (quiet_after hs j w))
         ⊎ ((j : ℕ) × (j ≤ n) × T (quiet_after hs j w))
-    run-all hs zero w g s = inl (λ j h. let z : j ≡ 0 = omega (arith, h) in subst (λ k. S (quiet_after hs k w)) (sym z) (subst S (sym (no-quiet hs w)) (held (hs 0) w s)))
+    unfolding quiet_after
+    run-all hs zero w g s = inl (λ j h.
+        let z : 0 ≡ j = omega (arith, h) in
+        subst (λ k. S (quiet_after hs k w)) z (held (hs 0) w s))
     run-all hs (suc n) w g s = elim (step v gv (held (hs 0) w s)) [
       | inr t ↦
           let few : 1 ≤ suc n = omega arith in
-          inr (1, few, subst T (sym (quiet-first hs 0 w)) (subst T (sym (no-quiet rest (turn v))) (held-then (rest 0) (turn v) t)))
+          inr (1, few, held-then (hs 1) (turn v) t)
       | inl t ↦ elim (run-all rest n (turn v) (grown-turn v set gv) t) [
         | inl all ↦ inl (all-along hs n w s all)
         | inr u ↦ let few : suc u.0 ≤ suc n = omega (arith, u.1) in inr (suc u.0, few, subst T (sym (quiet-first hs u.0 w)) u.2)

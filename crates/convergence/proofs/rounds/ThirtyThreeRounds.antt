@@ -1,11 +1,11 @@
 -- After 33 rounds the first 32 draws of two rivals are equal: their component is in contention, and
 -- stays so.
-use Rattle.std.proofs.Common.{◌≡◌, ◌⊎◌, inl, inr, ℕ, zero, suc, ◌+◌, ◌*◌, ◌<◌, ◌≤◌, Bool, true, false, if◌then◌else◌, List, Some, slice_get, refl, sym, ◌∙◌, ap, subst, arith, add-one}
+use Rattle.std.proofs.Common.{◌≡◌, ◌⊎◌, inl, inr, ℕ, zero, suc, ◌+◌, ◌*◌, ◌<◌, ◌≤◌, Bool, true, false, if◌then◌else◌, List, Some, slice_get, refl, sym, ◌∙◌, ap, subst, arith}
 use Rattle.std.specs.Prelude.{min, nat_lt, bit_or, ◌^◌}
 use Rattle.std.proofs.lemmas.Bool.{cases_lt}
 use Rattle.port_state.specs.declared.timing.Timing.{Timing}
 use Rattle.cable_world.proofs.Lemmas.{after-longest}
-use Rattle.convergence.proofs.Common.{End, Wiring, far, IsCore, NodeState, coin, draws_with, tick, PortNode, CableWorld, wire_of, turn_at, turn, node-after, cabling-after, after-delay, some-of, some-at, some-same, one-quiet, no-quiet, quiet-then, PlacedHold, HoldSchedule, holds_after, with_holds, quiet_after, AddsDraw, DrewTogether, AreRivals, end_at}
+use Rattle.convergence.proofs.Common.{End, Wiring, far, IsCore, NodeState, coin, draws_with, tick, PortNode, CableWorld, wire_of, turn_at, turn, node-after, cabling-after, after-delay, some-of, some-at, some-same, no-quiet, quiet-then, PlacedHold, HoldSchedule, holds_after, with_holds, quiet_after, AddsDraw, DrewTogether, AreRivals, end_at}
 use Rattle.cable_world.specs.Outcome.{Shows, HasNoLoop, DrewAlike}
 use Rattle.convergence.specs.Milestones.{HasContention}
 use Rattle.convergence.proofs.turns.CalmTurns.{Calmly, heard_by}
@@ -181,9 +181,12 @@ contention-held holds w set h = record {
 pub contention-after :
     (hs : HoldSchedule) (v : CableWorld) (set : ℕ) → Grown v set → (i : ℕ) → HasContention v set →
     HasContention (quiet_after hs i v) set
-contention-after hs v set g zero r = subst (λ (u : CableWorld). HasContention u set) (sym (no-quiet hs v)) (contention-held (hs 0) v set r)
+unfolding quiet_after
+contention-after hs v set g zero r = contention-held (hs 0) v set r
 contention-after hs v set g (suc i) r =
-    subst (λ n. HasContention (quiet_after hs n v) set) (add-one i) (subst (λ (u : CableWorld). HasContention u set) (sym (one-quiet hs i v)) (contention-held (hs (i + 1)) (turn (quiet_after hs i v)) set (contention-turn (quiet_after hs i v) set (grown-after hs v set g i) (contention-after hs v set g i r))))
+    contention-held (hs (suc i)) (turn (quiet_after hs i v)) set
+    (contention-turn (quiet_after hs i v) set (grown-after hs v set g i)
+    (contention-after hs v set g i r))
 
 -- ---- rounds
 

@@ -23,6 +23,9 @@ module _
     (hs : HoldSchedule) (w : CableWorld) (l : IsLawful w) (node set core : ℕ) (comp : IsComponent w.cabling node set)
     (is_core : IsCore w.cabling set core) (empty : IsEmpty core) (small : set < 2 ^ 63)
     (fresh : IsFresh w set) (f : ℕ) (alone : WaitsAlone w set f) (can : CanBeForcedAt w f) where
+  abbrev later : ℕ → CableWorld
+  later i = quiet_after hs i w
+
   abbrev spread : ℕ
   spread = length w.nodes * w.delay
 
@@ -31,7 +34,7 @@ module _
   first = spread + (w.longest.hold + w.delay)
 
   abbrev start : CableWorld
-  start = quiet_after hs first w
+  start = later first
 
   -- the holds from there
   abbrev rest : HoldSchedule
@@ -54,7 +57,7 @@ module _
       slice_get (quiet_after rest i start).nodes k ≡ Some x → x.state.view.force ≡ false
   free i k x h other at =
       let z : spread + (w.longest.hold + w.delay + i) ≡ first + i = omega arith in
-      let is : quiet_after rest i start ≡ quiet_after hs (spread + (w.longest.hold + w.delay + i)) w = sym (ap (λ n. quiet_after hs n w) z ∙ quiet-then hs first i w) in
+      let is : quiet_after rest i start ≡ later (spread + (w.longest.hold + w.delay + i)) = sym (ap (λ n. later n) z ∙ quiet-then hs first i w) in
       forces hs w l node set comp fresh (w.longest.hold + w.delay + i) k false x h (alone.others k h other) (ap (λ (u : CableWorld). slice_get u.nodes k) (sym is) ∙ at)
 
   start-late :
@@ -74,60 +77,60 @@ module _
   -- all know their tree
   pub late :
       (k : ℕ) → enough ≤ k → (j : ℕ) (x : PortNode) → Holds set j →
-      slice_get (quiet_after hs k w).nodes j ≡ Some x → is_before_tree x.state.view.phase ≡ false
+      slice_get (later k).nodes j ≡ Some x → is_before_tree x.state.view.phase ≡ false
   late k h j x has at =
       let z : k ≡ first + (k - first) = omega (arith, h) in
       let same : length start.nodes ≡ length w.nodes = after-length hs w l first in
       let room : length w.nodes * w.delay ≤ k - first = omega (arith, h) in
-      let is : quiet_after hs k w ≡ quiet_after rest (k - first) start = ap (λ n. quiet_after hs n w) z ∙ quiet-then hs first (k - first) w in
+      let is : later k ≡ quiet_after rest (k - first) start = ap (λ n. later n) z ∙ quiet-then hs first (k - first) w in
       start-late (k - first) (rw (same, after-delay hs w l first) room) j x has (ap (λ (u : CableWorld). slice_get u.nodes j) (sym is) ∙ at)
 
   pub parentless :
-      (i : ℕ) (x : PortNode) → slice_get (quiet_after hs (enough + i) w).nodes f ≡ Some x →
+      (i : ℕ) (x : PortNode) → slice_get (later (enough + i)).nodes f ≡ Some x →
       x.state.view.parent ≡ None
   parentless zero x at =
       let z : enough + 0 ≡ spread + (w.longest.hold + w.delay + spread) = omega arith in
       let soon : spread + (w.longest.hold + w.delay + spread) ≤ w.longest.hold + 127 * w.delay = omega (arith, spread-most hs w l node set comp fresh, l.well_formed.some_delay) in
       let n : enough ≤ enough + 0 = omega arith in
-      (waiting hs w l node set comp fresh (w.longest.hold + w.delay + spread) f x can soon alone.holds alone.waits (subst (λ n. slice_get (quiet_after hs n w).nodes f ≡ Some x) z at)).late (late (enough + 0) n f x alone.holds at)
+      (waiting hs w l node set comp fresh (w.longest.hold + w.delay + spread) f x can soon alone.holds alone.waits (subst (λ n. slice_get (later n).nodes f ≡ Some x) z at)).late (late (enough + 0) n f x alone.holds at)
   parentless (suc i) x at =
       let z : enough + suc i ≡ enough + i + 1 = omega arith in
       let past : spread ≤ enough + i = omega arith in
       let n : enough ≤ enough + i = omega arith in
-      let at_next : slice_get (quiet_after hs (enough + i + 1) w).nodes f ≡ Some x = subst (λ n. slice_get (quiet_after hs n w).nodes f ≡ Some x) z at in
-      let c : Calmly (quiet_after hs (enough + i) w) f x.state = steadily hs w l (enough + i) past f x at_next in
+      let at_next : slice_get (later (enough + i + 1)).nodes f ≡ Some x = subst (λ n. slice_get (later n).nodes f ≡ Some x) z at in
+      let c : Calmly (later (enough + i)) f x.state = steadily hs w l (enough + i) past f x at_next in
       late-parentless hs w l (enough + i) past f x at_next (late (enough + i) n f c.node alone.holds c.at) (parentless i c.node c.at)
 
-  pub root : (k : ℕ) → enough ≤ k → IsRoot (quiet_after hs k w) f
+  pub root : (k : ℕ) → enough ≤ k → IsRoot (later k) f
   root k h =
       let z : enough + (k - enough) ≡ k = omega (arith, h) in
-      let inside : f < length (quiet_after hs k w).nodes = omega (arith, there, after-length hs w l k) in
-      let x = node-at (quiet_after hs k w) f inside in
-      record { node = x.0; at = x.1; late = late k h f x.0 alone.holds x.1; parentless = parentless (k - enough) x.0 (subst (λ n. slice_get (quiet_after hs n w).nodes f ≡ Some x.0) (sym z) x.1) }
+      let inside : f < length (later k).nodes = omega (arith, there, after-length hs w l k) in
+      let x = node-at (later k) f inside in
+      record { node = x.0; at = x.1; late = late k h f x.0 alone.holds x.1; parentless = parentless (k - enough) x.0 (subst (λ n. slice_get (later n).nodes f ≡ Some x.0) (sym z) x.1) }
 
   module _ (k : ℕ) (h : enough ≤ k) where
     abbrev v : CableWorld
-    v = quiet_after hs k w
+    v = later k
 
-    lawful : IsLawful (quiet_after hs k w)
+    lawful : IsLawful (later k)
     lawful = quiet-lawful hs k w l
 
-    over : ResetsAreOver (quiet_after hs k w)
+    over : ResetsAreOver (later k)
     over =
         let z : k ≡ first + (k - first) = omega (arith, h) in
-        let is : quiet_after hs k w ≡ quiet_after rest (k - first) start = ap (λ n. quiet_after hs n w) z ∙ quiet-then hs first (k - first) w in
-        done-over (quiet_after hs k w) (quiet-lawful hs k w l) (subst ResetsAreDone (sym is) (done-at rest start start-lawful start-done (k - first)))
+        let is : later k ≡ quiet_after rest (k - first) start = ap (λ n. later n) z ∙ quiet-then hs first (k - first) w in
+        done-over (later k) (quiet-lawful hs k w l) (subst ResetsAreDone (sym is) (done-at rest start start-lawful start-done (k - first)))
 
-    comp_then : IsComponent (quiet_after hs k w).cabling node set
+    comp_then : IsComponent (later k).cabling node set
     comp_then = subst (λ c. IsComponent c node set) (sym (after-cabling hs k w)) comp
 
-    core_then : IsCore (quiet_after hs k w).cabling set core
+    core_then : IsCore (later k).cabling set core
     core_then = subst (λ c. IsCore c set core) (sym (after-cabling hs k w)) is_core
 
     -- each other node has a parent port
     pub others :
         (j : ℕ) (x : PortNode) → Holds set j → j ≢ f →
-        slice_get (quiet_after hs k w).nodes j ≡ Some x → IsSome x.state.view.parent
+        slice_get (later k).nodes j ≡ Some x → IsSome x.state.view.parent
     others j x has other at = go x.state.view.parent refl
       where
         go : (o : Option ℕ) → x.state.view.parent ≡ o → IsSome o
@@ -135,5 +138,5 @@ module _
         go None e = absurd (other (one-root v lawful set (λ a b y h. over a b y) node j f comp_then has alone.holds (record { node = x; at = at; late = late k h j x has at; parentless = e }) (root k h)))
 
     -- the tree from the root
-    pub walk : IsAcyclic w → (t : Tree) × RootWalk (quiet_after hs k w) set f t
+    pub walk : IsAcyclic w → (t : Tree) × RootWalk (later k) set f t
     walk acyclic = root-walk v lawful (quiet-acyclic hs k w l acyclic) node set (λ a b y h. over a b y) core f comp_then core_then small alone.holds (root k h)

@@ -181,12 +181,12 @@ module _
       not-wait p h n = absurd cc
 
   pub spreads : (i : ℕ) → i < 64 * w.delay → Spreads (quiet_after hs i w) set i
-  spreads zero soon = subst (λ v. Spreads v set 0) (sym (no-quiet hs w)) (spreads-held (hs 0) w set 0 start-spreads)
+  unfolding quiet_after
+  spreads zero soon = spreads-held (hs 0) w set 0 start-spreads
   spreads (suc i) soon =
-      subst (λ n. Spreads (quiet_after hs n w) set n) (add-one i)
-      (subst (λ v. Spreads v set (i + 1)) (sym (one-quiet hs i w))
-      (spreads-held (hs (i + 1)) (turn (quiet_after hs i w)) set (i + 1)
-      (turn-spreads set (quiet_after hs i w) (quiet-lawful hs i w l) i (omega (arith, soon, after-delay hs w l i)) (spreads i (omega (arith, soon))))))
+      spreads-held (hs (suc i)) (turn (quiet_after hs i w)) set (suc i)
+      (subst (Spreads (turn (quiet_after hs i w)) set) (add-one i)
+      (turn-spreads set (quiet_after hs i w) (quiet-lawful hs i w l) i (omega (arith, soon, after-delay hs w l i)) (spreads i (omega (arith, soon)))))
 
   -- whoever is in R0 stays there
   pub resets-stay :

@@ -2,9 +2,9 @@
 -- earliest, and so takes a parent port in none of the first turns, as many as its hold and its force
 -- time together.
 use Rattle.std.proofs.Math.Nat.{mul-le-mul_left}
-use Rattle.std.proofs.Common.{◌≡◌, inl, inr, ℕ, zero, suc, ◌+◌, ◌-◌, ◌*◌, ◌<◌, ◌≤◌, Bool, true, false, Option, Some, None, length, min, slice_get, if◌then◌else◌, refl, sym, ◌∙◌, ap, subst, arith, add-one, true≢false}
+use Rattle.std.proofs.Common.{◌≡◌, inl, inr, ℕ, zero, suc, ◌+◌, ◌-◌, ◌*◌, ◌<◌, ◌≤◌, Bool, true, false, Option, Some, None, length, min, slice_get, if◌then◌else◌, refl, sym, ◌∙◌, ap, subst, arith, true≢false}
 use Rattle.std.proofs.lemmas.Bool.{eq-eqb}
-use Rattle.outcomes.proofs.Common.{contrary, Phase, NodeState, Timing, coin, is_port, is_resetting, raise_timer, tick, PortNode, Holds, IsComponent, CableWorld, turn, is_before_tree, is_after_hold, IsLawful, IsFresh, Shows, in-turn, after-delay, some-of, some-same, risen, one-quiet, no-quiet, quiet-lawful, HoldSchedule, quiet_after, waits_due, gap_due, Calmly, signals, heard_by, parent-was}
+use Rattle.outcomes.proofs.Common.{contrary, Phase, NodeState, Timing, coin, is_port, is_resetting, raise_timer, tick, PortNode, Holds, IsComponent, CableWorld, turn, is_before_tree, is_after_hold, IsLawful, IsFresh, Shows, in-turn, after-delay, some-of, some-same, risen, one-quiet, quiet-lawful, HoldSchedule, quiet_after, waits_due, gap_due, Calmly, signals, heard_by, parent-was}
 use Rattle.port_state.specs.declared.signal.Phase.TheVariants as phase
 use Rattle.cable_world.specs.Times.{Suits, CanBeForced}
 use Rattle.outcomes.specs.Forced.{CanBeForcedAt}
@@ -187,50 +187,53 @@ module _
 module _
     (hs : HoldSchedule) (w : CableWorld) (l : IsLawful w) (node set : ℕ) (comp : IsComponent w.cabling node set)
     (fresh : IsFresh w set) where
+  abbrev later : ℕ → CableWorld
+  later i = quiet_after hs i w
+
   -- until n d turns are done each node has, or will take over, what it would at the start
   abbrev Due : CableWorld → ℕ → PortNode → Type 0
   Due v k s = (x : PortNode) → slice_get v.nodes k ≡ Some x → SameDue x.state s.state
 
   due-turn :
-      (i k : ℕ) (s : PortNode) → i + 1 < 64 * w.delay → Holds set k → Due (quiet_after hs i w) k s →
-      Due (turn (quiet_after hs i w)) k s
+      (i k : ℕ) (s : PortNode) → i + 1 < 64 * w.delay → Holds set k → Due (later i) k s →
+      Due (turn (later i)) k s
   due-turn i k s soon h due y at =
       let f = tick-holds (coin t.node.coins) x in
-      let heard = due-heard (signals (quiet_after hs i w) k) t.node.state in
+      let heard = due-heard (signals (later i) k) t.node.state in
       let was = due t.node t.at in
       let same = same-due x.view (tick (coin t.node.coins) x).state.view (stays (is_resetting x.view.phase) refl) f.0 f.1 f.2 f.3 in (
         ap (λ (z : NodeState). waits_due z.view) t.is ∙ same.0 ∙ heard.0 ∙ was.0,
         ap (λ (z : NodeState). gap_due z.view) t.is ∙ same.1 ∙ heard.1 ∙ was.1,
       )
     where
-      t : Turned (quiet_after hs i w) k y
-      t = turned (quiet_after hs i w) (quiet-lawful hs i w l) k y at
+      t : Turned (later i) k y
+      t = turned (later i) (quiet-lawful hs i w l) k y at
 
       x : NodeState
-      x = heard_by (quiet_after hs i w) k t.node
+      x = heard_by (later i) k t.node
 
       timer :
-          is_resetting (heard_by (quiet_after hs i w) k t.node).view.phase ≡ true →
-          (heard_by (quiet_after hs i w) k t.node).view.timer ≤ i
+          is_resetting (heard_by (later i) k t.node).view.phase ≡ true →
+          (heard_by (later i) k t.node).view.timer ≤ i
       timer r = elim t.hears.cases [
         | inl s ↦ omega (arith, s.timer, (spreads hs w l node set comp fresh i (omega (arith, soon))).timers k t.node h t.at (sym (ap is_resetting s.phase) ∙ r))
         | inr s ↦ omega (arith, s.timer)
       ]
 
       stays :
-          (c : Bool) → is_resetting (heard_by (quiet_after hs i w) k t.node).view.phase ≡ c →
-          is_resetting (tick (coin t.node.coins) (heard_by (quiet_after hs i w) k t.node)).state.view.phase
+          (c : Bool) → is_resetting (heard_by (later i) k t.node).view.phase ≡ c →
+          is_resetting (tick (coin t.node.coins) (heard_by (later i) k t.node)).state.view.phase
           ≡ c
       stays false e = t.ticks.out e
       stays true e = (t.ticks.holds e (omega (arith, timer e, hold-least, soon)) hold-most).0
         where
-          fits : Suits (quiet_after hs i w).delay (quiet_after hs i w).longest t.node.state.timing
+          fits : Suits (later i).delay (later i).longest t.node.state.timing
           fits = ((quiet-lawful hs i w l).well_formed.nodes k t.node t.at).timing
 
-          hold-least : 64 * w.delay ≤ (heard_by (quiet_after hs i w) k t.node).timing.hold
+          hold-least : 64 * w.delay ≤ (heard_by (later i) k t.node).timing.hold
           hold-least = omega (arith, ap (λ (z : Timing). z.hold) t.hears.timing, fits.hold_least, after-delay hs w l i)
 
-          hold-most : (heard_by (quiet_after hs i w) k t.node).timing.hold ≤ 65535
+          hold-most : (heard_by (later i) k t.node).timing.hold ≤ 65535
           hold-most = omega (arith, ap (λ (z : Timing). z.hold) t.hears.timing, fits.hold_most, fits.counted.hold)
 
       same-due :
@@ -241,11 +244,15 @@ module _
 
   dues :
       (i k : ℕ) (s : PortNode) → i < 64 * w.delay → Holds set k → slice_get w.nodes k ≡ Some s →
-      Due (quiet_after hs i w) k s
-  dues zero k s soon h at_s = subst (λ v. Due v k s) (sym (no-quiet hs w)) (λ x at. let same : s ≡ x = some-same s x (sym at_s ∙ at) in (ap (λ (z : PortNode). waits_due z.state.view) (sym same), ap (λ (z : PortNode). gap_due z.state.view) (sym same)))
+      Due (later i) k s
+  unfolding quiet_after
+  dues zero k s soon h at_s = λ x at.
+      let same : s ≡ x = some-same s x (sym at_s ∙ at) in (
+        ap (λ (z : PortNode). waits_due z.state.view) (sym same),
+        ap (λ (z : PortNode). gap_due z.state.view) (sym same),
+      )
   dues (suc i) k s soon h at_s =
-      subst (λ n. Due (quiet_after hs n w) k s) (add-one i)
-      (subst (λ v. Due v k s) (sym (one-quiet hs i w)) (due-turn i k s (omega (arith, soon)) h (dues i k s (omega (arith, soon)) h at_s)))
+      due-turn i k s (omega (arith, soon)) h (dues i k s (omega (arith, soon)) h at_s)
 
   -- ---- from n d turns on
 
@@ -279,7 +286,7 @@ module _
   -- (the first node is the one at the start)
   spread-due :
       (k : ℕ) (s x : PortNode) → Holds set k → slice_get w.nodes k ≡ Some s →
-      slice_get (quiet_after hs spread w).nodes k ≡ Some x →
+      slice_get (later spread).nodes k ≡ Some x →
       (x.state.view.force ≡ waits_due s.state.view) × (x.state.view.gap ≡ gap_due s.state.view)
   spread-due k s x h at_s at =
       let there = (all-reset hs w l node set comp fresh spread spread-after in-time k x h at).0 in
@@ -291,36 +298,35 @@ module _
   -- they have it from then on
   pub taken-over :
       (j k : ℕ) (s x : PortNode) → Holds set k → slice_get w.nodes k ≡ Some s →
-      slice_get (quiet_after hs (spread + j) w).nodes k ≡ Some x →
+      slice_get (later (spread + j)).nodes k ≡ Some x →
       (x.state.view.force ≡ waits_due s.state.view) × (x.state.view.gap ≡ gap_due s.state.view)
-  taken-over zero k s x h at_s at = let z : spread + 0 ≡ spread = omega arith in spread-due k s x h at_s (subst (λ n. slice_get (quiet_after hs n w).nodes k ≡ Some x) z at)
+  taken-over zero k s x h at_s at = let z : spread + 0 ≡ spread = omega arith in spread-due k s x h at_s (subst (λ n. slice_get (later n).nodes k ≡ Some x) z at)
   taken-over (suc j) k s x h at_s at =
       let z : spread + suc j ≡ spread + j + 1 = omega arith in
       let late : spread ≤ spread + j = omega arith in
-      let there : slice_get (quiet_after hs (spread + j + 1) w).nodes k ≡ Some x = subst (λ n. slice_get (quiet_after hs n w).nodes k ≡ Some x) z at in
-      let q : Calmly (quiet_after hs (spread + j) w) k x.state = steadily hs w l (spread + j) late k x there in
+      let there : slice_get (later (spread + j + 1)).nodes k ≡ Some x = subst (λ n. slice_get (later n).nodes k ≡ Some x) z at in
+      let q : Calmly (later (spread + j)) k x.state = steadily hs w l (spread + j) late k x there in
       let now = force-stays hs w l (spread + j) late k x there in
       let was = taken-over j k s q.node h at_s q.at in
       (now.0 ∙ was.0, now.1 ∙ was.1)
 
   pub taken-by :
       (j k : ℕ) (s x : PortNode) → spread ≤ j → Holds set k → slice_get w.nodes k ≡ Some s →
-      slice_get (quiet_after hs j w).nodes k ≡ Some x →
+      slice_get (later j).nodes k ≡ Some x →
       (x.state.view.force ≡ waits_due s.state.view) × (x.state.view.gap ≡ gap_due s.state.view)
   taken-by j k s x late h at_s at =
       let z : j ≡ spread + (j - spread) = omega (arith, late) in
-      taken-over (j - spread) k s x h at_s (subst (λ n. slice_get (quiet_after hs n w).nodes k ≡ Some x) z at)
+      taken-over (j - spread) k s x h at_s (subst (λ n. slice_get (later n).nodes k ≡ Some x) z at)
 
   pub forces :
       (j k : ℕ) (b : Bool) (x : PortNode) → Holds set k → Shows w k (λ v. waits_due v ≡ b) →
-      slice_get (quiet_after hs (spread + j) w).nodes k ≡ Some x → x.state.view.force ≡ b
+      slice_get (later (spread + j)).nodes k ≡ Some x → x.state.view.force ≡ b
   forces j k b x h due at = let s = some-of (slice_get w.nodes k) _ due in (taken-over j k s.0 x h s.1 at).0 ∙ s.2
 
   -- so a node that waits takes no parent port in these turns
   pub waiting :
       (j k : ℕ) (x : PortNode) → CanBeForcedAt w k → spread + j ≤ w.longest.hold + 127 * w.delay → Holds set k →
-      Shows w k (λ v. waits_due v ≡ true) →
-      slice_get (quiet_after hs (spread + j) w).nodes k ≡ Some x →
+      Shows w k (λ v. waits_due v ≡ true) → slice_get (later (spread + j)).nodes k ≡ Some x →
       Waiting (spread + j) x.state
   waiting zero k x can soon h due at = record {
     waits = forces 0 k true x h due at;
@@ -334,11 +340,11 @@ module _
       z = omega arith
 
       there : (is_resetting x.state.view.phase ≡ true) × (x.state.view.timer ≤ spread)
-      there = all-reset hs w l node set comp fresh spread spread-after in-time k x h (subst (λ n. slice_get (quiet_after hs n w).nodes k ≡ Some x) z at)
+      there = all-reset hs w l node set comp fresh spread spread-after in-time k x h (subst (λ n. slice_get (later n).nodes k ≡ Some x) z at)
   waiting (suc j) k x can soon h due at =
       let z : spread + suc j ≡ spread + j + 1 = omega arith in
       let late : spread ≤ spread + j = omega arith in
-      let there : slice_get (quiet_after hs (spread + j + 1) w).nodes k ≡ Some x = subst (λ n. slice_get (quiet_after hs n w).nodes k ≡ Some x) z at in
-      let q : Calmly (quiet_after hs (spread + j) w) k x.state = steadily hs w l (spread + j) late k x there in
+      let there : slice_get (later (spread + j + 1)).nodes k ≡ Some x = subst (λ n. slice_get (later n).nodes k ≡ Some x) z at in
+      let q : Calmly (later (spread + j)) k x.state = steadily hs w l (spread + j) late k x there in
       subst (λ n. Waiting n x.state) (sym z)
       (waits-on hs w l (spread + j) late k x there (waiting j k q.node can (omega (arith, soon)) h due q.at) can (omega (arith, soon)))
