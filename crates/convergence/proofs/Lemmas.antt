@@ -50,7 +50,7 @@ pub use Rattle.convergence.proofs.trees.TreeStart.{IsEarly, Started, done-at, ea
 -- neighbours ask it.
 pub use Rattle.convergence.proofs.trees.TreesTaken.{Silent, TwoSilent, early_there, shown-parent}
 -- What turns, holds and acts of a lawful world keep holds along runs.
-pub use Rattle.convergence.proofs.turns.AlongRuns.{IsKept, kept-quiet, kept-comes}
+pub use Rattle.convergence.proofs.turns.AlongRuns.{kept, kept-quiet}
 -- Nodes in R1 and T0 in a turn in which no Reset comes: how they come there, and what keeps them
 -- there.
 pub use Rattle.convergence.proofs.turns.BeforeTree.{Left, StaysInStart, TwoLeft, asks-few, count-cons, every-from, one-left, stays-in-start, two-left, waits-for, was-waiting}

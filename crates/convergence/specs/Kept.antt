@@ -8,6 +8,7 @@ use Rattle.cable_world.specs.Quiet.{HoldSchedule, quiet_after}
 use Rattle.cable_world.specs.Act.{Acted, hold, hold_fault}
 use Rattle.cable_world.specs.Lawful.{IsLawful}
 use Rattle.cable_world.specs.Run.{ComesOfPowerOn}
+use Rattle.cable_world.specs.StaysLawful.{HoldsAtPowerOn}
 use Rattle.convergence.specs.Acyclic.{IsAcyclic}
 use Rattle.convergence.specs.Rivals.{IsContested}
 use Rattle.convergence.specs.Milestones.{ResetsAreOver, ResetsAreDone, TreesAreTaken}
@@ -28,6 +29,14 @@ KeptByAct P =
 
 abbrev pub HoldsFromPowerOn : (CableWorld → Type 0) → Type 0
 HoldsFromPowerOn P = (w : CableWorld) → ComesOfPowerOn w → P w
+
+-- so it holds at power-on, and turns, holds and acts of a lawful world keep it
+pub record IsKept (P : CableWorld → Type 0) : Type 0 where
+  pub power_on : HoldsAtPowerOn P
+  pub turn : KeptByTurn P
+  pub hold : KeptByHold P
+  pub act : KeptByAct P
+  pub reached : HoldsFromPowerOn P
 
 -- ---- what follows in a lawful world
 

@@ -1,19 +1,14 @@
 //! Laws of root contention: who draws coins, and who wins.
-ghost use Rattle.cable_world.specs.StaysLawful.{HoldsAtPowerOn};
 ghost use Rattle.convergence.specs.Drawers.{RivalsAreClose, RivalsAgree, DrawersShareACable};
 ghost use Rattle.convergence.specs.Drawers.{NoThirdDraws, FewDraw, LongWaitsWin};
-ghost use Rattle.convergence.specs.Kept.{KeptByTurn, KeptByHold, KeptByAct, HoldsFromPowerOn};
+ghost use Rattle.convergence.specs.Kept.{IsKept};
 ghost use Rattle.convergence.specs.Kept.{OnceContested, OnceOverAndContested};
 ghost use Rattle.convergence.specs.Rivals.{IsContested};
 ghost use Rattle.convergence.specs.Turns.{turns_to_over, HoldsAfter};
 
 /// What nodes know of coins holds at power-on, and turns, holds and acts of a lawful world keep it.
 pub fn worlds_stay_contested()
-    ensures power_on { HoldsAtPowerOn IsContested }
-    ensures turn { KeptByTurn IsContested }
-    ensures hold { KeptByHold IsContested }
-    ensures act { KeptByAct IsContested }
-    ensures reached { HoldsFromPowerOn IsContested }
+    ensures { IsKept IsContested }
 {}
 
 /// Contention. In any lawful world, while each of two nodes is the other's candidate parent, their

@@ -1,8 +1,7 @@
 //! Laws of the tree that grows. Each function is a fact for the crates above, which call it.
-ghost use Rattle.cable_world.specs.StaysLawful.{HoldsAtPowerOn};
 ghost use Rattle.convergence.specs.Acyclic.{IsAcyclic, SetsHaveTops, SetsHaveBottoms};
 ghost use Rattle.convergence.specs.Cables.{LevelsComeThrough};
-ghost use Rattle.convergence.specs.Kept.{KeptByTurn, KeptByHold, KeptByAct, HoldsFromPowerOn};
+ghost use Rattle.convergence.specs.Kept.{IsKept};
 ghost use Rattle.convergence.specs.Kept.{OnceOver, OnceOverAndAcyclic};
 ghost use Rattle.convergence.specs.Roots.{LoopsAreUndecided, RootsAreAlone, RootsHaveTrees};
 ghost use Rattle.convergence.specs.Roots.{LoopsHaveNoRoot, IsUndecidedInLoops};
@@ -11,11 +10,7 @@ ghost use Rattle.convergence.specs.Turns.{turns_to_over, HoldsAfter};
 /// Child cables form no cycle: a world is acyclic at power-on, and turns, holds and acts keep a
 /// lawful world so.
 pub fn worlds_stay_acyclic()
-    ensures power_on { HoldsAtPowerOn IsAcyclic }
-    ensures turn { KeptByTurn IsAcyclic }
-    ensures hold { KeptByHold IsAcyclic }
-    ensures act { KeptByAct IsAcyclic }
-    ensures reached { HoldsFromPowerOn IsAcyclic }
+    ensures { IsKept IsAcyclic }
 {}
 
 /// Each set of nodes that isn't empty has a member that no child cable enters from a member, and

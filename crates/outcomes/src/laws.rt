@@ -1,6 +1,5 @@
 //! Laws of what components come to. Each function is a fact for the crates above, which call it.
-ghost use Rattle.cable_world.specs.StaysLawful.{HoldsAtPowerOn};
-ghost use Rattle.convergence.specs.Kept.{KeptByTurn, KeptByHold, KeptByAct, HoldsFromPowerOn};
+ghost use Rattle.convergence.specs.Kept.{HoldsFromPowerOn, IsKept};
 ghost use Rattle.outcomes.specs.Forced.{ResetsSpread, EntriesTakeOver, ForcedNodesBecomeRoots};
 ghost use Rattle.outcomes.specs.Forced.{ForcedRootsHaveWalks, AllLeadToForcedRoots, NobodyDraws};
 ghost use Rattle.outcomes.specs.Forced.{ConfigsBeginAnew, ConfigsNameRoots, ConfigsGiveGaps};
@@ -36,11 +35,7 @@ pub fn every_bus_settles()
 /// What is so of self identify, at each node and at the two ends of each cable, is so at power-on,
 /// and turns, holds and acts of a lawful world keep it.
 pub fn worlds_stay_identifying()
-    ensures power_on { HoldsAtPowerOn IsIdentifying }
-    ensures turn { KeptByTurn IsIdentifying }
-    ensures hold { KeptByHold IsIdentifying }
-    ensures act { KeptByAct IsIdentifying }
-    ensures reached { HoldsFromPowerOn IsIdentifying }
+    ensures { IsKept IsIdentifying }
 {}
 
 /// In every world that comes of power-on each record fits the progress of self identify: a node has
@@ -156,11 +151,7 @@ pub fn trees_settle()
 /// In every component all of whose nodes are in self identify or A0 lists follow the walk from its
 /// root: so it is at power-on, and turns, holds and acts of a lawful world keep it so.
 pub fn worlds_stay_numbering()
-    ensures power_on { HoldsAtPowerOn IsNumbering }
-    ensures turn { KeptByTurn IsNumbering }
-    ensures hold { KeptByHold IsNumbering }
-    ensures act { KeptByAct IsNumbering }
-    ensures reached { HoldsFromPowerOn IsNumbering }
+    ensures { IsKept IsNumbering }
 {}
 
 /// Every component with a loop comes to the outcome Loop: after n d + H + d + T + 1 quiet turns,

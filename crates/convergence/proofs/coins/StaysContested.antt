@@ -15,7 +15,8 @@ use Rattle.cable_world.specs.Act.{change_in_set, note_changes, Acted, hold_fault
 use Rattle.cable_world.specs.Lawful.{IsWellFormed}
 use Rattle.cable_world.proofs.Lemmas.{power-on-apart, not-leading, ends-in-reset, Entered, Stayed, Acting, acting, each-kept, hold-happens, shown-is, ready, shown-same, shown_if_there, HasBegun, CableEnd, cable-end, none-some}
 use Rattle.cable_world.proofs.Lemmas as between
-use Rattle.convergence.proofs.turns.AlongRuns.{IsKept, kept-comes, kept-quiet}
+use Rattle.convergence.specs.Kept.{IsKept}
+use Rattle.convergence.proofs.turns.AlongRuns.{kept, kept-quiet}
 use Rattle.convergence.specs.Rivals.{HasOneRival}
 use Rattle.convergence.proofs.coins.ContestsInTurns.{contests-turn, won-from}
 use Rattle.convergence.proofs.coins.CoinsInTurns.{knows-after}
@@ -345,16 +346,11 @@ power-on-contested w h = record {
   one_rival = λ a b e f x y z same ab. absurd (none-some (far w.cabling a) b (power-on-apart w h a) ab);
 }
 
-contested-kept : IsKept IsContested
-contested-kept = record {
-  power_on = power-on-contested;
-  turn = turn-contested;
-  hold = hold-contested;
-  act = act-contested;
-}
+pub contested-kept : IsKept IsContested
+contested-kept = kept IsContested power-on-contested turn-contested hold-contested act-contested
 
 pub comes-contested : (w : CableWorld) → ComesOfPowerOn w → IsContested w
-comes-contested = kept-comes IsContested contested-kept
+comes-contested = contested-kept.reached
 
 pub holds-contested :
     (holds : List PlacedHold) (w : CableWorld) → IsLawful w → IsContested w →

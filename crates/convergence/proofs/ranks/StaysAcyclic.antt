@@ -1,20 +1,16 @@
 -- Every world that comes of a power-on world is acyclic.
 use Rattle.std.proofs.Common.{ℕ, List}
 use Rattle.convergence.proofs.Common.{CableWorld, ComesOfPowerOn, IsLawful, PlacedHold, HoldSchedule, with_holds, quiet_after, holds-kept, IsAcyclic}
-use Rattle.convergence.proofs.turns.AlongRuns.{IsKept, kept-comes, kept-quiet}
+use Rattle.convergence.specs.Kept.{IsKept}
+use Rattle.convergence.proofs.turns.AlongRuns.{kept, kept-quiet}
 use Rattle.convergence.proofs.ranks.RanksInActs.{power-on-acyclic, hold-acyclic, act-acyclic}
 use Rattle.convergence.proofs.ranks.RanksInTurns.{turn-acyclic}
 
-acyclic-kept : IsKept IsAcyclic
-acyclic-kept = record {
-  power_on = power-on-acyclic;
-  turn = turn-acyclic;
-  hold = λ end turns w none l. hold-acyclic end turns w;
-  act = act-acyclic;
-}
+pub acyclic-kept : IsKept IsAcyclic
+acyclic-kept = kept IsAcyclic power-on-acyclic turn-acyclic (λ end turns w none l. hold-acyclic end turns w) act-acyclic
 
 pub comes-acyclic : (w : CableWorld) → ComesOfPowerOn w → IsAcyclic w
-comes-acyclic = kept-comes IsAcyclic acyclic-kept
+comes-acyclic = acyclic-kept.reached
 
 pub holds-acyclic :
     (holds : List PlacedHold) (w : CableWorld) → IsLawful w → IsAcyclic w →

@@ -4,7 +4,8 @@ use Rattle.std.proofs.Common.{◌≡◌, inl, inr, ℕ, None, Some, length, slic
 use Rattle.std.proofs.lemmas.Option.{slice_get_cases, slice_get_within}
 use Rattle.outcomes.proofs.Common.{contrary, End, Wiring, ports_of, Holds, hears_packets, PortNode, Act, CableWorld, IsPowerOnWorld, turn, Acted, hold, hold_fault, note_changes, ComesOfPowerOn, IsLawful, acting, turn-lawful, cabling-after, some-same, IsAcyclic, AreIdentifying, turn-acyclic, HoldSchedule, quiet_after, NodeState, IsIdentifying, Settles, IsNumbering}
 use Rattle.cable_world.proofs.Lemmas.{act-lawful}
-use Rattle.convergence.proofs.Lemmas.{power-on-acyclic, hold-acyclic, act-acyclic, IsKept, kept-comes, kept-quiet}
+use Rattle.convergence.specs.Kept.{IsKept}
+use Rattle.convergence.proofs.Lemmas.{power-on-acyclic, hold-acyclic, act-acyclic, kept, kept-quiet}
 use Rattle.outcomes.proofs.identify.IdentifyingTurn.{turn-identifying}
 use Rattle.outcomes.proofs.identify.IdentifyingActs.{act-identifying, hold-identifying, power-on-identifying}
 use Rattle.outcomes.proofs.numbers.HoldRests.{hold-settles}
@@ -137,16 +138,11 @@ power-on-numbering w h =
       | inr lacks ↦ absurd (omega (arith, lacks.0, p.there))
     ])
 
-numbering-kept : IsKept IsNumbering
-numbering-kept = record {
-  power_on = power-on-numbering;
-  turn = turn-numbering;
-  hold = hold-numbering;
-  act = act-numbering;
-}
+pub numbering-kept : IsKept IsNumbering
+numbering-kept = kept IsNumbering power-on-numbering turn-numbering hold-numbering act-numbering
 
 pub comes-numbering : (w : CableWorld) → ComesOfPowerOn w → IsNumbering w
-comes-numbering = kept-comes IsNumbering numbering-kept
+comes-numbering = numbering-kept.reached
 
 pub quiet-numbering :
     (hs : HoldSchedule) (k : ℕ) (w : CableWorld) → IsLawful w → IsNumbering w →
