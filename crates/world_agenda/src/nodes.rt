@@ -63,9 +63,8 @@ fn set_clocks<M: PortMachine>(nodes: &mut [AgendaNode<M>], set: NodeSet, turns: 
     }
 }
 
-/// Does an act, when `turns` turns are done. First every node catches up, unless each does stand there,
-/// at the end of turn number `level`. The nodes that the act may have touched may be due soon after it,
-/// and their wires may be live.
+/// Does an act, when `turns` turns are done. First every node catches up; none is behind if `level` is
+/// `turns`. Then the nodes that the act may have touched count as due soon, and their wires as live.
 pub fn act_agenda<M: PortMachine>(
     act: &Act,
     cabling: &mut Cabling,
