@@ -226,7 +226,8 @@ enum busconf_status busconf_read_capture(const uint8_t *bytes, size_t count, uin
 
 /* Tells the line of a fault as `busconf read` writes it, in ASCII with its line feed and with no byte 0 behind it.
  * BUSCONF_OK: the first `*needed` bytes at `place` are the line. BUSCONF_TOO_SHORT: `*needed` is how many they are; no
- * line has more than 128. BUSCONF_REFUSED: there is no such kind. */
+ * line has more than 128. BUSCONF_REFUSED: there is no such kind. The line of BUSCONF_FAULT_EMPTY has pair 0, whatever
+ * the record's place. */
 enum busconf_status busconf_fault_text(const struct busconf_fault *fault, char *place, size_t room, size_t *needed);
 
 /* Tells the sentence of a list's fault: what was found and what was wanted, in ASCII with its line feed and with no

@@ -209,7 +209,9 @@ static void check_texts(void) {
     free(place);
     place = (char *)block(needed, 0xa5);
     expect(busconf_fault_text(&fault, place, needed, &again) == BUSCONF_OK && again == needed, "exactly as much");
-    expect(memcmp(place, "refused pair 7 ", 15) == 0 && place[needed - 1] == '\n', "a line is whole");
+    expect(memcmp(place, kind == BUSCONF_FAULT_EMPTY ? "refused pair 0 " : "refused pair 7 ", 15) == 0 &&
+               place[needed - 1] == '\n',
+           "a line is whole");
     free(place);
   }
 }

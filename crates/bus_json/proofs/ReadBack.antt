@@ -6,15 +6,17 @@ use Rattle.self_id.specs.Node.{Node}
 use Rattle.topology_stack.specs.Tree.{Tree, walk}
 use Rattle.topology_stack.specs.Far.{ends}
 use Rattle.topology_stack.specs.Elect.{elected}
+use Rattle.capture_reading.specs.declared.fault.CaptureFault.{CaptureFault}
+use Rattle.capture_reading.specs.declared.refusal.Counts.{Counts}
+use Rattle.capture_reading.specs.Line.{refusal_of}
 use Rattle.json.specs.Lex.{tokens}
 use Rattle.json.specs.Json.{Json, value, if_last, max_depth, document}
 use Rattle.json.specs.Print.{print}
 use Rattle.json.specs.Tree.{json_tokens, depth, items_depth, members_depth}
 use Rattle.json.proofs.Printed.Trees.{value-json_tokens}
-use Rattle.bus_json.specs.declared.refusal.Counts.{Counts}
 use Rattle.bus_json.specs.Text.{json_text}
 use Rattle.bus_json.specs.Bus.{end_at, port_value, port_items, node_value, node_items, manager_value, tree_members, bus_value}
-use Rattle.bus_json.specs.Refusal.{refusal_value, line_refusal_value}
+use Rattle.bus_json.specs.Refusal.{counts_members, fault_members, refused_members, fault_value, line_refusal_value}
 
 -- where the text is read as the value's tokens
 pub reads_back : (v : Json) → tokens (print (json_tokens v)) ≡ json_tokens v →
@@ -55,9 +57,15 @@ tree_shallow names t =
 pub bus_shallow : (t : Tree) → depth (bus_value t) ≤ max_depth
 bus_shallow t = omega (arith, tree_shallow [] t)
 
-pub refusal_shallow : (pair : ℕ) (kind : List ℕ) (c : Option Counts) → depth (refusal_value pair kind c) ≤ max_depth
-refusal_shallow pair kind None = omega arith
-refusal_shallow pair kind (Some c) = omega arith
+counts_shallow : (c : Option Counts) → members_depth (counts_members c) ≤ 0
+counts_shallow None = omega arith
+counts_shallow (Some c) = omega arith
+
+pub refusal_shallow : (f : CaptureFault) → members_depth (refused_members (fault_members f)) ≤ 1
+refusal_shallow f = omega (arith, counts_shallow (refusal_of f).counts)
+
+pub fault_shallow : (f : CaptureFault) → depth (fault_value f) ≤ max_depth
+fault_shallow f = omega (arith, refusal_shallow f)
 
 pub line_shallow : (line : ℕ) (kind : List ℕ) → depth (line_refusal_value line kind) ≤ max_depth
 line_shallow line kind = omega arith

@@ -1,7 +1,9 @@
 -- The value of a refused capture, and of a refused script.
 use Rattle.std.specs.Prelude.{ℕ, Option, Some, None, List, codes}
+use Rattle.capture_reading.specs.declared.fault.CaptureFault.{CaptureFault}
+use Rattle.capture_reading.specs.declared.refusal.Counts.{Counts}
+use Rattle.capture_reading.specs.Line.{Refusal, refusal_of}
 use Rattle.json.specs.Json.{Json, string, object, Members, no_members, member}
-use Rattle.bus_json.specs.declared.refusal.Counts.{Counts}
 use Rattle.bus_json.specs.Text.{numeral}
 use Rattle.bus_json.specs.Bus.{with_schema}
 
@@ -11,11 +13,14 @@ counts_members None = no_members
 counts_members (Some c) =
     member (codes "found") (numeral c.found) (member (codes "wanted") (numeral c.wanted) no_members)
 
--- the pair at fault and the kind of its fault
-abbrev pub fault_members : ℕ → List ℕ → Option Counts → Members
-fault_members pair kind counts =
-    member (codes "pair") (numeral pair)
-    (member (codes "kind") (string kind) (counts_members counts))
+-- the pair at fault, the kind of its fault, and the counts
+abbrev pub refusal_members : Refusal → Members
+refusal_members r =
+    member (codes "pair") (numeral r.pair)
+    (member (codes "kind") (string r.kind) (counts_members r.counts))
+
+abbrev pub fault_members : CaptureFault → Members
+fault_members f = refusal_members (refusal_of f)
 
 -- the one member `refused`
 abbrev pub refused_members : Members → Members
@@ -24,8 +29,8 @@ refused_members members = member (codes "refused") (object members) no_members
 abbrev pub with_refusal : Members → Json
 with_refusal members = with_schema (refused_members members)
 
-abbrev pub refusal_value : ℕ → List ℕ → Option Counts → Json
-refusal_value pair kind counts = with_refusal (fault_members pair kind counts)
+abbrev pub fault_value : CaptureFault → Json
+fault_value f = with_refusal (fault_members f)
 
 -- the line of a script at fault and the kind of its fault
 abbrev pub line_members : ℕ → List ℕ → Members

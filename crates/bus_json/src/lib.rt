@@ -7,4 +7,4 @@ mod refusal;
 
 pub use bus::{bus_line, name_text, put_tree};
 pub use json_text::JsonText;
-pub use refusal::{Counts, line_refusal, put_refusal, refusal_line};
+pub use refusal::{line_refusal, put_refusal, refusal_line};

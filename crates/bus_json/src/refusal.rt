@@ -4,20 +4,12 @@ ghost use Rattle.json.specs.Token.{begin_object, end_object, key};
 ghost use Rattle.json.specs.Json.{document};
 ghost use Rattle.json.specs.Tree.{members_tokens};
 ghost use Rattle.bus_json.specs.Text.{json_line, json_text};
-ghost use Rattle.bus_json.specs.Refusal.{counts_members, fault_members, refused_members, refusal_value, line_members, line_refusal_value};
+ghost use Rattle.bus_json.specs.Refusal.{counts_members, fault_members, refused_members, fault_value, line_members, line_refusal_value};
 
 use crate::json_text::JsonText;
+use capture_reading::{CaptureFault, Counts, refusal_of};
 use std::alloc::Global;
 use topology_stack::OutOfMemory;
-
-/// How many there were, and how many it should have been.
-#[derive(Clone, Copy, Debug, PartialEq, Eq)]
-pub struct Counts {
-    /// How many there were.
-    pub found: u8,
-    /// How many it should have been.
-    pub wanted: u8,
-}
 
 /// Writes what was found and wanted, where both are known, and ends the object.
 fn put_counts(out: &mut JsonText, counts: Option<Counts>) -> Result<(), OutOfMemory>
@@ -32,20 +24,16 @@ fn put_counts(out: &mut JsonText, counts: Option<Counts>) -> Result<(), OutOfMem
 
 /// Writes why a list of self-ID packets is refused, as the member `refused` of an object, and ends the
 /// object: the pair at fault, the kind of its fault, and what was found and wanted where both are known.
-pub fn put_refusal(
-    out: &mut JsonText,
-    pair: usize,
-    kind: &str,
-    counts: Option<Counts>,
-) -> Result<(), OutOfMemory>
-    ensures { OnOk result (out.new ≡ out.old
-        ++ members_tokens (refused_members (fault_members pair kind.now counts))) }
+pub fn put_refusal(out: &mut JsonText, fault: CaptureFault) -> Result<(), OutOfMemory>
+    ensures { OnOk result (out.new
+        ≡ out.old ++ members_tokens (refused_members (fault_members fault))) }
 {
+    let refusal = refusal_of(fault);
     out.key("refused")?;
     out.open_object()?;
-    out.number_member("pair", pair as u64)?;
-    out.string_member("kind", kind)?;
-    put_counts(out, counts)?;
+    out.number_member("pair", refusal.pair as u64)?;
+    out.string_member("kind", refusal.kind)?;
+    put_counts(out, refusal.counts)?;
     out.close_object()?;
     Ok(())
 }
@@ -54,20 +42,14 @@ pub fn put_refusal(
 /// wanted where both are known.
 ///
 /// `{"schema":1,"refused":{"pair":P,"kind":"KIND","found":F,"wanted":W}}`.
-pub fn refusal_line(
-    alloc: Global,
-    pair: usize,
-    kind: &str,
-    counts: Option<Counts>,
-) -> Result<Vec<u8>, OutOfMemory>
-    ensures line { IfOk result (λ line. line.items
-        ≡ json_line (refusal_value pair kind.now counts)) }
-    ensures reads_back { IfOk result (λ line. document (json_text (refusal_value pair kind.now counts))
-        ≡ Some (refusal_value pair kind.now counts)) }
+pub fn refusal_line(alloc: Global, fault: CaptureFault) -> Result<Vec<u8>, OutOfMemory>
+    ensures line { IfOk result (λ line. line.items ≡ json_line (fault_value fault)) }
+    ensures reads_back { IfOk result (λ line. document (json_text (fault_value fault))
+        ≡ Some (fault_value fault)) }
 {
     let mut out = JsonText::new(alloc);
     out.open_schema()?;
-    put_refusal(&mut out, pair, kind, counts)?;
+    put_refusal(&mut out, fault)?;
     let line = out.into_line()?;
     Ok(line)
 }

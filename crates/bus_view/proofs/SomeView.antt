@@ -22,7 +22,7 @@ use Rattle.view_text.specs.Pairs.{pairs_text}
 use Rattle.view_text.specs.Graph.{graph}
 use Rattle.bus_json.specs.Text.{json_line}
 use Rattle.bus_json.specs.Bus.{bus_value}
-use Rattle.bus_json.specs.Refusal.{line_refusal_value}
+use Rattle.bus_json.specs.Refusal.{fault_value, line_refusal_value}
 use Rattle.bus_view.specs.declared.form.CaptureView.{CaptureView}
 use Rattle.bus_view.specs.declared.form.CaptureView.TheVariants.{Packets, Tree as Drawn, Dot, Json}
 use Rattle.bus_view.specs.declared.form.ViewForm.{ViewForm}
@@ -37,7 +37,6 @@ use Rattle.bus_view.specs.Sentence.{place, note}
 use Rattle.bus_view.specs.Answer.{Reading, spelt, refused, IsReading, status_of, HasText, IsCaptureView, IsTraceView, traced, at_fault, IsWavesView, dumped, not_dumped, IsGraphView, pictured, not_pictured, IsReportsView, reported, not_reported, IsListView, has_list, has_none, IsView, IsExplainView, has_text, has_fault}
 use Rattle.script_words.specs.Before.{feed_lines}
 use Rattle.bus_view.specs.Explained.{explanation}
-use Rattle.bus_view.specs.Json.{fault_value}
 use Rattle.bus_view.specs.OneAnswer.{EachInputHasAView}
 use Rattle.bus_view.proofs.Said.{some_explained}
 use Rattle.top_call.proofs.Lemmas.{each_answered}

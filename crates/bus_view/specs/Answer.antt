@@ -25,7 +25,7 @@ use Rattle.view_text.specs.Drawing.{IsDrawing}
 use Rattle.view_text.specs.Graph.{graph}
 use Rattle.bus_json.specs.Text.{json_line}
 use Rattle.bus_json.specs.Bus.{bus_value}
-use Rattle.bus_json.specs.Refusal.{line_refusal_value}
+use Rattle.bus_json.specs.Refusal.{fault_value, line_refusal_value}
 use Rattle.bus_view.specs.declared.form.CaptureView.{CaptureView}
 use Rattle.bus_view.specs.declared.form.CaptureView.TheVariants.{Packets, Tree as Drawn, Dot, Json}
 use Rattle.bus_view.specs.declared.form.ViewForm.{ViewForm}
@@ -35,7 +35,6 @@ use Rattle.top_call.specs.Asked.{AnswersAsked}
 use Rattle.bus_view.specs.Form.{Asks}
 use Rattle.bus_view.specs.Sentence.{place, note}
 use Rattle.bus_view.specs.Explained.{explanation, IsExplained}
-use Rattle.bus_view.specs.Json.{fault_value}
 use Rattle.bus_view.specs.Log.{IsLogView, IsDumpView}
 
 -- what a capture is read as by a standard: the tree that it spells, or its fault, as `busconf read`

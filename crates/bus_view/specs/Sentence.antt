@@ -2,13 +2,9 @@
 use Rattle.std.specs.Prelude.{ℕ, zero, suc, Option, None, List, ◌++◌, slice_get}
 use Rattle.phy_packet.specs.declared.packet.PhyPacket.{PhyPacket}
 use Rattle.self_id.specs.declared.standard.Standard.{Standard}
-use Rattle.self_id.specs.declared.fault.GroupFault.{GroupFault}
-use Rattle.self_id.specs.declared.fault.GroupFault.TheVariants.{NotSelfId, WrongId, BadOrder, Cut, TwoParents}
-use Rattle.topology_stack.specs.declared.fault.TreeFault.{TreeFault}
-use Rattle.topology_stack.specs.declared.fault.TreeFault.TheVariants.{Group, Empty, TooFewChildren, TreesLeft, AfterRoot, NoRoot, TooMany}
 use Rattle.capture_reading.specs.declared.fault.CaptureFault.{CaptureFault}
 use Rattle.capture_reading.specs.declared.fault.CaptureFault.TheVariants.{BadLength, BadInverse, Tree}
-use Rattle.capture_reading.specs.Line.{fault_line}
+use Rattle.capture_reading.specs.Line.{refusal_of, fault_line}
 use Rattle.capture_hint.specs.Hint.{hint}
 use Rattle.view_text.specs.Sentence.{first_at, second_at, length_sentence, inverse_sentence, tree_sentence}
 
@@ -18,26 +14,8 @@ before_at packets zero = None
 before_at packets (suc k) = slice_get packets k
 
 -- below which pair the line of a fault stands
-abbrev pub group_place : GroupFault → ℕ
-group_place (NotSelfId at) = at
-group_place (WrongId at found wanted) = at
-group_place (BadOrder at) = at
-group_place (Cut at) = at
-group_place (TwoParents at) = at
-
-abbrev pub tree_place : TreeFault → ℕ
-tree_place (Group f) = group_place f
-tree_place Empty = 0
-tree_place (TooFewChildren at found wanted) = at
-tree_place (TreesLeft at found wanted) = at
-tree_place (AfterRoot at) = at
-tree_place (NoRoot at) = at
-tree_place (TooMany at) = at
-
 abbrev pub place : CaptureFault → ℕ
-place (BadLength pair) = pair
-place (BadInverse pair) = pair
-place (Tree f) = tree_place f
+place f = (refusal_of f).pair
 
 -- by a standard, for quadlets, two a pair, and the packets of the pairs' first ones
 abbrev pub sentence : Standard → List ℕ → List PhyPacket → CaptureFault → List ℕ
@@ -45,7 +23,7 @@ sentence s quads packets (BadLength pair) = length_sentence
 sentence s quads packets (BadInverse pair) =
     inverse_sentence (first_at quads pair) (second_at quads pair)
 sentence s quads packets (Tree f) =
-    tree_sentence s (first_at quads (tree_place f)) (before_at packets (tree_place f)) f
+    tree_sentence s (first_at quads (place (Tree f))) (before_at packets (place (Tree f))) f
 
 -- the line of a fault and the sentence, and a hint where the bytes look like something else
 abbrev pub note : Standard → List ℕ → List ℕ → List PhyPacket → CaptureFault → List ℕ

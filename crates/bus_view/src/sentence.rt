@@ -1,13 +1,13 @@
 //! What was found and what was wanted where a capture is refused, in a line and a sentence.
 ghost use Rattle.std.specs.Prelude.{◌≡◌, ◌++◌, IfOk, OnOk};
-ghost use Rattle.bus_view.specs.Sentence.{before_at, sentence, group_place, tree_place, place, note};
+ghost use Rattle.bus_view.specs.Sentence.{before_at, sentence, place, note};
 
 use capture_hint::put_hint;
-use capture_reading::{CaptureFault, fault_line};
+use capture_reading::{CaptureFault, fault_line, refusal_of};
 use phy_packet::PhyPacket;
-use self_id::{GroupFault, Standard};
+use self_id::Standard;
 use std::alloc::Global;
-use topology_stack::{OutOfMemory, TreeFault};
+use topology_stack::OutOfMemory;
 use view_text::{
     Note, first_at, put_inverse_sentence, put_length_sentence, put_tree_sentence, second_at,
 };
@@ -23,30 +23,11 @@ fn before_at(packets: &[PhyPacket], at: usize) -> Option<PhyPacket>
     }
 }
 
-fn group_place(fault: GroupFault) -> usize
-    ensures { result ≡ group_place fault }
+/// The number of the pair below which the line of a fault stands.
+fn place(fault: CaptureFault) -> usize
+    ensures { result ≡ place fault }
 {
-    match fault {
-        GroupFault::NotSelfId { at }
-        | GroupFault::WrongId { at, .. }
-        | GroupFault::BadOrder { at }
-        | GroupFault::Cut { at }
-        | GroupFault::TwoParents { at } => at,
-    }
-}
-
-fn tree_place(fault: TreeFault) -> usize
-    ensures { result ≡ tree_place fault }
-{
-    match fault {
-        TreeFault::Group(fault) => group_place(fault),
-        TreeFault::Empty => 0,
-        TreeFault::TooFewChildren { at, .. }
-        | TreeFault::TreesLeft { at, .. }
-        | TreeFault::AfterRoot { at }
-        | TreeFault::NoRoot { at }
-        | TreeFault::TooMany { at } => at,
-    }
+    refusal_of(fault).pair
 }
 
 /// Appends the sentence of a capture's fault.
@@ -60,26 +41,16 @@ fn put_sentence(
     ensures { OnOk result (out.new.items
         ≡ out.old.items ++ sentence standard quads.now packets.now fault) }
 {
+    let at = place(fault);
     match fault {
         CaptureFault::BadLength { .. } => put_length_sentence(out),
         CaptureFault::BadInverse { pair } => {
             put_inverse_sentence(out, first_at(quads, pair), second_at(quads, pair))
         }
         CaptureFault::Tree(fault) => {
-            let at = tree_place(fault);
             let before = before_at(packets, at);
             put_tree_sentence(out, standard, first_at(quads, at), before, fault)
         }
-    }
-}
-
-/// The number of the pair below which the line of a fault stands.
-fn place(fault: CaptureFault) -> usize
-    ensures { result ≡ place fault }
-{
-    match fault {
-        CaptureFault::BadLength { pair } | CaptureFault::BadInverse { pair } => pair,
-        CaptureFault::Tree(fault) => tree_place(fault),
     }
 }
 

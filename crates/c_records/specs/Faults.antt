@@ -1,9 +1,12 @@
--- The records of faults: the number of the kind, the place, and what was found and wanted.
-use Rattle.std.specs.Prelude.{ℕ, ◌==◌, ◌||◌, if◌then◌else◌, List, [], ◌++◌, codes, decimal}
+-- The records of faults: the number of the kind, the place, and what was found and wanted. The words of a kind, and
+-- the line, are those of the fault that a record tells (`fault_line` of `capture_reading`).
+use Rattle.std.specs.Prelude.{◌≡◌, ℕ, ◌==◌, if◌then◌else◌}
 use Rattle.self_id.specs.declared.fault.GroupFault.{GroupFault}
 use Rattle.self_id.specs.declared.fault.GroupFault.TheVariants.{NotSelfId, WrongId, BadOrder, Cut, TwoParents}
 use Rattle.topology_stack.specs.declared.fault.TreeFault.{TreeFault}
 use Rattle.topology_stack.specs.declared.fault.TreeFault.TheVariants.{Group, Empty, TooFewChildren, TreesLeft, AfterRoot, NoRoot, TooMany}
+use Rattle.capture_reading.specs.declared.fault.CaptureFault.{CaptureFault}
+use Rattle.capture_reading.specs.declared.fault.CaptureFault.TheVariants.{BadLength, BadInverse, Tree}
 use Rattle.c_records.specs.declared.records.FaultRecord.{FaultRecord}
 
 abbrev pub fault_with : ℕ → ℕ → ℕ → ℕ → FaultRecord
@@ -34,30 +37,36 @@ bad_length pair = fault_with 12 pair 0 0
 abbrev pub bad_inverse : ℕ → FaultRecord
 bad_inverse pair = fault_with 13 pair 0 0
 
--- ---- the line of a fault: `refused pair P KIND`, and behind some kinds ` found F wanted W`
+abbrev pub fault_record : CaptureFault → FaultRecord
+fault_record (BadLength pair) = bad_length pair
+fault_record (BadInverse pair) = bad_inverse pair
+fault_record (Tree f) = tree_record f
 
-abbrev pub kind_word : ℕ → List ℕ
-kind_word kind =
-    if kind == 1 then codes "NotSelfId"
-    else (if kind == 2 then codes "WrongId"
-    else (if kind == 3 then codes "BadOrder"
-    else (if kind == 4 then codes "Cut"
-    else (if kind == 5 then codes "TwoParents"
-    else (if kind == 6 then codes "Empty"
-    else (if kind == 7 then codes "TooFewChildren"
-    else (if kind == 8 then codes "TreesLeft"
-    else (if kind == 9 then codes "AfterRoot"
-    else (if kind == 10 then codes "NoRoot"
-    else (if kind == 11 then codes "TooMany"
-    else (if kind == 12 then codes "BadLength"
-    else (if kind == 13 then codes "BadInverse" else []))))))))))))
+-- ---- the fault that a record tells
 
--- what was found and wanted, where the kind has it
-abbrev pub counts : FaultRecord → List ℕ
-counts r =
-    if (r.kind == 2) || ((r.kind == 7) || (r.kind == 8)) then
-    codes " found " ++ (decimal r.found ++ (codes " wanted " ++ decimal r.wanted)) else []
+-- of a list, where the kind is 1 to 11
+abbrev pub tree_fault_in : FaultRecord → TreeFault
+tree_fault_in r =
+    if r.kind == 1 then Group (NotSelfId r.at)
+    else (if r.kind == 2 then Group (WrongId r.at r.found r.wanted)
+    else (if r.kind == 3 then Group (BadOrder r.at)
+    else (if r.kind == 4 then Group (Cut r.at)
+    else (if r.kind == 5 then Group (TwoParents r.at)
+    else (if r.kind == 6 then Empty
+    else (if r.kind == 7 then TooFewChildren r.at r.found r.wanted
+    else (if r.kind == 8 then TreesLeft r.at r.found r.wanted
+    else (if r.kind == 9 then AfterRoot r.at
+    else (if r.kind == 10 then NoRoot r.at else TooMany r.at)))))))))
 
-abbrev pub line_of : FaultRecord → List ℕ → List ℕ
-line_of r word =
-    codes "refused pair " ++ (decimal r.at ++ (codes " " ++ (word ++ (counts r ++ codes "\n"))))
+-- of a capture, where the kind is 1 to 13
+abbrev pub fault_in : FaultRecord → CaptureFault
+fault_in r =
+    if r.kind == 12 then BadLength r.at
+    else (if r.kind == 13 then BadInverse r.at else Tree (tree_fault_in r))
+
+-- the fault of a fault's record is that fault
+abbrev pub ListFaultsAreReadBack : Type 0
+ListFaultsAreReadBack = (f : TreeFault) → tree_fault_in (tree_record f) ≡ f
+
+abbrev pub FaultsAreReadBack : Type 0
+FaultsAreReadBack = (f : CaptureFault) → fault_in (fault_record f) ≡ f

@@ -8,8 +8,8 @@ mod sentence;
 mod shown;
 mod standard;
 
-pub use fault::{fault_with, tree_record};
+pub use fault::{fault_in, fault_with, faults_are_read_back, tree_record};
 pub use records::{BusRecord, FaultRecord, MAX_SLOTS, NodeRecord, SlotRecord};
-pub use sentence::{faults_are_read_back, record_sentence};
+pub use sentence::record_sentence;
 pub use shown::{NO_SLOT, id_or_none, said, slot_record};
 pub use standard::standard_of;

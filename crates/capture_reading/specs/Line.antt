@@ -4,36 +4,48 @@ use Rattle.self_id.specs.declared.fault.GroupFault.TheVariants.{NotSelfId, Wrong
 use Rattle.topology_stack.specs.declared.fault.TreeFault.TheVariants.{Group, Empty, TooFewChildren, TreesLeft, AfterRoot, NoRoot, TooMany}
 use Rattle.capture_reading.specs.declared.fault.CaptureFault.{CaptureFault}
 use Rattle.capture_reading.specs.declared.fault.CaptureFault.TheVariants.{BadLength, BadInverse, Tree}
-use Rattle.capture_reading.specs.declared.line.Counts.{Counts}
+use Rattle.capture_reading.specs.declared.refusal.Counts.{Counts}
 
--- ` found F wanted W`
-abbrev pub counts : ℕ → ℕ → List ℕ
-counts found wanted = codes " found " ++ (decimal found ++ (codes " wanted " ++ decimal wanted))
+-- why a capture is refused, as each text on it says: the pair at fault, the kind of its fault, and what was found
+-- and wanted, where both are known
+pub record Refusal : Type 0 where
+  pub pair : ℕ
+  pub kind : List ℕ
+  pub counts : Option Counts
 
--- the same, where they are known
-abbrev pub counts_of : Option Counts → List ℕ
-counts_of None = []
-counts_of (Some c) = counts c.found c.wanted
+abbrev pub plain : ℕ → List ℕ → Refusal
+plain pair kind = record { pair = pair; kind = kind; counts = None }
 
--- the line of a kind of fault at a pair
-abbrev pub refusal : ℕ → List ℕ → List ℕ → List ℕ
-refusal pair kind behind =
-    codes "refused pair " ++ (decimal pair ++ (codes " " ++ (kind ++ (behind ++ codes "\n"))))
+abbrev pub counted : ℕ → List ℕ → ℕ → ℕ → Refusal
+counted pair kind found wanted =
+    record { pair = pair; kind = kind; counts = Some (record { found = found; wanted = wanted }) }
+
+-- of a fault
+abbrev pub refusal_of : CaptureFault → Refusal
+refusal_of (BadLength pair) = plain pair (codes "BadLength")
+refusal_of (BadInverse pair) = plain pair (codes "BadInverse")
+refusal_of (Tree (Group (NotSelfId at))) = plain at (codes "NotSelfId")
+refusal_of (Tree (Group (WrongId at found wanted))) = counted at (codes "WrongId") found wanted
+refusal_of (Tree (Group (BadOrder at))) = plain at (codes "BadOrder")
+refusal_of (Tree (Group (Cut at))) = plain at (codes "Cut")
+refusal_of (Tree (Group (TwoParents at))) = plain at (codes "TwoParents")
+refusal_of (Tree Empty) = plain 0 (codes "Empty")
+refusal_of (Tree (TooFewChildren at found wanted)) =
+    counted at (codes "TooFewChildren") found wanted
+refusal_of (Tree (TreesLeft at found wanted)) = counted at (codes "TreesLeft") found wanted
+refusal_of (Tree (AfterRoot at)) = plain at (codes "AfterRoot")
+refusal_of (Tree (NoRoot at)) = plain at (codes "NoRoot")
+refusal_of (Tree (TooMany at)) = plain at (codes "TooMany")
+
+-- ` found F wanted W`, where they are known
+abbrev pub counts_words : Option Counts → List ℕ
+counts_words None = []
+counts_words (Some c) = codes " found " ++ (decimal c.found ++ (codes " wanted " ++ decimal c.wanted))
+
+abbrev pub refusal_line : Refusal → List ℕ
+refusal_line r =
+    codes "refused pair " ++ (decimal r.pair ++ (codes " " ++ (r.kind ++ (counts_words r.counts ++ codes "\n"))))
 
 -- the line of a fault
 unfoldable pub fault_line : CaptureFault → List ℕ
-fault_line (BadLength pair) = refusal pair (codes "BadLength") []
-fault_line (BadInverse pair) = refusal pair (codes "BadInverse") []
-fault_line (Tree (Group (NotSelfId at))) = refusal at (codes "NotSelfId") []
-fault_line (Tree (Group (WrongId at found wanted))) =
-    refusal at (codes "WrongId") (counts found wanted)
-fault_line (Tree (Group (BadOrder at))) = refusal at (codes "BadOrder") []
-fault_line (Tree (Group (Cut at))) = refusal at (codes "Cut") []
-fault_line (Tree (Group (TwoParents at))) = refusal at (codes "TwoParents") []
-fault_line (Tree Empty) = refusal 0 (codes "Empty") []
-fault_line (Tree (TooFewChildren at found wanted)) =
-    refusal at (codes "TooFewChildren") (counts found wanted)
-fault_line (Tree (TreesLeft at found wanted)) = refusal at (codes "TreesLeft") (counts found wanted)
-fault_line (Tree (AfterRoot at)) = refusal at (codes "AfterRoot") []
-fault_line (Tree (NoRoot at)) = refusal at (codes "NoRoot") []
-fault_line (Tree (TooMany at)) = refusal at (codes "TooMany") []
+fault_line f = refusal_line (refusal_of f)

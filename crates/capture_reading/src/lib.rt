@@ -6,11 +6,13 @@ mod capture;
 mod fault;
 mod laws;
 mod line;
+mod refusal;
 mod text;
 
 pub use capture::read_capture;
 pub use fault::{CaptureFault, CaptureStop};
 pub use laws::one_reading;
 pub use line::fault_line;
+pub use refusal::{Counts, Refusal, refusal_of};
 pub use text::ShortText;
 pub use topology_stack::OutOfMemory;

@@ -1,64 +1,13 @@
 //! The line of a fault, and the sentence of a list's fault.
-ghost use Rattle.std.specs.Prelude.{◌≡◌, ◌<◌, ◌≤◌, ◌++◌, ◌+◌, length, slice_index_or};
-ghost use Rattle.c_records.specs.Faults.{kind_word, counts, line_of};
+ghost use Rattle.std.specs.Prelude.{◌≡◌, ◌<◌, ◌≤◌, slice_index_or};
+ghost use Rattle.capture_reading.specs.Line.{fault_line};
+ghost use Rattle.c_records.specs.Faults.{fault_in};
 ghost use Rattle.c_border.specs.Places.{IsCopied, IsUntold};
 ghost use Rattle.heapless_c.specs.Sentences.{quad_before, IsListSentence, WritesSentence};
 
 use c_border::{NO_STANDARD, REFUSED, tell_bytes};
-use c_records::{FaultRecord, record_sentence, standard_of};
-use capture_reading::ShortText;
-
-/// The word of a kind, 1 to 13; of any other number the empty one.
-fn kind_word(kind: u8) -> &'static [u8]
-    ensures word { result.now ≡ kind_word kind }
-    ensures few { length result.now ≤ 14 }
-{
-    match kind {
-        1 => b"NotSelfId",
-        2 => b"WrongId",
-        3 => b"BadOrder",
-        4 => b"Cut",
-        5 => b"TwoParents",
-        6 => b"Empty",
-        7 => b"TooFewChildren",
-        8 => b"TreesLeft",
-        9 => b"AfterRoot",
-        10 => b"NoRoot",
-        11 => b"TooMany",
-        12 => b"BadLength",
-        13 => b"BadInverse",
-        _ => b"",
-    }
-}
-
-/// Appends what was found and wanted, where the kind has it.
-fn put_counts(line: &mut ShortText, fault: &FaultRecord)
-    requires { length line.old + 60 ≤ 256 }
-    ensures counts { line.new ≡ line.old ++ counts fault.now }
-    ensures few { length line.new ≤ length line.old + 60 }
-{
-    if fault.kind == 2 || fault.kind == 7 || fault.kind == 8 {
-        line.put(b" found ");
-        line.put_number(usize::from(fault.found));
-        line.put(b" wanted ");
-        line.put_number(usize::from(fault.wanted));
-    }
-}
-
-/// The line of a fault with the word of its kind, which has at most 14 bytes.
-fn line_of(fault: &FaultRecord, word: &[u8]) -> ShortText
-    requires { length word.now ≤ 14 }
-    ensures { result ≡ line_of fault.now word.now }
-{
-    let mut line = ShortText::new();
-    line.put(b"refused pair ");
-    line.put_number(fault.at);
-    line.put(b" ");
-    line.put(word);
-    put_counts(&mut line, fault);
-    line.put(b"\n");
-    line
-}
+use c_records::{FaultRecord, fault_in, record_sentence, standard_of};
+use capture_reading::fault_line;
 
 /// Tells the line of a fault, as the program `busconf` writes it. It takes no memory.
 #[unsafe(no_mangle)]
@@ -68,7 +17,7 @@ pub extern "C" fn busconf_fault_text(
     needed: &mut usize,
 ) -> u32
     ensures line { 0 < fault.now.kind → fault.now.kind ≤ 13 →
-        IsCopied (line_of fault.now (kind_word fault.now.kind)) place.old place.new needed.new result }
+        IsCopied (fault_line (fault_in fault.now)) place.old place.new needed.new result }
     ensures zero { fault.now.kind ≡ 0 →
         IsUntold place.old place.new needed.old needed.new result }
     ensures past { 13 < fault.now.kind →
@@ -77,11 +26,8 @@ pub extern "C" fn busconf_fault_text(
     if fault.kind == 0 || fault.kind > 13 {
         return REFUSED;
     }
-    tell_bytes(
-        line_of(fault, kind_word(fault.kind)).as_bytes(),
-        place,
-        needed,
-    )
+    let line = fault_line(fault_in(fault));
+    tell_bytes(line.as_bytes(), place, needed)
 }
 
 /// The quadlet at a place, or 0 behind the last.

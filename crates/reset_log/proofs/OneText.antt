@@ -1,5 +1,6 @@
 -- A log has one text.
 use Rattle.std.proofs.Common.{◌≡◌, ◌==◌, ◌∙◌, ◌⊎◌, inl, inr, ℕ, ◌<◌, ◌≤◌, Bool, true, false, is_none, Option, Some, None, List, [], ◌++◌, refl, sym, ap, subst, arith}
+use Rattle.std.proofs.lemmas.Bool.{both_ways}
 use Rattle.quad_lanes.specs.Pairs.{first_bad_pair}
 use Rattle.phy_packet.specs.declared.packet.PhyPacket.{PhyPacket}
 use Rattle.phy_packet.proofs.Lemmas.{packet-shown}
@@ -10,20 +11,18 @@ use Rattle.bus_json.specs.Bus.{tree_members}
 use Rattle.reset_log.specs.declared.form.LogForm.{LogForm}
 use Rattle.reset_log.specs.declared.form.LogForm.TheVariants.{Text, Json}
 use Rattle.reset_log.specs.Json.{list_fault, IsListTold, told_refused, told_heard, reset_value}
-use Rattle.self_id.specs.Node.{Node}
 use Rattle.topology_stack.specs.declared.fault.TreeFault.{TreeFault}
 use Rattle.topology_stack.specs.Refused.{Refused}
 use Rattle.topology_stack.specs.Tree.{Tree}
 use Rattle.topology_stack.proofs.Lemmas.{one_tree, no_fault, one_fault}
-use Rattle.bus_manager.proofs.Lemmas.{one_hops}
-use Rattle.view_text.specs.Drawing.{IsDrawing, IsRoot, drawing}
+use Rattle.view_text.proofs.Lemmas.{same_drawing}
 use Rattle.reset_log.specs.declared.line.Origin.{Origin}
 use Rattle.reset_log.specs.declared.line.Origin.TheVariants.{Controller, Core}
 use Rattle.reset_log.specs.declared.line.Reset.{Reset}
 use Rattle.reset_log.specs.declared.line.LogLine.{LogLine}
 use Rattle.reset_log.specs.declared.line.LogLine.TheVariants.{Other, Lost, Said, Begins, Packet, Garbled, OfReset}
-use Rattle.reset_log.specs.declared.hear.ListFault.{ListFault}
-use Rattle.reset_log.specs.declared.hear.ListFault.TheVariants.{Cut, BadInverse, OfTree}
+use Rattle.capture_reading.specs.declared.fault.CaptureFault.{CaptureFault}
+use Rattle.capture_reading.specs.declared.fault.CaptureFault.TheVariants.{BadLength, BadInverse, Tree as OfTree}
 use Rattle.reset_log.specs.declared.cards.Known.{Known}
 use Rattle.reset_log.specs.Noted.{Noted, nothing, last_of, compared, after, waiting, begun_at, taken_by}
 use Rattle.reset_log.specs.declared.line.Begun.{Begun}
@@ -58,10 +57,10 @@ heard_tree : (standard : Standard) (origin : Origin) (list : List ℕ) (t : Tree
 heard_tree standard origin list t f (a, are, bus, is) (b, too, refused) =
     no_fault standard t f bus (subst (λ (l : List ℕ). Refused standard l f) (same_quads origin list b a too are ∙ sym is) refused)
 
-apart : (standard : Standard) (origin : Origin) (list : List ℕ) (t : Tree) (f : ListFault) →
+apart : (standard : Standard) (origin : Origin) (list : List ℕ) (t : Tree) (f : CaptureFault) →
     IsHeard standard origin list t → IsUnheard standard origin list f → ⊥
-apart standard Controller list t (Cut pair) h r = r.0 h.1.whole
-apart standard Core list t (Cut pair) h r = r
+apart standard Controller list t (BadLength pair) h r = r.0 h.1.whole
+apart standard Core list t (BadLength pair) h r = r
 apart standard Controller list t (BadInverse pair) h r =
     let good : first_bad_pair list ≡ None = h.1.good in
     let bad : first_bad_pair list ≡ Some pair = r.1 in
@@ -81,20 +80,20 @@ same_pair p q found a b = cc
 no_pair : (p : ℕ) (found : Option ℕ) → found ≡ Some p → found ≡ None → ⊥
 no_pair p found a b = cc
 
-same_fault : (standard : Standard) (origin : Origin) (list : List ℕ) (f g : ListFault) →
+same_fault : (standard : Standard) (origin : Origin) (list : List ℕ) (f g : CaptureFault) →
     IsUnheard standard origin list f → IsUnheard standard origin list g → f ≡ g
-same_fault standard Controller list (Cut p) (Cut q) x y = ap (λ (n : ℕ). Cut n) (x.1 ∙ sym y.1)
-same_fault standard Controller list (Cut p) (BadInverse q) x y = absurd (x.0 y.0)
-same_fault standard Controller list (Cut p) (OfTree g) x y = absurd (x.0 y.1.whole)
-same_fault standard Controller list (BadInverse p) (Cut q) x y = absurd (y.0 x.0)
+same_fault standard Controller list (BadLength p) (BadLength q) x y = ap (λ (n : ℕ). BadLength n) (x.1 ∙ sym y.1)
+same_fault standard Controller list (BadLength p) (BadInverse q) x y = absurd (x.0 y.0)
+same_fault standard Controller list (BadLength p) (OfTree g) x y = absurd (x.0 y.1.whole)
+same_fault standard Controller list (BadInverse p) (BadLength q) x y = absurd (y.0 x.0)
 same_fault standard Controller list (BadInverse p) (BadInverse q) x y = ap (λ (n : ℕ). BadInverse n) (same_pair p q _ x.1 y.1)
 same_fault standard Controller list (BadInverse p) (OfTree g) x y = absurd (no_pair p _ x.1 y.1.good)
-same_fault standard Controller list (OfTree f) (Cut q) x y = absurd (y.0 x.1.whole)
+same_fault standard Controller list (OfTree f) (BadLength q) x y = absurd (y.0 x.1.whole)
 same_fault standard Controller list (OfTree f) (BadInverse q) x y = absurd (no_pair q _ y.1 x.1.good)
 same_fault standard Controller list (OfTree f) (OfTree g) x y = same_tree_fault standard Controller list f g x y
-same_fault standard Core list (Cut p) g x y = absurd x
+same_fault standard Core list (BadLength p) g x y = absurd x
 same_fault standard Core list (BadInverse p) g x y = absurd x
-same_fault standard Core list (OfTree f) (Cut q) x y = absurd y
+same_fault standard Core list (OfTree f) (BadLength q) x y = absurd y
 same_fault standard Core list (OfTree f) (BadInverse q) x y = absurd y
 same_fault standard Core list (OfTree f) (OfTree g) x y = same_tree_fault standard Core list f g x y
 
@@ -112,7 +111,7 @@ same_before origin list at (Some p) None x y = absurd (none_there (packet_count 
 same_before origin list at (Some p) (Some q) x y =
     ap (λ (z : PhyPacket). Some z) (sym (packet-shown _ p x.2) ∙ packet-shown _ q y.2)
 
-same_refusal : (standard : Standard) (origin : Origin) (front list : List ℕ) (f : ListFault) (a b : List ℕ) →
+same_refusal : (standard : Standard) (origin : Origin) (front list : List ℕ) (f : CaptureFault) (a b : List ℕ) →
     IsRefusalShown standard origin front list f a → IsRefusalShown standard origin front list f b →
     a ≡ b
 same_refusal standard origin front list f a b x y =
@@ -121,14 +120,6 @@ same_refusal standard origin front list f a b x y =
     ∙ sym y.text_is
 
 -- ---- a tree has one text
-
-one_root : (t : Tree) (m n : Node) → IsRoot t m → IsRoot t n → m ≡ n
-one_root t m n x y = cc
-
-pub same_drawing : (t : Tree) (a b : List ℕ) → IsDrawing t a → IsDrawing t b → a ≡ b
-same_drawing t a b x y =
-    x.text_is ∙ ap (λ (h : ℕ). drawing t h x.root.attrs.gap) (one_hops t x.hops y.hops x.are_hops y.are_hops)
-    ∙ ap (λ (n : Node). drawing t y.hops n.attrs.gap) (one_root t x.root y.root x.is_root y.is_root) ∙ sym y.text_is
 
 same_body : (before : Option Tree) (t : Tree) (a b more too : List ℕ) → IsBody before t a more →
     IsBody before t b too → (a ≡ b) × (more ≡ too)
@@ -157,7 +148,7 @@ pub same_list : (standard : Standard) (origin : Origin) (front list : List ℕ) 
     IsListShown standard origin front list before b g → (a ≡ b) × (h ≡ g)
 same_list standard origin front list before a b h g (is_refused f un shown e) (is_refused k too again d) =
     let same : f ≡ k = same_fault standard origin list f k un too in
-    (same_refusal standard origin front list k a b (subst (λ (x : ListFault). IsRefusalShown standard origin front list x a) same shown) again, e ∙ sym d)
+    (same_refusal standard origin front list k a b (subst (λ (x : CaptureFault). IsRefusalShown standard origin front list x a) same shown) again, e ∙ sym d)
 same_list standard origin front list before a b h g (is_refused f un shown e) (is_heard t heard again d) =
     absurd (apart standard origin list t f heard un)
 same_list standard origin front list before a b h g (is_heard t heard shown e) (is_refused f un again d) =
@@ -168,14 +159,11 @@ same_list standard origin front list before a b h g (is_heard t heard shown e) (
       e ∙ ap (λ (x : Tree). Some x) same ∙ sym d,
     )
 
-both : (x : Bool) → x ≡ true → x ≡ false → ⊥
-both x e f = cc
-
 -- a list is told as one thing
 pub same_told : (standard : Standard) (origin : Origin) (list : List ℕ) (a b : Members) (h g : Option Tree) →
     IsListTold standard origin list a h → IsListTold standard origin list b g → (a ≡ b) × (h ≡ g)
 same_told standard origin list a b h g (told_refused f un shown e) (told_refused k too again d) =
-    (shown ∙ ap (λ (x : ListFault). list_fault x) (same_fault standard origin list f k un too) ∙ sym again, e ∙ sym d)
+    (shown ∙ ap (λ (x : CaptureFault). list_fault x) (same_fault standard origin list f k un too) ∙ sym again, e ∙ sym d)
 same_told standard origin list a b h g (told_refused f un shown e) (told_heard t heard again d) =
     absurd (apart standard origin list t f heard un)
 same_told standard origin list a b h g (told_heard t heard shown e) (told_refused f un again d) =
@@ -197,14 +185,14 @@ same_reset : (form : LogForm) (n : ℕ) (before : Option Known) (ks : Noted) (r 
     AreSame a b c d p q
 same_reset form n before ks r a b c d p q (is_passed_over rep e f g) (is_passed_over too h i j) =
     (e ∙ sym h, f ∙ sym i, g ∙ sym j)
-same_reset form n before ks r a b c d p q (is_passed_over rep e f g) (is_unjudged new err h i j) = absurd (both _ rep new)
-same_reset form n before ks r a b c d p q (is_passed_over rep e f g) (is_judged heard new well shown i j) = absurd (both _ rep new)
-same_reset form n before ks r a b c d p q (is_unjudged new err e f g) (is_passed_over rep h i j) = absurd (both _ rep new)
-same_reset form n before ks r a b c d p q (is_judged heard new well shown e f) (is_passed_over rep h i j) = absurd (both _ rep new)
+same_reset form n before ks r a b c d p q (is_passed_over rep e f g) (is_unjudged new err h i j) = absurd (both_ways _ new rep)
+same_reset form n before ks r a b c d p q (is_passed_over rep e f g) (is_judged heard new well shown i j) = absurd (both_ways _ new rep)
+same_reset form n before ks r a b c d p q (is_unjudged new err e f g) (is_passed_over rep h i j) = absurd (both_ways _ new rep)
+same_reset form n before ks r a b c d p q (is_judged heard new well shown e f) (is_passed_over rep h i j) = absurd (both_ways _ new rep)
 same_reset form n before ks r a b c d p q (is_unjudged new err e f g) (is_unjudged now too h i j) =
     (e ∙ sym h, f ∙ sym i, g ∙ sym j)
-same_reset form n before ks r a b c d p q (is_unjudged new err e f g) (is_judged heard now well shown i j) = absurd (both r.is_error err well)
-same_reset form n before ks r a b c d p q (is_judged heard new well shown i j) (is_unjudged now err e f g) = absurd (both r.is_error err well)
+same_reset form n before ks r a b c d p q (is_unjudged new err e f g) (is_judged heard now well shown i j) = absurd (both_ways r.is_error well err)
+same_reset form n before ks r a b c d p q (is_judged heard new well shown i j) (is_unjudged now err e f g) = absurd (both_ways r.is_error well err)
 same_reset form n before ks r a b c d p q (is_judged h new well shown e f) (is_judged g now too again i j) =
     let same = same_judged form n before r a b h g shown again in (
       same.0,

@@ -5,17 +5,14 @@ use Rattle.self_id.specs.declared.standard.Standard.{Standard}
 use Rattle.topology_stack.specs.Tree.{Tree}
 use Rattle.json.specs.Json.{string, Members, member, max_depth}
 use Rattle.json.specs.Tree.{depth, members_depth}
-use Rattle.bus_json.specs.declared.refusal.Counts.{Counts}
 use Rattle.bus_json.specs.Text.{numeral}
-use Rattle.bus_json.specs.Refusal.{fault_members, refused_members}
-use Rattle.bus_json.proofs.Lemmas.{tree_shallow}
+use Rattle.bus_json.proofs.Lemmas.{tree_shallow, refusal_shallow}
 use Rattle.reset_log.specs.declared.line.Origin.{Origin}
 use Rattle.reset_log.specs.declared.line.Reset.{Reset}
 use Rattle.reset_log.specs.declared.cards.Known.{Known}
 use Rattle.reset_log.specs.declared.counts.Tally.{Tally}
 use Rattle.reset_log.specs.Device.{device_text}
 use Rattle.reset_log.specs.Noted.{Noted, since, missing, most_of}
-use Rattle.reset_log.specs.Texts.{place, kind, known_counts}
 use Rattle.reset_log.specs.Json.{IsListTold, told_refused, told_heard, card_value, name_members, known_member, head_members, reset_value, most_members, totals_value}
 
 card_shallow : (card : ℕ) → depth (card_value card) ≤ 0
@@ -41,15 +38,10 @@ head_shallow n before r rest =
     let after = known_member (codes "after") (since before r) last in
     omega (arith, name_shallow n r (known_member (codes "time") r.time after), known_shallow (codes "time") r.time after, known_shallow (codes "after") (since before r) last, known_shallow (codes "local") r.local rest)
 
-fault_shallow : (pair : ℕ) (word : List ℕ) (known : Option Counts) →
-    members_depth (refused_members (fault_members pair word known)) ≤ 1
-fault_shallow pair word None = omega arith
-fault_shallow pair word (Some c) = omega arith
-
 pub told_shallow : (standard : Standard) (origin : Origin) (list : List ℕ) (members : Members) (heard : Option Tree) →
     IsListTold standard origin list members heard → members_depth members ≤ 4
 told_shallow standard origin list ms heard (told_refused f un e none) =
-    subst (λ (m : Members). members_depth m ≤ 4) (sym e) (omega (arith, fault_shallow (place f) (kind f) (known_counts f)))
+    subst (λ (m : Members). members_depth m ≤ 4) (sym e) (omega (arith, refusal_shallow f))
 told_shallow standard origin list ms heard (told_heard t is e some) =
     subst (λ (m : Members). members_depth m ≤ 4) (sym e) (tree_shallow [] t)
 

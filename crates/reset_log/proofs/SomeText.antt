@@ -1,6 +1,6 @@
 -- Each log has a text.
-use Rattle.std.proofs.Common.{◌≡◌, ◌==◌, ◌⊎◌, inl, inr, ℕ, zero, suc, ◌-◌, ◌*◌, ◌/◌, ◌%◌, ◌^◌, ◌<◌, ◌≤◌, ◌&&◌, Bool, true, false, eqb, eqb-true, is_none, Option, Some, None, List, [], ◌∷◌, ◌++◌, length, take, refl, ap, subst, arith}
-use Rattle.std.specs.Prelude.{if◌then◌else◌, map, nat_lt, nat_le, slice_index, codes}
+use Rattle.std.proofs.Common.{◌≡◌, ◌==◌, ◌⊎◌, inl, inr, ℕ, zero, suc, ◌-◌, ◌*◌, ◌/◌, ◌%◌, ◌^◌, ◌<◌, ◌≤◌, Bool, true, false, eqb, eqb-true, is_none, Option, Some, None, List, [], ◌∷◌, ◌++◌, length, take, refl, ap, subst, arith}
+use Rattle.std.specs.Prelude.{if◌then◌else◌, map, nat_lt, slice_index, codes}
 use Rattle.std.specs.List.{slice_split}
 use Rattle.std.proofs.lemmas.Bool.{eqb-false}
 use Rattle.std.proofs.lemmas.Bool.Decides.{nat_tests}
@@ -21,8 +21,9 @@ use Rattle.reset_log.specs.declared.line.Origin.TheVariants.{Controller, Core}
 use Rattle.reset_log.specs.declared.line.Reset.{Reset}
 use Rattle.reset_log.specs.declared.line.LogLine.{LogLine}
 use Rattle.reset_log.specs.declared.line.LogLine.TheVariants.{Other, Lost, Said, Begins, Packet, Garbled, OfReset}
-use Rattle.reset_log.specs.declared.hear.ListFault.{ListFault}
-use Rattle.reset_log.specs.declared.hear.ListFault.TheVariants.{Cut, BadInverse, OfTree}
+use Rattle.capture_reading.specs.declared.fault.CaptureFault.{CaptureFault}
+use Rattle.capture_reading.specs.declared.fault.CaptureFault.TheVariants.{BadLength, BadInverse, Tree as OfTree}
+use Rattle.capture_reading.specs.Line.{refusal_of}
 use Rattle.reset_log.specs.Noted.{Noted, nothing, is_repeated, last_of, compared, after, behind_loss, waiting, begun_at, with_packet, taken_by}
 use Rattle.reset_log.specs.declared.cards.Known.{Known}
 use Rattle.line_words.specs.Digits.{of_digits}
@@ -38,7 +39,7 @@ use Rattle.reset_log.specs.Listing.{before_comma, digits_in, is_of_packet, is_of
 use Rattle.reset_log.specs.declared.line.Begun.{Begun}
 use Rattle.reset_log.specs.declared.notes.Pending.{Pending}
 use Rattle.reset_log.specs.Hear.{IsHeard, IsUnheard}
-use Rattle.reset_log.specs.Texts.{head, place, numbers, changes, node_changes, initiators, refused}
+use Rattle.reset_log.specs.Texts.{head, numbers, changes, node_changes, initiators, refused}
 use Rattle.reset_log.specs.Sentence.{packet_count, quad_at, IsBefore, sentence}
 use Rattle.reset_log.specs.Shown.{IsJudged, unjudged_text, garbled_text, lost_text, told_text, totals_text, IsBody, the_same, drawn, IsListShown, is_refused, is_heard, IsResetShown, is_passed_over, is_unjudged, is_judged, IsPendingShown, IsBegunShown, IsLastShown, IsPacketShown, IsShown, IsLineShown}
 use Rattle.reset_log.specs.Log.{lines_of}
@@ -257,7 +258,7 @@ fine_taken (Some p) card quad fine lt = go (p.reset.card == card)
 
 abbrev HeardOrNot : Standard → Origin → List ℕ → Type 0
 HeardOrNot standard origin list =
-    ((t : Tree) × IsHeard standard origin list t) ⊎ ((f : ListFault) × IsUnheard standard origin list f)
+    ((t : Tree) × IsHeard standard origin list t) ⊎ ((f : CaptureFault) × IsUnheard standard origin list f)
 
 pairs_heard : (standard : Standard) (list : List ℕ) (bad : Option ℕ) → length list % 2 ≡ 0 →
     first_bad_pair list ≡ bad → HeardOrNot standard Controller list
@@ -275,7 +276,7 @@ heard_or_not standard Core list = elim (one_of standard list) [
 heard_or_not standard Controller list =
     elim (eqb (length list % 2) 0) as (λ (v : Bool). eqb (length list % 2) 0 ≡ v → HeardOrNot standard Controller list) [
       | true ↦ λ e. pairs_heard standard list (first_bad_pair list) (eqb-true _ _ e) refl
-      | false ↦ λ e. inr (Cut (length list / 2), (eqb-false _ _ e, refl))
+      | false ↦ λ e. inr (BadLength (length list / 2), (eqb-false _ _ e, refl))
     ] refl
 
 -- ---- a fault has a text
@@ -340,7 +341,7 @@ some_list standard origin front list before f = elim (heard_or_not standard orig
       let b = some_body before t in
       (front ++ (numbers t ++ (b.0 ++ (changes before t ++ (b.1 ++ initiators 0 (walk t))))), Some t, is_heard t h (record { body = b.0; by_node = b.1; is_body = b.2; text_is = refl }) refl)
   | inr (g, un) ↦
-      let p = some_before origin list (place g) f in
+      let p = some_before origin list (refusal_of g).pair f in
       (refused front g ++ sentence standard origin list p.0 g, None, is_refused g un (record { before = p.0; is_before = p.1; text_is = refl }) refl)
 ]
 

@@ -6,8 +6,8 @@ use Rattle.topology_stack.specs.Tree.{Tree, IsBusTreeOf, emits}
 use Rattle.topology_stack.specs.Refused.{Refused}
 use Rattle.reset_log.specs.declared.line.Origin.{Origin}
 use Rattle.reset_log.specs.declared.line.Origin.TheVariants.{Controller, Core}
-use Rattle.reset_log.specs.declared.hear.ListFault.{ListFault}
-use Rattle.reset_log.specs.declared.hear.ListFault.TheVariants.{Cut, BadInverse, OfTree}
+use Rattle.capture_reading.specs.declared.fault.CaptureFault.{CaptureFault}
+use Rattle.capture_reading.specs.declared.fault.CaptureFault.TheVariants.{BadLength, BadInverse, Tree as OfTree}
 
 -- quadlets and their inverses, of which these are the first ones
 pub record ArePairs (list quads : List ℕ) : Type 0 where
@@ -27,12 +27,18 @@ IsHeard standard origin list t =
 
 -- the fault that a list has by its origin and a standard: it ends within a pair, a pair is bad, or
 -- the packets' quadlets are of no bus tree
-abbrev pub IsUnheard : Standard → Origin → List ℕ → ListFault → Type 0
-IsUnheard standard Controller list (Cut pair) =
+abbrev pub IsUnheard : Standard → Origin → List ℕ → CaptureFault → Type 0
+IsUnheard standard Controller list (BadLength pair) =
     (length list % 2 ≢ 0) × (pair ≡ length list / 2)
-IsUnheard standard Core list (Cut pair) = ⊥
+IsUnheard standard Core list (BadLength pair) = ⊥
 IsUnheard standard Controller list (BadInverse pair) =
     (length list % 2 ≡ 0) × (first_bad_pair list ≡ Some pair)
 IsUnheard standard Core list (BadInverse pair) = ⊥
 IsUnheard standard origin list (OfTree f) =
     (quads : List ℕ) × AreQuads origin list quads × Refused standard quads f
+
+-- the fault is that of a list of packets' quadlets
+abbrev pub IsTreeFault : Standard → List ℕ → CaptureFault → Type 0
+IsTreeFault standard quads (BadLength pair) = ⊥
+IsTreeFault standard quads (BadInverse pair) = ⊥
+IsTreeFault standard quads (OfTree f) = Refused standard quads f

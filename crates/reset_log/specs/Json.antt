@@ -11,22 +11,21 @@ use Rattle.reset_log.specs.declared.line.Reset.{Reset}
 use Rattle.reset_log.specs.declared.cards.Known.{Known}
 use Rattle.reset_log.specs.declared.counts.Tally.{Tally}
 use Rattle.reset_log.specs.declared.notes.Pending.{Pending}
-use Rattle.reset_log.specs.declared.hear.ListFault.{ListFault}
+use Rattle.capture_reading.specs.declared.fault.CaptureFault.{CaptureFault}
 use Rattle.reset_log.specs.Hear.{IsHeard, IsUnheard}
 use Rattle.reset_log.specs.Device.{device_text}
 use Rattle.reset_log.specs.Noted.{Noted, since, missing, most_of}
-use Rattle.reset_log.specs.Texts.{place, kind, known_counts}
 
 -- ---- a list
 
 -- why a list is refused, as `busconf read` has it
-abbrev pub list_fault : ListFault → Members
-list_fault f = refused_members (fault_members (place f) (kind f) (known_counts f))
+abbrev pub list_fault : CaptureFault → Members
+list_fault f = refused_members (fault_members f)
 
 -- what a list is told as: the members of the tree that it is heard as, or of its fault
 pub data IsListTold (standard : Standard) (origin : Origin) (list : List ℕ) (members : Members)
     (heard : Option Tree) : Type 0 where
-  told_refused : (f : ListFault) → IsUnheard standard origin list f → members ≡ list_fault f → heard ≡ None →
+  told_refused : (f : CaptureFault) → IsUnheard standard origin list f → members ≡ list_fault f → heard ≡ None →
       IsListTold standard origin list members heard
   told_heard : (t : Tree) → IsHeard standard origin list t → members ≡ tree_members [] t → heard ≡ Some t →
       IsListTold standard origin list members heard

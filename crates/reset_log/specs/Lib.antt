@@ -11,7 +11,6 @@ pub mod Device
 pub mod Local
 pub mod Listing
 pub mod Line
-pub mod Stop
 pub mod Hear
 pub mod Texts
 pub mod Json

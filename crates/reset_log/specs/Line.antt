@@ -11,7 +11,7 @@ use Rattle.reset_log.specs.Lists.{list_of}
 use Rattle.reset_log.specs.declared.line.Origin.{Origin}
 use Rattle.reset_log.specs.declared.line.Origin.TheVariants.{Controller, Core}
 use Rattle.reset_log.specs.declared.line.LogLine.{LogLine}
-use Rattle.reset_log.specs.declared.line.LogLine.TheVariants.{Other, Lost, Said, Garbled, OfReset}
+use Rattle.reset_log.specs.declared.line.LogLine.TheVariants.{Lost, Said, Garbled, OfReset}
 
 -- the event that a word names, alone or behind its system's name
 abbrev pub event_of : List ℕ → Option Origin

@@ -6,9 +6,10 @@ use Rattle.self_id.specs.declared.standard.Standard.{Standard}
 use Rattle.view_text.specs.Sentence.{first_at, second_at, length_sentence, inverse_sentence, tree_sentence}
 use Rattle.reset_log.specs.declared.line.Origin.{Origin}
 use Rattle.reset_log.specs.declared.line.Origin.TheVariants.{Controller, Core}
-use Rattle.reset_log.specs.declared.hear.ListFault.{ListFault}
-use Rattle.reset_log.specs.declared.hear.ListFault.TheVariants.{Cut, BadInverse, OfTree}
-use Rattle.reset_log.specs.Texts.{place, refused}
+use Rattle.capture_reading.specs.declared.fault.CaptureFault.{CaptureFault}
+use Rattle.capture_reading.specs.declared.fault.CaptureFault.TheVariants.{BadLength, BadInverse, Tree as OfTree}
+use Rattle.capture_reading.specs.Line.{refusal_of}
+use Rattle.reset_log.specs.Texts.{refused}
 
 -- how many packets are whole in a list: a controller's has a pair for each, the kernel's a quadlet
 abbrev pub packet_count : Origin → List ℕ → ℕ
@@ -27,16 +28,16 @@ IsBefore origin list at (Some p) =
     (0 < at) × (at ≤ packet_count origin list) × Shows (quad_at origin list (at - 1)) p
 
 -- by a standard, with the packet before the place of the fault
-abbrev pub sentence : Standard → Origin → List ℕ → Option PhyPacket → ListFault → List ℕ
-sentence standard origin list before (Cut pair) = length_sentence
+abbrev pub sentence : Standard → Origin → List ℕ → Option PhyPacket → CaptureFault → List ℕ
+sentence standard origin list before (BadLength pair) = length_sentence
 sentence standard origin list before (BadInverse pair) =
     inverse_sentence (first_at list pair) (second_at list pair)
 sentence standard origin list before (OfTree f) =
-    tree_sentence standard (quad_at origin list (place (OfTree f))) before f
+    tree_sentence standard (quad_at origin list (refusal_of (OfTree f)).pair) before f
 
 -- the head of a reset whose list has this fault, the line of the fault, and the sentence
 pub record IsRefusalShown (standard : Standard) (origin : Origin) (head list : List ℕ)
-    (f : ListFault) (text : List ℕ) : Type 0 where
+    (f : CaptureFault) (text : List ℕ) : Type 0 where
   pub before : Option PhyPacket
-  pub is_before : IsBefore origin list (place f) before
+  pub is_before : IsBefore origin list (refusal_of f).pair before
   pub text_is : text ≡ refused head f ++ sentence standard origin list before f

@@ -7,7 +7,7 @@ use Rattle.reset_log.specs.declared.line.Origin.{Origin}
 use Rattle.reset_log.specs.declared.line.Reset.{Reset}
 use Rattle.reset_log.specs.declared.line.LogLine.{LogLine}
 use Rattle.reset_log.specs.declared.line.LogLine.TheVariants.{Other, Lost, Said, Begins, Packet, Garbled, OfReset}
-use Rattle.reset_log.specs.declared.hear.ListFault.{ListFault}
+use Rattle.capture_reading.specs.declared.fault.CaptureFault.{CaptureFault}
 use Rattle.reset_log.specs.declared.cards.Known.{Known}
 use Rattle.reset_log.specs.declared.line.Begun.{Begun}
 use Rattle.reset_log.specs.declared.notes.Pending.{Pending}
@@ -53,7 +53,7 @@ pub record IsTreeShown (head : List ℕ) (before : Option Tree) (t : Tree) (text
 -- tree that it is heard as, if it is
 pub data IsListShown (standard : Standard) (origin : Origin) (head list : List ℕ)
     (before : Option Tree) (text : List ℕ) (heard : Option Tree) : Type 0 where
-  is_refused : (f : ListFault) → IsUnheard standard origin list f →
+  is_refused : (f : CaptureFault) → IsUnheard standard origin list f →
       IsRefusalShown standard origin head list f text → heard ≡ None →
       IsListShown standard origin head list before text heard
   is_heard : (t : Tree) → IsHeard standard origin list t → IsTreeShown head before t text →

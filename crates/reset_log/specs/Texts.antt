@@ -1,23 +1,20 @@
 -- The texts that show the resets of a log.
 use Rattle.std.specs.Prelude.{ℕ, ◌+◌, ◌-◌, ◌/◌, ◌%◌, ◌==◌, Bool, true, false, not, ◌&&◌, if◌then◌else◌, Option, Some, None, List, [], ◌∷◌, ◌++◌, length, slice_get, codes}
-use Rattle.self_id.specs.declared.fault.GroupFault.TheVariants.{NotSelfId, WrongId, BadOrder, Cut as GroupCut, TwoParents}
 use Rattle.self_id.specs.Node.{Node}
-use Rattle.topology_stack.specs.declared.fault.TreeFault.TheVariants.{Group, Empty, TooFewChildren, TreesLeft, AfterRoot, NoRoot, TooMany}
 use Rattle.topology_stack.specs.Tree.{Tree, walk}
 use Rattle.topology_stack.specs.Elect.{elected}
 use Rattle.view_text.specs.Packet.{field}
 use Rattle.view_text.specs.Drawing.{all_have}
 use Rattle.bus_diff.specs.Listed.{changes_along}
 use Rattle.bus_diff.specs.Text.{changes_text}
-use Rattle.bus_json.specs.declared.refusal.Counts.{Counts}
 use Rattle.reset_log.specs.declared.line.Reset.{Reset}
 use Rattle.reset_log.specs.declared.cards.Known.{Known}
 use Rattle.reset_log.specs.declared.counts.Tally.{Tally}
 use Rattle.reset_log.specs.declared.notes.Pending.{Pending}
 use Rattle.reset_log.specs.Device.{card_field}
 use Rattle.reset_log.specs.Noted.{Noted, since, missing, most_of}
-use Rattle.reset_log.specs.declared.hear.ListFault.{ListFault}
-use Rattle.reset_log.specs.declared.hear.ListFault.TheVariants.{Cut, BadInverse, OfTree}
+use Rattle.capture_reading.specs.declared.fault.CaptureFault.{CaptureFault}
+use Rattle.capture_reading.specs.Line.{fault_line}
 
 -- `line N garbled`
 unfoldable pub garbled : ℕ → List ℕ
@@ -74,68 +71,8 @@ unjudged number before r = head number before r ++ codes " is_error, not judged\
 
 -- ---- a list that is refused
 
--- where, by which rule, and what was found and wanted, as `busconf read` has all three
-abbrev pub place : ListFault → ℕ
-place (Cut pair) = pair
-place (BadInverse pair) = pair
-place (OfTree (Group (NotSelfId at))) = at
-place (OfTree (Group (WrongId at found wanted))) = at
-place (OfTree (Group (BadOrder at))) = at
-place (OfTree (Group (GroupCut at))) = at
-place (OfTree (Group (TwoParents at))) = at
-place (OfTree Empty) = 0
-place (OfTree (TooFewChildren at found wanted)) = at
-place (OfTree (TreesLeft at found wanted)) = at
-place (OfTree (AfterRoot at)) = at
-place (OfTree (NoRoot at)) = at
-place (OfTree (TooMany at)) = at
-
-abbrev pub kind : ListFault → List ℕ
-kind (Cut pair) = codes "BadLength"
-kind (BadInverse pair) = codes "BadInverse"
-kind (OfTree (Group (NotSelfId at))) = codes "NotSelfId"
-kind (OfTree (Group (WrongId at found wanted))) = codes "WrongId"
-kind (OfTree (Group (BadOrder at))) = codes "BadOrder"
-kind (OfTree (Group (GroupCut at))) = codes "Cut"
-kind (OfTree (Group (TwoParents at))) = codes "TwoParents"
-kind (OfTree Empty) = codes "Empty"
-kind (OfTree (TooFewChildren at found wanted)) = codes "TooFewChildren"
-kind (OfTree (TreesLeft at found wanted)) = codes "TreesLeft"
-kind (OfTree (AfterRoot at)) = codes "AfterRoot"
-kind (OfTree (NoRoot at)) = codes "NoRoot"
-kind (OfTree (TooMany at)) = codes "TooMany"
-
--- what was found and what was wanted, where both are known
-abbrev pub known_counts : ListFault → Option Counts
-known_counts (Cut pair) = None
-known_counts (BadInverse pair) = None
-known_counts (OfTree (Group (NotSelfId at))) = None
-known_counts (OfTree (Group (WrongId at found wanted))) = Some (record { found = found; wanted = wanted })
-known_counts (OfTree (Group (BadOrder at))) = None
-known_counts (OfTree (Group (GroupCut at))) = None
-known_counts (OfTree (Group (TwoParents at))) = None
-known_counts (OfTree Empty) = None
-known_counts (OfTree (TooFewChildren at found wanted)) = Some (record { found = found; wanted = wanted })
-known_counts (OfTree (TreesLeft at found wanted)) = Some (record { found = found; wanted = wanted })
-known_counts (OfTree (AfterRoot at)) = None
-known_counts (OfTree (NoRoot at)) = None
-known_counts (OfTree (TooMany at)) = None
-
-unfoldable pub counts : ℕ → ℕ → List ℕ
-counts found wanted = field (codes " found ") found ++ field (codes " wanted ") wanted
-
-abbrev pub counts_of : Option Counts → List ℕ
-counts_of None = []
-counts_of (Some c) = counts c.found c.wanted
-
--- `refused pair P KIND`, and behind some kinds ` found F wanted W`
-unfoldable pub fault_line : ListFault → List ℕ
-fault_line f =
-    field (codes "refused pair ") (place f)
-    ++ (codes " " ++ (kind f ++ (counts_of (known_counts f) ++ codes "\n")))
-
 -- behind the head of a reset
-unfoldable pub refused : List ℕ → ListFault → List ℕ
+unfoldable pub refused : List ℕ → CaptureFault → List ℕ
 refused head f = head ++ (codes "\n" ++ fault_line f)
 
 -- ---- a list that is heard as a tree

@@ -34,7 +34,6 @@ mod words;
 pub use cards::Known;
 pub use counts::{Counts, Tally, count_begun, count_reset, most_of};
 pub use form::{LogForm, resets_form};
-pub use hear::ListFault;
 pub use laws::logs_have_one_text;
 pub use line::{Begun, LogLine, Origin, Reset, line_of};
 pub use log::{MAX_LOG, show_log};

@@ -2,9 +2,9 @@
 ghost use Rattle.std.specs.Prelude.{◌≡◌, ◌++◌, IfOk, OnOk};
 ghost use Rattle.reset_log.specs.Sentence.{packet_count, quad_at, IsBefore, sentence, IsRefusalShown};
 
-use crate::hear::ListFault;
 use crate::line::Origin;
-use crate::texts::{place, put_refused};
+use crate::texts::put_refused;
+use capture_reading::{CaptureFault, refusal_of};
 use phy_packet::{PhyPacket, decode};
 use self_id::Standard;
 use std::alloc::{AllocError, Global};
@@ -49,18 +49,18 @@ fn put_sentence(
     origin: Origin,
     list: &[u32],
     before: Option<PhyPacket>,
-    fault: ListFault,
+    fault: CaptureFault,
 ) -> Result<(), AllocError>
     ensures { OnOk result (out.new.items
         ≡ out.old.items ++ sentence standard origin list.now before fault) }
 {
-    let at = place(fault);
+    let at = refusal_of(fault).pair;
     match fault {
-        ListFault::Cut { .. } => put_length_sentence(out),
-        ListFault::BadInverse { pair } => {
+        CaptureFault::BadLength { .. } => put_length_sentence(out),
+        CaptureFault::BadInverse { pair } => {
             put_inverse_sentence(out, first_at(list, pair), second_at(list, pair))
         }
-        ListFault::OfTree(fault) => {
+        CaptureFault::Tree(fault) => {
             put_tree_sentence(out, standard, quad_at(origin, list, at), before, fault)
         }
     }
@@ -73,12 +73,12 @@ pub(crate) fn refusal_text(
     origin: Origin,
     head: &[u8],
     list: &[u32],
-    fault: ListFault,
+    fault: CaptureFault,
 ) -> Result<Vec<u8>, AllocError>
     ensures { IfOk result (λ text.
         IsRefusalShown standard origin head.now list.now fault text.items) }
 {
-    let before = before_at(origin, list, place(fault));
+    let before = before_at(origin, list, refusal_of(fault).pair);
     let mut text = Vec::new(alloc);
     put_refused(&mut text, head, fault)?;
     put_sentence(&mut text, standard, origin, list, before, fault)?;

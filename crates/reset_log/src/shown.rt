@@ -11,13 +11,14 @@ ghost use Rattle.reset_log.specs.Shown.{WasDrawn, WasOther, IsBody, IsTreeShown,
 use crate::cards::{Known, compared, is_repeated, last_of};
 use crate::form::LogForm;
 use crate::heads::{last_line, put_head, put_lost, put_told, put_unjudged};
-use crate::hear::{ListStop, hear};
+use crate::hear::hear;
 use crate::line::{Begun, LogLine, Origin, Reset, line_of};
 use crate::notes::Notes;
 use crate::same::is_before;
 use crate::sentence::refusal_text;
 use crate::texts::{node_changes, put_changes, put_garbled, put_initiators, put_numbers};
 use crate::values::{garbled_line, lost_line, reset_line, told_line, totals_lines, unjudged_line};
+use capture_reading::CaptureStop;
 use self_id::Standard;
 use std::alloc::{AllocError, Global};
 use topology_stack::BusTree;
@@ -147,11 +148,11 @@ pub fn show_list(
                 tree: Some(tree),
             })
         }
-        Err(ListStop::Fault(fault)) => {
+        Err(CaptureStop::Fault(fault)) => {
             let text = refusal_text(alloc, standard, origin, head, list, fault)?;
             Ok(ListShown { text, tree: None })
         }
-        Err(ListStop::Memory(error)) => Err(error),
+        Err(CaptureStop::Memory(error)) => Err(error),
     }
 }
 

@@ -4,14 +4,13 @@ ghost use Rattle.std.specs.Option.{option_copied};
 ghost use Rattle.self_id.specs.Node.{Node};
 ghost use Rattle.topology_stack.specs.Tree.{walk};
 ghost use Rattle.view_text.specs.Drawing.{all_have};
-ghost use Rattle.reset_log.specs.Texts.{garbled, place, kind, known_counts, counts, counts_of, fault_line, refused, manager, numbers, other_nodes, same_manager, other_manager, gap_of, agree, gaps_differ, changed, changes, node_changes, initiator, initiators};
+ghost use Rattle.reset_log.specs.Texts.{garbled, refused, manager, numbers, other_nodes, same_manager, other_manager, gap_of, agree, gaps_differ, changed, changes, node_changes, initiator, initiators};
 
-use crate::hear::ListFault;
 use bus_diff::{changes_text, compare_along};
-use bus_json::Counts;
-use self_id::{GroupFault, SelfId};
+use capture_reading::{CaptureFault, fault_line};
+use self_id::SelfId;
 use std::alloc::{AllocError, Global};
-use topology_stack::{BusTree, TreeFault, elect};
+use topology_stack::{BusTree, elect};
 use view_text::put_field;
 
 /// Appends the line of a garbled event.
@@ -24,109 +23,18 @@ pub(crate) fn put_garbled(out: &mut Vec<u8>, number: u64) -> Result<(), AllocErr
     Ok(())
 }
 
-/// The pair at which a list is refused.
-pub(crate) fn place(fault: ListFault) -> usize
-    ensures { result ≡ place fault }
-{
-    match fault {
-        ListFault::Cut { pair } | ListFault::BadInverse { pair } => pair,
-        ListFault::OfTree(TreeFault::Group(fault)) => match fault {
-            GroupFault::NotSelfId { at }
-            | GroupFault::WrongId { at, .. }
-            | GroupFault::BadOrder { at }
-            | GroupFault::Cut { at }
-            | GroupFault::TwoParents { at } => at,
-        },
-        ListFault::OfTree(TreeFault::Empty) => 0,
-        ListFault::OfTree(TreeFault::TooFewChildren { at, .. })
-        | ListFault::OfTree(TreeFault::TreesLeft { at, .. })
-        | ListFault::OfTree(TreeFault::AfterRoot { at })
-        | ListFault::OfTree(TreeFault::NoRoot { at })
-        | ListFault::OfTree(TreeFault::TooMany { at }) => at,
-    }
-}
-
-/// The rule by which a list is refused.
-pub(crate) fn kind(fault: ListFault) -> &'static str
-    ensures { result.now ≡ kind fault }
-{
-    match fault {
-        ListFault::Cut { .. } => "BadLength",
-        ListFault::BadInverse { .. } => "BadInverse",
-        ListFault::OfTree(TreeFault::Group(fault)) => match fault {
-            GroupFault::NotSelfId { .. } => "NotSelfId",
-            GroupFault::WrongId { .. } => "WrongId",
-            GroupFault::BadOrder { .. } => "BadOrder",
-            GroupFault::Cut { .. } => "Cut",
-            GroupFault::TwoParents { .. } => "TwoParents",
-        },
-        ListFault::OfTree(TreeFault::Empty) => "Empty",
-        ListFault::OfTree(TreeFault::TooFewChildren { .. }) => "TooFewChildren",
-        ListFault::OfTree(TreeFault::TreesLeft { .. }) => "TreesLeft",
-        ListFault::OfTree(TreeFault::AfterRoot { .. }) => "AfterRoot",
-        ListFault::OfTree(TreeFault::NoRoot { .. }) => "NoRoot",
-        ListFault::OfTree(TreeFault::TooMany { .. }) => "TooMany",
-    }
-}
-
-/// What was found and what was wanted, where a fault has both.
-pub(crate) fn known_counts(fault: ListFault) -> Option<Counts>
-    ensures { result ≡ known_counts fault }
-{
-    match fault {
-        ListFault::OfTree(TreeFault::Group(GroupFault::WrongId { found, wanted, .. }))
-        | ListFault::OfTree(TreeFault::TooFewChildren { found, wanted, .. })
-        | ListFault::OfTree(TreeFault::TreesLeft { found, wanted, .. }) => {
-            Some(Counts { found, wanted })
-        }
-        _ => None,
-    }
-}
-
-#[tactic(auto, unfolding(crate::specs::Texts::counts))]
-fn put_found(out: &mut Vec<u8>, found: u8, wanted: u8) -> Result<(), AllocError>
-    ensures { OnOk result (out.new.items ≡ out.old.items ++ counts found wanted) }
-{
-    put_field(out, b" found ", u64::from(found))?;
-    put_field(out, b" wanted ", u64::from(wanted))?;
-    Ok(())
-}
-
-/// Appends what was found and wanted, where both are known.
-fn put_counts(out: &mut Vec<u8>, counts: Option<Counts>) -> Result<(), AllocError>
-    ensures { OnOk result (out.new.items ≡ out.old.items ++ counts_of counts) }
-{
-    match counts {
-        Some(Counts { found, wanted }) => put_found(out, found, wanted),
-        None => Ok(()),
-    }
-}
-
-/// Appends the line of a fault.
-#[tactic(auto, unfolding(crate::specs::Texts::fault_line))]
-fn put_fault(out: &mut Vec<u8>, fault: ListFault) -> Result<(), AllocError>
-    ensures { OnOk result (out.new.items ≡ out.old.items ++ fault_line fault) }
-{
-    put_field(out, b"refused pair ", place(fault) as u64)?;
-    out.extend_from_slice(b" ")?;
-    out.extend_from_slice(kind(fault).as_bytes())?;
-    put_counts(out, known_counts(fault))?;
-    out.extend_from_slice(b"\n")?;
-    Ok(())
-}
-
 /// Appends the head of a reset whose list is refused, and the line of the fault.
 #[tactic(auto, unfolding(crate::specs::Texts::refused))]
 pub(crate) fn put_refused(
     out: &mut Vec<u8>,
     head: &[u8],
-    fault: ListFault,
+    fault: CaptureFault,
 ) -> Result<(), AllocError>
     ensures { OnOk result (out.new.items ≡ out.old.items ++ refused head.now fault) }
 {
     out.extend_from_slice(head)?;
     out.extend_from_slice(b"\n")?;
-    put_fault(out, fault)?;
+    out.extend_from_slice(fault_line(fault).as_bytes())?;
     Ok(())
 }
 

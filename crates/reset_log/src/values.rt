@@ -9,28 +9,21 @@ ghost use Rattle.bus_json.specs.Lines.{IsJsonLine, AreJsonLines};
 ghost use Rattle.reset_log.specs.Noted.{since, missing};
 ghost use Rattle.reset_log.specs.Notes.{noted};
 ghost use Rattle.reset_log.specs.codings.Tokens.{name_tokens, known_tokens, head_tokens};
-ghost use Rattle.reset_log.specs.Json.{list_fault, IsListTold, card_value, ascii, IsResetTold, unjudged_value, cut_off_value, garbled_value, lost_value, told_value, most_members, totals_value, cut_off_lines, totals_lines};
+ghost use Rattle.reset_log.specs.Json.{IsListTold, card_value, ascii, IsResetTold, unjudged_value, cut_off_value, garbled_value, lost_value, told_value, most_members, totals_value, cut_off_lines, totals_lines};
 
 use crate::cards::{Known, missing, since};
 use crate::counts::{Tally, most_of};
 use crate::device::{DEVICES, put_device};
-use crate::hear::{ListFault, ListStop, hear};
+use crate::hear::hear;
 use crate::line::{Origin, Reset};
 use crate::notes::{Notes, Pending};
 use crate::shown::ListShown;
-use crate::texts::{kind, known_counts, place};
 use bus_json::{JsonText, put_refusal, put_tree};
+use capture_reading::CaptureStop;
 use self_id::Standard;
 use std::alloc::{AllocError, Global};
 use std::str;
 use topology_stack::BusTree;
-
-/// Writes why a list is refused, and ends the object.
-fn put_fault(out: &mut JsonText, fault: ListFault) -> Result<(), AllocError>
-    ensures { OnOk result (out.new ≡ out.old ++ members_tokens (list_fault fault)) }
-{
-    put_refusal(out, place(fault), kind(fault), known_counts(fault))
-}
 
 /// Writes what a list is heard as by a standard, as the last members of an object, and ends it: the members
 /// that `busview json` writes of a bus, or why the list is refused. It answers the tree that the list is
@@ -51,11 +44,11 @@ pub fn put_list(
             put_tree(out, &tree, &[])?;
             Ok(Some(tree))
         }
-        Err(ListStop::Fault(fault)) => {
-            put_fault(out, fault)?;
+        Err(CaptureStop::Fault(fault)) => {
+            put_refusal(out, fault)?;
             Ok(None)
         }
-        Err(ListStop::Memory(error)) => Err(error),
+        Err(CaptureStop::Memory(error)) => Err(error),
     }
 }
 

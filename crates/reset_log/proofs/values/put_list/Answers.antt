@@ -10,9 +10,9 @@ returns-in_ok-put_tree-in-Ok c = (
   c.in_ok-put_tree-in-Ok.ensures,
 )
 
-pub returns-in_ok-put_fault-in-Err-Fault : goal.returns-in_ok-put_fault-in-Err-Fault
-returns-in_ok-put_fault-in-Err-Fault c = (
+pub returns-in_ok-put_refusal-in-Err-Fault : goal.returns-in_ok-put_refusal-in-Err-Fault
+returns-in_ok-put_refusal-in-Err-Fault c = (
   list_fault c.in-Err-Fault.fault,
   told_refused c.in-Err-Fault.fault (rw c.in-Err-Fault.field-0-is at c.in-Err-Fault.ensures.fault) refl refl,
-  rw (← c.in-Err-Fault.fault-is) c.in_ok-put_fault-in-Err-Fault.ensures,
+  rw (← c.in-Err-Fault.fault-is) c.in_ok-put_refusal-in-Err-Fault.ensures,
 )
