@@ -139,6 +139,3 @@ not_long s l f h ends = at (leb (length l) 252) refl
     at : (few : Bool) → leb (length l) 252 ≡ few → length l ≤ 252
     at true e = leb-true _ _ e
     at false e = absurd (ends (long_lasts s l f h (omega (arith, leb-false _ _ e))))
-
-pub both : (b : Bool) → b ≡ true → b ≡ false → ⊥
-both b x y = cc

@@ -10,7 +10,7 @@ use Rattle.reset_log.specs.Notes.{noted}
 use Rattle.reset_log.specs.declared.log.LogReader.{LogReader}
 use Rattle.reset_log.specs.declared.stop.LogStop.{LogStop}
 use Rattle.reset_log.specs.Shown.{IsLineShown}
-use Rattle.reset_log.specs.Log.{Parted, onto_first, parted, open_lines, lines_of, AreShown, IsLogShown, AreWritten}
+use Rattle.reset_log.specs.Log.{onto_first, parted, open_lines, lines_of, AreShown, IsLogShown, AreWritten}
 use Rattle.reset_log.specs.Cause.{StoppedWriting}
 use Rattle.reset_log.specs.Answered.{IsExact, IsComplete}
 use Rattle.reset_log.specs.Wrote.{Wrote, WroteFront, WroteFrontOf}

@@ -14,7 +14,7 @@ use Rattle.reset_log.specs.Shown.{totals_text}
 use Rattle.reset_log.specs.Wrote.{Wrote}
 use Rattle.reset_log.specs.codings.Going.{IsNew, Stands, ShowsLine, ShowsLines, ShowsAll, Reads}
 use Rattle.reset_log.proofs.InOrder.{one_more}
-use Rattle.reset_log.proofs.Standing.{by_front}
+use Rattle.reset_log.proofs.Standing.{by_front, none_kept}
 use Rattle.reset_log.proofs.Wrote.{wrote_nothing, wrote_then}
 
 -- ---- the last line
@@ -30,11 +30,6 @@ some_open done ne = go (parted done).open_line ne
     go [] none = absurd (none refl)
     go (b ∷ bytes) none = refl
 
-empty_front : (n : ℕ) (xs : List ℕ) → 0 < n → take n xs ≡ [] → xs ≡ []
-empty_front zero xs some e = absurd (omega (arith, some))
-empty_front (suc n) [] some e = refl
-empty_front (suc n) (x ∷ xs) some e = absurd cc
-
 pub front_of_none : (n : ℕ) (xs : List ℕ) → xs ≡ [] → take n xs ≡ []
 front_of_none zero xs e = refl
 front_of_none (suc n) [] e = refl
@@ -45,7 +40,7 @@ pub ended : {K : Type 0} {w : K → Option (List ℕ)} {f : K → ℕ} {t : K �
     ShowsLines w f t old old.form (lines_of done) start was
 ended old done start was st e =
     let none : old.line.items ≡ [] = no_items old.line.items e in
-    let unopened : (parted done).open_line ≡ [] = empty_front 65536 (parted done).open_line (omega arith) (sym st.holds.line_is ∙ none) in
+    let unopened : (parted done).open_line ≡ [] = none_kept 65536 (parted done).open_line (omega arith) (sym st.holds.line_is ∙ none) in
     record {
       text = st.text;
       shown =

@@ -80,7 +80,7 @@ after_line old mid new done text was is few h sh es ec el en eb et =
       taken_is = omega (arith, sh.taken_is, et, h.taken_is, length-append done (10 ∷ []));
     }
 
-none_kept : (n : ℕ) (line : List ℕ) → 0 < n → take n line ≡ [] → line ≡ []
+pub none_kept : (n : ℕ) (line : List ℕ) → 0 < n → take n line ≡ [] → line ≡ []
 none_kept zero line some e = absurd (omega (arith, some))
 none_kept (suc n) [] some e = refl
 none_kept (suc n) (c ∷ line) some e = absurd cc

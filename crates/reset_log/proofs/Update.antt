@@ -3,7 +3,7 @@ use Rattle.std.proofs.Common.{◌≡◌, ◌∙◌, ℕ, zero, suc, ◌+◌, ◌
 use Rattle.std.specs.Prelude.{if◌then◌else◌, position, slice_get, slice_set, map, not, cond}
 use Rattle.std.specs.List.{position_or_len}
 use Rattle.std.proofs.lemmas.Bool.Decides.{nat_tests}
-use Rattle.reset_log.specs.Update.{first_of, updated}
+use Rattle.reset_log.specs.Update.{updated}
 
 -- where the first one stands
 updated_there : {X : Type 0} (p : X → Bool) (f : Option X → X) (xs : List X) (x : X) (at : ℕ) →

@@ -1,5 +1,4 @@
-use Rattle.std.proofs.Common.{◌≡◌, ◌∙◌, ℕ, List, Bool, true, false, sym, subst}
-use Rattle.std.specs.Prelude.{◌||◌}
+use Rattle.std.proofs.Common.{◌≡◌, ◌∙◌, ℕ, List, false, sym, subst}
 use Rattle.reset_log.specs.codings.Marks.{has_mark, begins_loss}
 use Rattle.reset_log.proofs.Unmarked.{passed_over, neither}
 use Rattle.reset_log.proofs.line.line_of.Goals as goal
