@@ -10,7 +10,7 @@ use Rattle.world_laws.specs.WiringSlots.{ListsAreEmitted, SettledListsAreEmitted
 use Rattle.script_lines.specs.declared.kind.ScriptFault.{ScriptFault}
 use Rattle.script_told.specs.Bus.{Bus}
 use Rattle.script_told.specs.Reached.{world_of, ScriptWorldsAreReached}
-use Rattle.script_told.specs.Run.{Entry, printed, unless_stopped, IsTold}
+use Rattle.script_told.specs.Run.{Entry, printed, unless_stopped, IsResult}
 use Rattle.script_told.specs.EachReport.{ReportsAreSettled}
 use Rattle.script_told.specs.ScriptEvents.{ScriptsAreRuns}
 use Rattle.script_told.specs.EachPlan.{EachPlanComesOut}
@@ -65,7 +65,7 @@ stopped form reading stop (Err e) is h = tt
 pub told_prints :
     ReportsAreSettled → ScriptsAreRuns → EachPlanComesOut → EachConfigComesOut →
     EachWaitingNodeBecomesRoot → ScriptWorldsAreReached → SettledListsAreEmitted → (bytes text : List ℕ) →
-    IsTold bytes (Ok text) → PrintsRun bytes text
+    IsResult bytes (Ok text) → PrintsRun bytes text
 told_prints settled runs plans configs waiting reached emitted bytes text x = go x.0.end refl
   where
     go : (end : Result Bus ScriptFault) → x.0.end ≡ end → PrintsRun bytes text

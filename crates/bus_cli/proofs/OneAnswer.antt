@@ -20,8 +20,8 @@ use Rattle.script_text.specs.Summary.{summary}
 use Rattle.script_made.specs.Made.{made_script}
 use Rattle.script_made.specs.MadeValid.{MadeScriptsRunThrough}
 use Rattle.script_told.specs.Bus.{Bus}
-use Rattle.script_told.specs.Script.{Told}
-use Rattle.script_told.specs.Run.{printed, unless_stopped, IsTold}
+use Rattle.script_told.specs.Script.{ScriptResult}
+use Rattle.script_told.specs.Run.{printed, unless_stopped, IsResult}
 use Rattle.script_told.specs.OneTold.{ScriptsTellOneThing}
 use Rattle.script_bus.specs.SomeRun.{HasRun, EachScriptHasARun}
 use Rattle.script_advice.specs.Advice.{IsAdvice, EndsWithoutLoop}
@@ -118,11 +118,11 @@ module _ (one : HasOneReading) where
       (λ a b x y. rom_apart bytes x.0 y.0 x.1 y.1)
       (λ a b x y. x.2 ∙ ap (λ (f : RomFault). rom_line f) (rom_fault_is bytes x.0 y.0 x.1 y.1) ∙ sym y.2)
 
-  same_text : (a b : List ℕ) → ◌≡◌ {A = Told} (Ok a) (Ok b) → a ≡ b
+  same_text : (a b : List ℕ) → ◌≡◌ {A = ScriptResult} (Ok a) (Ok b) → a ≡ b
   same_text a b e = cc
 
   -- one telling at most is one text or one fault
-  one_told : (Tells : Told → Type 0) → ((x y : Told) → Tells x → Tells y → x ≡ y) →
+  one_told : (Tells : ScriptResult → Type 0) → ((x y : ScriptResult) → Tells x → Tells y → x ≡ y) →
       (valid : List ℕ → Type 0) →
       ((a : List ℕ) → valid a → Tells (Ok a)) →
       AreOne (ValidOrRefused valid (λ text. (f : ScriptFault) × Tells (Err f) × (text ≡ script_line f)))
@@ -131,18 +131,18 @@ module _ (one : HasOneReading) where
       (λ a b x y. apart a y.0 (same (Ok a) (Err y.0) (tells a x) y.1))
       (λ a b x y. x.2 ∙ ap (λ (f : ScriptFault). script_line f) (faults x.0 y.0 (same (Err x.0) (Err y.0) x.1 y.1)) ∙ sym y.2)
     where
-      apart : (a : List ℕ) (f : ScriptFault) → ◌≡◌ {A = Told} (Ok a) (Err f) → ⊥
+      apart : (a : List ℕ) (f : ScriptFault) → ◌≡◌ {A = ScriptResult} (Ok a) (Err f) → ⊥
       apart a f e = absurd cc
 
-      faults : (f g : ScriptFault) → ◌≡◌ {A = Told} (Err f) (Err g) → f ≡ g
+      faults : (f g : ScriptFault) → ◌≡◌ {A = ScriptResult} (Err f) (Err g) → f ≡ g
       faults f g e = cc
 
-  pub prints_told : (bytes text : List ℕ) → PrintsRun bytes text → IsTold bytes (Ok text)
+  pub prints_told : (bytes text : List ℕ) → PrintsRun bytes text → IsResult bytes (Ok text)
   prints_told bytes text x =
       (x.run, x.is, ap Ok x.text_is ∙ sym (ap (unless_stopped (printed x.run.entries)) x.ends))
 
   one_run : (bytes : List ℕ) → AreOne (AnswersRun bytes)
-  one_run bytes = one_told (IsTold bytes) (one.script bytes) (PrintsRun bytes) (prints_told bytes)
+  one_run bytes = one_told (IsResult bytes) (one.script bytes) (PrintsRun bytes) (prints_told bytes)
 
   ends_advice : (bytes text : List ℕ) → EndsWithoutLoop bytes text → IsAdvice bytes (Ok text)
   ends_advice bytes text x =
@@ -234,7 +234,7 @@ module _ (have : HasSomeReading) where
       a : HasSomeAdvice bytes
       a = have.advice bytes
 
-      go : (told : Told) → IsAdvice bytes told → HasSome (AnswersAdvice bytes)
+      go : (told : ScriptResult) → IsAdvice bytes told → HasSome (AnswersAdvice bytes)
       go (Ok text) is = (0, text, inl (refl, have.no_loop bytes text is))
       go (Err f) is = (1, script_line f, inr (refl, (f, is, refl)))
 

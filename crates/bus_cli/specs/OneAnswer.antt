@@ -1,7 +1,7 @@
 -- All words and bytes have one status and one text.
 use Rattle.std.specs.Prelude.{◌≡◌, ℕ, ◌<◌, All, List, String, Ok}
 use Rattle.std.specs.Global.{Global}
-use Rattle.script_told.specs.Run.{IsTold}
+use Rattle.script_told.specs.Run.{IsResult}
 use Rattle.bus_cli.specs.Answer.{Answers}
 use Rattle.script_run.specs.Answer.{PrintsRun}
 
@@ -18,4 +18,4 @@ NoInputHasTwoAnswers =
 -- the text that a script tells is what its run prints
 abbrev pub ToldTextsArePrinted : Type 0
 ToldTextsArePrinted =
-    (bytes text : List ℕ) → IsTold bytes (Ok text) → PrintsRun bytes text
+    (bytes text : List ℕ) → IsResult bytes (Ok text) → PrintsRun bytes text

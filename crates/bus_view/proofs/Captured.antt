@@ -10,8 +10,8 @@ use Rattle.cable_world.specs.World.{NodeNumber}
 use Rattle.cable_world.specs.Unchanged.{ActKeepsNodes}
 use Rattle.script_lines.specs.declared.kind.ScriptFault.{ScriptFault}
 use Rattle.script_text.specs.ReportText.{root_line, names_in}
-use Rattle.script_told.specs.Bus.{Bus, Reported, node_named, tree_with}
-use Rattle.script_told.specs.Script.{Told, script_lines}
+use Rattle.script_told.specs.Bus.{Bus, ReportedTree, node_named, tree_with}
+use Rattle.script_told.specs.Script.{ScriptResult, script_lines}
 use Rattle.script_told.specs.Run.{ScriptRun, IsRun}
 use Rattle.script_told.specs.SomeManager.{IsManaged, ReportedTreesAreManaged}
 use Rattle.script_told.specs.EachReport.{ReportsAreSettled}
@@ -42,7 +42,8 @@ module _ (known : IsKnown) where
       (is.0, is.1.2 ∙ ap (λ (u : Tree). tree_text u []) (known.trees Ieee2000 bytes is.1.0 t is.1.1 spelt))
   reads bytes t spelt status text (inr is) = absurd (known.apart Ieee2000 bytes t is.1.0 spelt is.1.1)
 
-  of-tree : (bytes name list : List ℕ) (run : ScriptRun) (bus : Bus) (node : NodeNumber) (part : Reported) →
+  of-tree : (bytes name list : List ℕ) (run : ScriptRun) (bus : Bus) (node : NodeNumber)
+      (part : ReportedTree) →
       IsRun bytes run → run.end ≡ Ok bus → node_named bus.notes.names name ≡ Some node →
       tree_with node bus.notes ≡ Some part → list ≡ part.list → IsShownByTheReport bytes name list
   of-tree bytes name list run bus node part is ends named settled listed =
@@ -77,22 +78,26 @@ module _ (known : IsKnown) where
       }
 
   -- each way to a list
-  by-tree : (bytes name list : List ℕ) (run : ScriptRun) (bus : Bus) (node : NodeNumber) (found : Option Reported) →
+  by-tree : (bytes name list : List ℕ) (run : ScriptRun) (bus : Bus) (node : NodeNumber)
+      (found : Option ReportedTree) →
       IsRun bytes run → run.end ≡ Ok bus → node_named bus.notes.names name ≡ Some node → tree_with node bus.notes ≡ found →
-      ◌≡◌ {A = Told} (Ok list) (at_line (length (script_lines bytes) + 1) (list_in found)) → IsShownByTheReport bytes name list
+      ◌≡◌ {A = ScriptResult} (Ok list) (at_line (length (script_lines bytes) + 1)
+      (list_in found)) → IsShownByTheReport bytes name list
   by-tree bytes name list run bus node None is ends named e x = absurd cc
   by-tree bytes name list run bus node (Some part) is ends named e x =
       of-tree bytes name list run bus node part is ends named e cc
 
   by-node : (bytes name list : List ℕ) (run : ScriptRun) (bus : Bus) (found : Option NodeNumber) →
       IsRun bytes run → run.end ≡ Ok bus → node_named bus.notes.names name ≡ found →
-      ◌≡◌ {A = Told} (Ok list) (at_line (length (script_lines bytes) + 1) (list_at bus found)) → IsShownByTheReport bytes name list
+      ◌≡◌ {A = ScriptResult} (Ok list) (at_line (length (script_lines bytes) + 1)
+      (list_at bus found)) → IsShownByTheReport bytes name list
   by-node bytes name list run bus None is ends e x = absurd cc
   by-node bytes name list run bus (Some node) is ends e x =
       by-tree bytes name list run bus node (tree_with node bus.notes) is ends e refl x
 
   by-end : (bytes name list : List ℕ) (run : ScriptRun) (end : Result Bus ScriptFault) → IsRun bytes run →
-      run.end ≡ end → ◌≡◌ {A = Told} (Ok list) (listed_at (length (script_lines bytes) + 1) name end) → IsShownByTheReport bytes name list
+      run.end ≡ end → ◌≡◌ {A = ScriptResult} (Ok list) (listed_at
+      (length (script_lines bytes) + 1) name end) → IsShownByTheReport bytes name list
   by-end bytes name list run (Ok bus) is ends x = by-node bytes name list run bus (node_named bus.notes.names name) is ends refl x
   by-end bytes name list run (Err fault) is ends x = absurd cc
 

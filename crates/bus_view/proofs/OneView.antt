@@ -16,8 +16,8 @@ use Rattle.bus_json.specs.Text.{json_line}
 use Rattle.bus_json.specs.Refusal.{line_refusal_value}
 use Rattle.script_lines.specs.declared.kind.ScriptFault.{ScriptFault}
 use Rattle.script_words.specs.Before.{feed_lines}
-use Rattle.script_told.specs.Script.{Told, script_lines}
-use Rattle.script_told.specs.Run.{ScriptRun, IsTold}
+use Rattle.script_told.specs.Script.{ScriptResult, script_lines}
+use Rattle.script_told.specs.Run.{ScriptRun, IsResult}
 use Rattle.script_run.specs.Listed.{listed_at, IsListed}
 use Rattle.script_run.specs.Viewed.{IsPictured, AreReported}
 use Rattle.script_run.specs.OneViewed.{ScriptsHaveOnePicture, PicturedScriptsAreTold, ScriptsHaveOneReporting, ReportedScriptsAreTold}
@@ -121,26 +121,26 @@ same_capture one view standard bytes s r a b x y =
 
 -- ---- a script has one trace
 
-trace-text : Told → List ℕ
+trace-text : ScriptResult → List ℕ
 trace-text (Ok text) = text
 trace-text (Err fault) = []
 
-is-ok : Told → Bool
+is-ok : ScriptResult → Bool
 is-ok (Ok text) = true
 is-ok (Err fault) = false
 
-same_fault : (g h : ScriptFault) → ◌≡◌ {A = Told} (Err g) (Err h) → g ≡ h
+same_fault : (g h : ScriptFault) → ◌≡◌ {A = ScriptResult} (Err g) (Err h) → g ≡ h
 same_fault g h e = cc
 
 -- a script with a text has no fault
-no-fault : HasOneReading → (bytes text : List ℕ) (fault : ScriptFault) → IsTold bytes (Ok text) →
-    IsTold bytes (Err fault) → ⊥
+no-fault : HasOneReading → (bytes text : List ℕ) (fault : ScriptFault) → IsResult bytes (Ok text) →
+    IsResult bytes (Err fault) → ⊥
 unfolding is-ok
 no-fault one bytes text fault x y = let e = ap is-ok (one.told bytes (Ok text) (Err fault) x y) in cc
 
 -- nor has one with a trace
 apart : HasOneReading → (bytes lines : List ℕ) (fault : ScriptFault) → IsTrace bytes (Ok lines) →
-    IsTold bytes (Err fault) → ⊥
+    IsResult bytes (Err fault) → ⊥
 apart one bytes lines fault x y =
     let text = one.texts bytes lines x in no-fault one bytes text.0 fault text.1 y
 
@@ -156,7 +156,8 @@ same_trace one bytes s r a b (at_fault g e x t) (at_fault h f y u) =
 
 -- ---- a script has one fault or none
 
-listed-apart : (list : List ℕ) (fault : ScriptFault) → ◌≡◌ {A = Told} (Ok list) (Err fault) → ⊥
+listed-apart : (list : List ℕ) (fault : ScriptFault) → ◌≡◌ {A = ScriptResult} (Ok list)
+    (Err fault) → ⊥
 listed-apart list fault e = cc
 
 same_explanation : HasOneReading → (bytes : List ℕ) (s r : ℕ) (a b : List ℕ) → IsExplainView bytes s a →
@@ -173,7 +174,7 @@ same_explanation one bytes s r a b (has_fault g e x t) (has_fault h f y u) =
 -- ---- a script has one dump
 
 dump-apart : HasOneReading → (bytes dump : List ℕ) (fault : ScriptFault) → IsWaves bytes (Ok dump) →
-    IsTold bytes (Err fault) → ⊥
+    IsResult bytes (Err fault) → ⊥
 dump-apart one bytes dump fault x y =
     let text = one.dumped_texts bytes dump x in no-fault one bytes text.0 fault text.1 y
 
@@ -190,7 +191,7 @@ same_waves one bytes s r a b (not_dumped g e x t) (not_dumped h f y u) =
 -- ---- a script has one graph
 
 graph-apart : HasOneReading → (bytes graph : List ℕ) (fault : ScriptFault) → IsPictured bytes (Ok graph) →
-    IsTold bytes (Err fault) → ⊥
+    IsResult bytes (Err fault) → ⊥
 graph-apart one bytes graph fault x y =
     let text = one.pictured_texts bytes graph x in no-fault one bytes text.0 fault text.1 y
 
@@ -207,7 +208,7 @@ same_graph one bytes s r a b (not_pictured g e x t) (not_pictured h f y u) =
 -- ---- a script has one list of reports
 
 reports-apart : HasOneReading → (bytes lines : List ℕ) (fault : ScriptFault) → AreReported bytes (Ok lines) →
-    IsTold bytes (Err fault) → ⊥
+    IsResult bytes (Err fault) → ⊥
 reports-apart one bytes lines fault x y =
     let text = one.reported_texts bytes lines x in no-fault one bytes text.0 fault text.1 y
 
@@ -224,7 +225,7 @@ same_reports one bytes s r a b (not_reported g e x t) (not_reported h f y u) =
 
 -- ---- a script lists one thing of a node
 
-one_listed : HasOneReading → (bytes name : List ℕ) (a b : Told) → IsListed bytes name a →
+one_listed : HasOneReading → (bytes name : List ℕ) (a b : ScriptResult) → IsListed bytes name a →
     IsListed bytes name b → a ≡ b
 one_listed one bytes name a b (run, is, e) (other, too, f) =
     e ∙ ap (λ (r : ScriptRun). listed_at (length (script_lines bytes) + 1) name r.end) (one.runs bytes run other is too) ∙ sym f
@@ -232,8 +233,11 @@ one_listed one bytes name a b (run, is, e) (other, too, f) =
 same_list : HasOneReading → (name bytes : List ℕ) (s r : ℕ) (a b : List ℕ) → IsListView name bytes s a →
     IsListView name bytes r b → (s ≡ r) × (a ≡ b)
 unfolding trace-text
-same_list one name bytes s r a b (has_list l e x t) (has_list m f y u) =
-    (e ∙ sym f, t ∙ ap (λ (told : Told). capture (trace-text told)) (one_listed one bytes name (Ok l) (Ok m) x y) ∙ sym u)
+same_list one name bytes s r a b (has_list l e x t) (has_list m f y u) = (
+  e ∙ sym f,
+  t ∙ ap (λ (told : ScriptResult). capture (trace-text told))
+      (one_listed one bytes name (Ok l) (Ok m) x y) ∙ sym u,
+)
 same_list one name bytes s r a b (has_list l e x t) (has_none g f y u) =
     absurd (listed-apart l g (one_listed one bytes name (Ok l) (Err g) x y))
 same_list one name bytes s r a b (has_none g e x t) (has_list l f y u) =

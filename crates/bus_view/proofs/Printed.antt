@@ -19,12 +19,12 @@ use Rattle.settle.specs.declared.report.Outcome.TheVariants as reported
 use Rattle.settle.specs.declared.report.Part.{Part}
 use Rattle.settle.specs.declared.report.Report.{Report}
 use Rattle.script_text.specs.ReportText.{Names, component_line, report_line, IsTreeText, IsOutcomeText, IsPartText, ArePartTexts, none, more, root_line, names_in}
-use Rattle.script_told.specs.Bus.{Bus, Reported, tree_of, part_with, tree_with}
+use Rattle.script_told.specs.Bus.{Bus, ReportedTree, tree_of, part_with, tree_with}
 use Rattle.script_told.specs.Step.{LineAnswer}
 use Rattle.script_told.specs.EachReport.{DoesReport, IsReportOf, IsReportedAt, EachReportIsSettled}
 use Rattle.script_told.specs.PrintedTree.{IsPieceOf}
 use Rattle.script_told.specs.Script.{Stage, running, StageAnswer, script_lines, fresh}
-use Rattle.script_told.specs.Run.{Entry, ScriptRun, done, stopped, last_run, Goes, Takes, RunsFrom, IsRun}
+use Rattle.script_told.specs.Run.{Entry, ScriptRun, done, stopped, last_run, Proceeds, TakesLine, RunsFrom, IsRun}
 use Rattle.bus_view.specs.Captured.{IsLast}
 
 -- ---- the last command
@@ -50,7 +50,7 @@ AllHaveLast Rest = (stage : Stage) (run : ScriptRun) → Rest stage run → HasL
 
 by-command :
     (number : ℕ) (Rest : Stage → ScriptRun → Type 0) (stage : Stage) (command : Command) (r : StageAnswer) (run : ScriptRun) →
-    AllHaveLast Rest → Goes number Rest stage command r run → HasLast run
+    AllHaveLast Rest → Proceeds number Rest stage command r run → HasLast run
 by-command number Rest stage command (Ok (next, text)) run rest x bus e =
     let first = done number stage command next text in
     let l = rest next x.0 x.1 bus (sym (ap (λ (v : ScriptRun). v.end) x.2) ∙ e) in (
@@ -67,7 +67,7 @@ by-command number Rest stage command (Err kind) run rest x bus e =
 
 by-reading :
     (number : ℕ) (Rest : Stage → ScriptRun → Type 0) (stage : Stage) (reading : Result (Option Command) Kind) (run : ScriptRun) →
-    AllHaveLast Rest → Takes number Rest stage reading run → HasLast run
+    AllHaveLast Rest → TakesLine number Rest stage reading run → HasLast run
 by-reading number Rest stage (Ok None) run rest x = rest stage run x
 by-reading number Rest stage (Ok (Some command)) run rest x = by-command number Rest stage command x.0 run rest x.2
 by-reading number Rest stage (Err kind) run rest x = subst HasLast (sym x) (no-last number kind)
@@ -127,17 +127,20 @@ part-printed names parts text test part (more before so-far one its told is) e =
 
 -- the outcome of a part with a tree
 outcome-is :
-    (part : Part) (tree : Reported) (o : Outcome) → tree_of (record part { outcome = o }) ≡ Some tree →
+    (part : Part) (tree : ReportedTree) (o : Outcome) → tree_of
+    (record part { outcome = o }) ≡ Some tree →
     o ≡ reported.Tree tree.root tree.list tree.order
 outcome-is part tree (reported.Tree root list order) e =
-    let same : ◌≡◌ {A = Reported} (record { root = root; list = list; order = order }) tree = cc in
-    ap (λ (t : Reported). reported.Tree t.root t.list t.order) same
+    let same : ◌≡◌ {A = ReportedTree} (record { root = root; list = list; order = order }) tree =
+    cc in
+    ap (λ (t : ReportedTree). reported.Tree t.root t.list t.order) same
 outcome-is part tree (reported.Contention a b) e = absurd cc
 outcome-is part tree (reported.Loop core) e = absurd cc
 
 -- the text of a part with a tree has the tree's
 tree-piece :
-    NoListHasTwoTrees → (names : Names) (part : Part) (tree : Reported) (t : Tree) (its : List ℕ) →
+    NoListHasTwoTrees → (names : Names) (part : Part) (tree : ReportedTree) (t : Tree)
+    (its : List ℕ) →
     tree_of part ≡ Some tree → IsBusTreeOf Ieee2000 t → emits t ≡ tree.list → IsPartText names part its →
     IsPieceOf (root_line names tree.root ++ tree_text t (names_in names tree.order)) its
 tree-piece one names part tree t its settled bus emitted is =
@@ -168,7 +171,8 @@ reported-last run bus last settled l =
     subst Says (get_or_push l.before last last (length l.before) refl) here (subst DoesReport (sym l.settles) tt)
 
 pub last-prints :
-    NoListHasTwoTrees → (run : ScriptRun) (bus : Bus) (last : Entry) (node : NodeNumber) (tree : Reported) (t : Tree) →
+    NoListHasTwoTrees → (run : ScriptRun) (bus : Bus) (last : Entry) (node : NodeNumber)
+    (tree : ReportedTree) (t : Tree) →
     EachReportIsSettled run → IsLast run bus last → tree_with node bus.notes ≡ Some tree →
     IsBusTreeOf Ieee2000 t → emits t ≡ tree.list →
     IsPieceOf (root_line bus.notes.names tree.root ++ tree_text t (names_in bus.notes.names tree.order)) last.text

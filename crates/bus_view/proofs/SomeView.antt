@@ -7,8 +7,8 @@ use Rattle.capture_reading.specs.OneReading.{EachCaptureHasATreeOrAFault}
 use Rattle.capture_reading.specs.Line.{fault_line}
 use Rattle.script_run.specs.Line.{kind_word, script_line}
 use Rattle.script_made.specs.Made.{made_script}
-use Rattle.script_told.specs.Script.{Told, script_lines}
-use Rattle.script_told.specs.Run.{ScriptRun, IsRun, printed, unless_stopped, told_by}
+use Rattle.script_told.specs.Script.{ScriptResult, script_lines}
+use Rattle.script_told.specs.Run.{ScriptRun, IsRun, printed, unless_stopped, result_of}
 use Rattle.script_run.specs.Listed.{listed_at}
 use Rattle.script_run.specs.Viewed.{IsPictureOf, AreLinesOf}
 use Rattle.script_run.specs.OneViewed.{RunsHavePictures, RunsHaveReportings}
@@ -96,16 +96,18 @@ module _ (have : HasSomeReading) where
       let t = have.traces bytes r.run r.is in
       go r.run r.is t.told t.is
     where
-      go : (run : ScriptRun) → IsRun bytes run → (told : Told) → IsTraceOf run told → HasSome (IsTraceView bytes)
+      go : (run : ScriptRun) → IsRun bytes run → (told : ScriptResult) → IsTraceOf run told →
+          HasSome (IsTraceView bytes)
       go run is (Ok text) traces = (0, text, traced refl (run, is, traces))
       go run is (Err f) e = (1, explanation bytes f, at_fault f refl (run, is, sym (ap (unless_stopped (printed run.entries)) e)) refl)
 
   some-explanation : (bytes : List ℕ) → HasSome (IsExplainView bytes)
   some-explanation bytes =
       let r = have.run bytes in
-      go r.run r.is (told_by r.run) refl
+      go r.run r.is (result_of r.run) refl
     where
-      go : (run : ScriptRun) → IsRun bytes run → (told : Told) → told ≡ told_by run → HasSome (IsExplainView bytes)
+      go : (run : ScriptRun) → IsRun bytes run → (told : ScriptResult) → told ≡ result_of run →
+          HasSome (IsExplainView bytes)
       go run is (Ok text) e = (0, codes "no fault\n", has_text text refl (run, is, e) refl)
       go run is (Err f) e =
           let x = some_explained (feed_lines bytes) f in (1, x.0, has_fault f refl (run, is, e) x.1)
@@ -116,7 +118,8 @@ module _ (have : HasSomeReading) where
       let t = have.dumps bytes r.run r.is in
       go r.run r.is t.told t.is
     where
-      go : (run : ScriptRun) → IsRun bytes run → (told : Told) → IsWavesOf run told → HasSome (IsWavesView bytes)
+      go : (run : ScriptRun) → IsRun bytes run → (told : ScriptResult) → IsWavesOf run told →
+          HasSome (IsWavesView bytes)
       go run is (Ok text) dumps = (0, text, dumped refl (run, is, dumps))
       go run is (Err f) e = (1, explanation bytes f, not_dumped f refl (run, is, sym (ap (unless_stopped (printed run.entries)) e)) refl)
 
@@ -126,7 +129,8 @@ module _ (have : HasSomeReading) where
       let t = have.pictures bytes r.run r.is in
       go r.run r.is t.told t.is
     where
-      go : (run : ScriptRun) → IsRun bytes run → (told : Told) → IsPictureOf run told → HasSome (IsGraphView bytes)
+      go : (run : ScriptRun) → IsRun bytes run → (told : ScriptResult) → IsPictureOf run told →
+          HasSome (IsGraphView bytes)
       go run is (Ok text) graph = (0, text, pictured refl (run, is, graph))
       go run is (Err f) e = (1, explanation bytes f, not_pictured f refl (run, is, sym (ap (unless_stopped (printed run.entries)) e)) refl)
 
@@ -136,7 +140,8 @@ module _ (have : HasSomeReading) where
       let t = have.reportings bytes r.run r.is in
       go r.run r.is t.told t.is
     where
-      go : (run : ScriptRun) → IsRun bytes run → (told : Told) → AreLinesOf run told → HasSome (IsReportsView bytes)
+      go : (run : ScriptRun) → IsRun bytes run → (told : ScriptResult) → AreLinesOf run told →
+          HasSome (IsReportsView bytes)
       go run is (Ok text) lines = (0, text, reported refl (run, is, lines))
       go run is (Err f) e =
           let told = sym (ap (unless_stopped (printed run.entries)) e) in
@@ -147,7 +152,9 @@ module _ (have : HasSomeReading) where
       let r = have.run bytes in
       go r.run r.is (listed_at (length (script_lines bytes) + 1) name r.run.end) refl
     where
-      go : (run : ScriptRun) → IsRun bytes run → (told : Told) → listed_at (length (script_lines bytes) + 1) name run.end ≡ told → HasSome (IsListView name bytes)
+      go : (run : ScriptRun) → IsRun bytes run → (told : ScriptResult) →
+          listed_at (length (script_lines bytes) + 1) name run.end ≡ told →
+          HasSome (IsListView name bytes)
       go run is (Ok list) e = (0, capture list, has_list list refl (run, is, sym e) refl)
       go run is (Err f) e = (1, script_line f, has_none f refl (run, is, sym e) refl)
 

@@ -3,12 +3,12 @@ use Rattle.std.proofs.Common.{◌≡◌, ℕ, ◌≤◌, List, inl, inr, Ok, Err
 use Rattle.script_lines.specs.declared.kind.ScriptFault.{ScriptFault}
 use Rattle.script_made.specs.Made.{made_script}
 use Rattle.script_made.specs.MadeValid.{MadeScriptsHaveNoFault}
-use Rattle.script_told.specs.Script.{Told}
+use Rattle.script_told.specs.Script.{ScriptResult}
 use Rattle.script_run.specs.Answer.{AnswersRun, AnswersMake}
 use Rattle.script_text.specs.Summary.{summary}
 use Rattle.bus_view.specs.Summed.{MakeSumsUpTheScript}
 
-apart : (f : ScriptFault) (text : List ℕ) → ◌≡◌ {A = Told} (Err f) (Ok text) → ⊥
+apart : (f : ScriptFault) (text : List ℕ) → ◌≡◌ {A = ScriptResult} (Err f) (Ok text) → ⊥
 apart f text e = cc
 
 runs : MadeScriptsHaveNoFault → (nodes seed : ℕ) → nodes ≤ 63 → (status : ℕ) (text : List ℕ) →

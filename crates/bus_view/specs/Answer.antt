@@ -15,7 +15,7 @@ use Rattle.script_run.specs.Line.{kind_word, script_line}
 use Rattle.script_lines.specs.declared.kind.ScriptFault.{ScriptFault}
 use Rattle.script_words.specs.Before.{feed_lines}
 use Rattle.script_made.specs.Made.{made_script}
-use Rattle.script_told.specs.Run.{IsTold}
+use Rattle.script_told.specs.Run.{IsResult}
 use Rattle.script_run.specs.Listed.{IsListed}
 use Rattle.script_run.specs.Viewed.{IsPictured, AreReported}
 use Rattle.script_trace.specs.Trace.{IsTrace}
@@ -86,33 +86,33 @@ pub record IsCaptureView (view : CaptureView) (standard : Standard) (bytes : Lis
 -- a script that has a text is traced; one at fault is refused as `busconf run` refuses it
 pub data IsTraceView (bytes : List ℕ) (status : ℕ) (text : List ℕ) : Type 0 where
   traced : status ≡ 0 → IsTrace bytes (Ok text) → IsTraceView bytes status text
-  at_fault : (fault : ScriptFault) → status ≡ 1 → IsTold bytes (Err fault) →
+  at_fault : (fault : ScriptFault) → status ≡ 1 → IsResult bytes (Err fault) →
       text ≡ explanation bytes fault → IsTraceView bytes status text
 
 -- and so is its dump
 pub data IsWavesView (bytes : List ℕ) (status : ℕ) (text : List ℕ) : Type 0 where
   dumped : status ≡ 0 → IsWaves bytes (Ok text) → IsWavesView bytes status text
-  not_dumped : (fault : ScriptFault) → status ≡ 1 → IsTold bytes (Err fault) →
+  not_dumped : (fault : ScriptFault) → status ≡ 1 → IsResult bytes (Err fault) →
       text ≡ explanation bytes fault → IsWavesView bytes status text
 
 -- and so is the graph of its last report
 pub data IsGraphView (bytes : List ℕ) (status : ℕ) (text : List ℕ) : Type 0 where
   pictured : status ≡ 0 → IsPictured bytes (Ok text) → IsGraphView bytes status text
-  not_pictured : (fault : ScriptFault) → status ≡ 1 → IsTold bytes (Err fault) →
+  not_pictured : (fault : ScriptFault) → status ≡ 1 → IsResult bytes (Err fault) →
       text ≡ explanation bytes fault → IsGraphView bytes status text
 
 -- and so are the lines of its reports, with the fault as a line of JSON
 pub data IsReportsView (bytes : List ℕ) (status : ℕ) (text : List ℕ) : Type 0 where
   reported : status ≡ 0 → AreReported bytes (Ok text) → IsReportsView bytes status text
-  not_reported : (fault : ScriptFault) → status ≡ 1 → IsTold bytes (Err fault) →
+  not_reported : (fault : ScriptFault) → status ≡ 1 → IsResult bytes (Err fault) →
       text ≡ json_line (line_refusal_value fault.line (kind_word fault.kind)) →
       IsReportsView bytes status text
 
 -- a script has no fault, or the one for which `busconf run` refuses it and those that are told behind it
 pub data IsExplainView (bytes : List ℕ) (status : ℕ) (text : List ℕ) : Type 0 where
-  has_text : (printed : List ℕ) → status ≡ 0 → IsTold bytes (Ok printed) →
+  has_text : (printed : List ℕ) → status ≡ 0 → IsResult bytes (Ok printed) →
       text ≡ codes "no fault\n" → IsExplainView bytes status text
-  has_fault : (fault : ScriptFault) → status ≡ 1 → IsTold bytes (Err fault) →
+  has_fault : (fault : ScriptFault) → status ≡ 1 → IsResult bytes (Err fault) →
       IsExplained (feed_lines bytes) fault text → IsExplainView bytes status text
 
 -- the script that is made, whatever the bytes

@@ -8,7 +8,7 @@ use Rattle.cable_world.specs.World.{NodeNumber}
 use Rattle.script_lines.specs.declared.command.Command.TheVariants.{Settle}
 use Rattle.script_lines.specs.declared.kind.ScriptFault.{ScriptFault}
 use Rattle.script_text.specs.ReportText.{IsTreeText, root_line, names_in}
-use Rattle.script_told.specs.Bus.{Bus, Reported, node_named, tree_with}
+use Rattle.script_told.specs.Bus.{Bus, ReportedTree, node_named, tree_with}
 use Rattle.script_told.specs.PrintedTree.{IsPieceOf}
 use Rattle.script_told.specs.Script.{running}
 use Rattle.script_told.specs.Run.{Entry, ScriptRun, IsRun}
@@ -38,7 +38,7 @@ pub record IsShownByTheReport (bytes name list : List ℕ) : Type 0 where
   pub ends : run.end ≡ Ok bus
   pub node : NodeNumber
   pub named : node_named bus.notes.names name ≡ Some node
-  pub part : Reported
+  pub part : ReportedTree
   pub settled : tree_with node bus.notes ≡ Some part
   pub listed : list ≡ part.list
   pub tree : Tree

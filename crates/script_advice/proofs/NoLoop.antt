@@ -26,7 +26,7 @@ use Rattle.settle.specs.Reported.{IsReported}
 use Rattle.script_advice.specs.declared.advice.LoopAdvice.{LoopAdvice}
 use Rattle.script_lines.specs.declared.kind.Kind.TheVariants as Kind
 use Rattle.script_told.specs.Bus.{Bus, Notes}
-use Rattle.script_told.specs.Step.{LineAnswer, Reports, Settles}
+use Rattle.script_told.specs.Step.{LineAnswer, Reports, DoesSettle}
 use Rattle.script_advice.specs.Advice.{RunsTo, told_at_end, if_loop, loops_of, IsAdviceFor, AreAdvices, all_pulls, PullsLead, advice_text, after_text, Advises, IsAdvice, IsLoop, HasNoLoop, EndsWithoutLoop}
 use Rattle.script_advice.specs.OneAdvice.{AdvicesLeaveNoLoop, AdvicesEndWithoutLoop}
 use Rattle.script_advice.specs.Advising.{ArePullable, EndsWith}
@@ -49,7 +49,7 @@ record HasSettled (bus after : Bus) (text : List ℕ) : Type 0 where
   is : IsReport after.world report
   last : after.notes.report ≡ Some report
 
-has-settled : (bus after : Bus) (text : List ℕ) → Settles bus (Ok (after, text)) →
+has-settled : (bus after : Bus) (text : List ℕ) → DoesSettle bus (Ok (after, text)) →
     HasSettled bus after text
 has-settled bus after text = go (nat_lt 2000000 (bus.world.turns + quiet_turns_of bus.world))
   where
@@ -239,12 +239,16 @@ no-loop-report w v report last advices cables is are out then i d within loop =
 
 -- the second settle of an advice, whose text stands behind what was advised
 settled-again :
-    (out after : Bus) (before text : List ℕ) (settled : LineAnswer) → Settles out settled →
+    (out after : Bus) (before text : List ℕ) (settled : LineAnswer) → DoesSettle out settled →
     Ok (after, text) ≡ after_text before settled →
-    (report : List ℕ) × Settles out (Ok (after, report)) × (text ≡ before ++ report)
+    (report : List ℕ) × DoesSettle out (Ok (after, report)) × (text ≡ before ++ report)
 settled-again out after before text (Ok (bus, report)) settles e =
-    let same : bus ≡ after = sym (ap (bus-in bus) e) in
-    (report, subst (λ (u : Bus). Settles out (Ok (u, report))) same settles, text-of bus report e)
+    let same : bus ≡ after = sym (ap (bus-in bus) e) in (
+      report,
+      subst (λ (u : Bus). DoesSettle out (Ok (u, report))) same settles,
+      text-of bus report
+          e,
+    )
   where
     text-of : (b : Bus) (r : List ℕ) → ◌≡◌ {A = LineAnswer} (Ok (after, text)) (Ok (b, before ++ r)) → text ≡ before ++ r
     text-of b r f = ap text-in f

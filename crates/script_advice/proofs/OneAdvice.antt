@@ -17,9 +17,9 @@ use Rattle.settle.specs.declared.report.Report.{Report}
 use Rattle.script_advice.specs.declared.advice.LoopAdvice.{LoopAdvice}
 use Rattle.script_lines.specs.declared.kind.ScriptFault.{ScriptFault}
 use Rattle.script_told.specs.Bus.{Bus}
-use Rattle.script_told.specs.Step.{LineAnswer, Settles}
-use Rattle.script_told.specs.Script.{Told}
-use Rattle.script_told.specs.Run.{ScriptRun, IsTold, printed, unless_stopped, told_by}
+use Rattle.script_told.specs.Step.{LineAnswer, DoesSettle}
+use Rattle.script_told.specs.Script.{ScriptResult}
+use Rattle.script_told.specs.Run.{ScriptRun, IsResult, printed, unless_stopped, result_of}
 use Rattle.script_advice.specs.Advice.{RunsTo, loops_of, IsAdviceFor, all_pulls, PullsLead, advice_text, after_text, Advises, told_at_end, AdvisesAtEnd}
 use Rattle.script_advice.specs.OneAdvice.{ScriptsHaveOneAdvice}
 use Rattle.script_told.proofs.Lemmas.{IsCabled, acts, settles, bus-in, one-run, one-told, IsEnd, each-done}
@@ -193,7 +193,7 @@ one-answer trees bus r s h x y =
     let pulled = one-pulled bus x.pulled y.pulled (all_pulls x.advices) h x.pulls
     (subst (λ (l : List LoopAdvice). PullsLead bus (all_pulls l) y.pulled) (sym advices) y.pulls) in
     let settled = settles trees x.pulled pulled.1 x.settled y.settled x.settles
-    (subst (λ (u : Bus). Settles u y.settled) (sym pulled.0) y.settles) in
+    (subst (λ (u : Bus). DoesSettle u y.settled) (sym pulled.0) y.settles) in
     x.answer_is
     ∙ ap (λ (l : List LoopAdvice). after_text (advice_text bus.notes.names l) x.settled) advices
     ∙ ap (after_text (advice_text bus.notes.names y.advices)) settled.0
@@ -204,14 +204,15 @@ one-answer trees bus r s h x y =
 -- a script that runs to its end has no fault
 no-script-fault :
     NoListHasTwoTrees → ActKeepsNodes → (bytes : List ℕ) (bus : Bus) (f : ScriptFault) →
-    RunsTo bytes bus → IsTold bytes (Err f) → ⊥
+    RunsTo bytes bus → IsResult bytes (Err f) → ⊥
 no-script-fault trees keeps bytes bus f x y =
     let run : y.0 ≡ x.0 = one-run trees keeps bytes y.0 x.0 y.1 x.1 in
     no-fault f (printed x.0.entries) ⊥
-    (sym (y.2 ∙ ap told_by run ∙ ap (unless_stopped (printed x.0.entries)) x.2))
+    (sym (y.2 ∙ ap result_of run ∙ ap (unless_stopped (printed x.0.entries)) x.2))
 
 one-end-advice :
-    NoListHasTwoTrees → ActKeepsNodes → (bytes : List ℕ) (one other : Told) → AdvisesAtEnd bytes one →
+    NoListHasTwoTrees → ActKeepsNodes → (bytes : List ℕ) (one other : ScriptResult) →
+    AdvisesAtEnd bytes one →
     AdvisesAtEnd bytes other → one ≡ other
 one-end-advice trees keeps bytes one other x y =
     let bus : x.bus ≡ y.bus = one-bus trees keeps bytes x.bus y.bus x.ran y.ran in

@@ -16,9 +16,9 @@ use Rattle.script_lines.specs.declared.kind.ScriptFault.{ScriptFault}
 use Rattle.script_advice.specs.declared.advice.LoopAdvice.{LoopAdvice}
 use Rattle.script_text.specs.ReportText.{Names, spaced, all_spaced, numbered}
 use Rattle.script_told.specs.Bus.{Bus}
-use Rattle.script_told.specs.Step.{LineAnswer, Acts, Settles}
-use Rattle.script_told.specs.Script.{Told, fault_at, script_lines}
-use Rattle.script_told.specs.Run.{ScriptRun, IsRun, IsTold}
+use Rattle.script_told.specs.Step.{LineAnswer, Acts, DoesSettle}
+use Rattle.script_told.specs.Script.{ScriptResult, fault_at, script_lines}
+use Rattle.script_told.specs.Run.{ScriptRun, IsRun, IsResult}
 use Rattle.script_told.specs.EachReport.{IsReportOf}
 
 -- ---- the bus after the last settle
@@ -120,23 +120,23 @@ pub record Advises (bus : Bus) (answer : LineAnswer) : Type 0 where
   pub pulled : Bus
   pub pulls : PullsLead bus (all_pulls advices) pulled
   pub settled : LineAnswer
-  pub settles : Settles pulled settled
+  pub settles : DoesSettle pulled settled
   pub answer_is : answer ≡ after_text (advice_text bus.notes.names advices) settled
 
 -- a fault of the script is that of its advice
-pub record HasScriptFault (bytes : List ℕ) (told : Told) : Type 0 where
+pub record HasScriptFault (bytes : List ℕ) (told : ScriptResult) : Type 0 where
   pub fault : ScriptFault
-  pub told_so : IsTold bytes (Err fault)
+  pub told_so : IsResult bytes (Err fault)
   pub is : told ≡ Err fault
 
 -- what an answer at the end of a script tells; its fault stands on the line behind the last
-abbrev pub told_at_end : List ℕ → LineAnswer → Told
+abbrev pub told_at_end : List ℕ → LineAnswer → ScriptResult
 told_at_end bytes (Ok (bus, text)) = Ok text
 told_at_end bytes (Err kind) = Err (fault_at (length (script_lines bytes) + 1) kind)
 
 -- The script runs to its end, and what is advised then is told. A fault of the second settle has the
 -- line of the first.
-pub record AdvisesAtEnd (bytes : List ℕ) (told : Told) : Type 0 where
+pub record AdvisesAtEnd (bytes : List ℕ) (told : ScriptResult) : Type 0 where
   pub bus : Bus
   pub ran : RunsTo bytes bus
   pub answer : LineAnswer
@@ -144,7 +144,7 @@ pub record AdvisesAtEnd (bytes : List ℕ) (told : Told) : Type 0 where
   pub is : told ≡ told_at_end bytes answer
 
 -- the text of a script's advice, or the fault of the script or of the advice
-abbrev pub IsAdvice : List ℕ → Told → Type 0
+abbrev pub IsAdvice : List ℕ → ScriptResult → Type 0
 IsAdvice bytes told = HasScriptFault bytes told ⊎ AdvisesAtEnd bytes told
 
 -- ---- the report

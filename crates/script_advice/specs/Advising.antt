@@ -9,7 +9,7 @@ use Rattle.settle.specs.declared.report.Part.{Part}
 use Rattle.script_advice.specs.declared.advice.LoopAdvice.{LoopAdvice}
 use Rattle.script_text.specs.ReportText.{Names, AreNamed}
 use Rattle.script_told.specs.Bus.{Bus}
-use Rattle.script_told.specs.Step.{LineAnswer, Settles}
+use Rattle.script_told.specs.Step.{LineAnswer, DoesSettle}
 use Rattle.script_told.specs.Script.{Stage, bus_of}
 use Rattle.script_advice.specs.Advice.{RunsTo, Advises}
 
@@ -36,7 +36,7 @@ ArePullable c (x ∷ cables) =
 -- the bus settles at a stage, and this comes of the advice then
 abbrev pub IsAdvised : Stage → LineAnswer → Type 0
 IsAdvised stage answer =
-    (bus : Bus) × (text : List ℕ) × Settles (bus_of stage) (Ok (bus, text)) × Advises bus answer
+    (bus : Bus) × (text : List ℕ) × DoesSettle (bus_of stage) (Ok (bus, text)) × Advises bus answer
 
 -- the script runs to its end, and this is the text of its advice
 abbrev pub EndsWith : List ℕ → List ℕ → Type 0

@@ -2,12 +2,13 @@
 use Rattle.std.specs.Prelude.{◌≡◌, ℕ, List, Some, Ok}
 use Rattle.settle.specs.declared.report.Report.{Report}
 use Rattle.script_told.specs.Bus.{Bus}
-use Rattle.script_told.specs.Script.{Told}
+use Rattle.script_told.specs.Script.{ScriptResult}
 use Rattle.script_advice.specs.Advice.{RunsTo, Advises, IsAdvice, HasNoLoop, EndsWithoutLoop}
 
 abbrev pub ScriptsHaveOneAdvice : Type 0
 ScriptsHaveOneAdvice =
-    (bytes : List ℕ) (one other : Told) → IsAdvice bytes one → IsAdvice bytes other → one ≡ other
+    (bytes : List ℕ) (one other : ScriptResult) → IsAdvice bytes one → IsAdvice bytes other →
+    one ≡ other
 
 -- no component of the report that an advice ends with is a loop
 abbrev pub AdvicesLeaveNoLoop : Type 0

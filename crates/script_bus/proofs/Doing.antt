@@ -8,7 +8,7 @@ use Rattle.cable_world.proofs.Lemmas.{some-same}
 use Rattle.script_lines.specs.declared.kind.Kind.{Kind}
 use Rattle.script_lines.specs.declared.kind.LineStop.{LineStop}
 use Rattle.script_lines.specs.declared.kind.LineStop.TheVariants.{Fault, Memory}
-use Rattle.script_told.specs.Bus.{Bus, Reported, node_named, tree_with}
+use Rattle.script_told.specs.Bus.{Bus, ReportedTree, node_named, tree_with}
 use Rattle.script_told.specs.Step.{LineAnswer, AtNode, AtTree, Named, Settled}
 use Rattle.script_bus.specs.Running.{Stops}
 
@@ -47,10 +47,10 @@ named bus name node Comes r e h = go (node_named bus.notes.names name) e
     go (Some k) e = subst (λ n. Comes n r) (ap number e) h
 
 pub settled :
-    (bus : Bus) (node : ℕ) (tree : Reported) (Comes : Reported → LineAnswer → Type 0)
+    (bus : Bus) (node : ℕ) (tree : ReportedTree) (Comes : ReportedTree → LineAnswer → Type 0)
     (r : LineAnswer) → tree_with node bus.notes ≡ Some tree → Comes tree r →
     Settled bus node Comes r
-settled bus node tree Comes r e h = subst (λ (o : Option Reported). AtTree o Comes r) (sym e) h
+settled bus node tree Comes r e h = subst (λ (o : Option ReportedTree). AtTree o Comes r) (sym e) h
 
 -- ---- configuration packets
 

@@ -36,9 +36,9 @@ use Rattle.script_lines.specs.declared.kind.Kind.{Kind}
 use Rattle.script_lines.specs.declared.command.Command.{Command}
 use Rattle.script_lines.specs.declared.command.Command.TheVariants as command
 use Rattle.script_text.specs.ReportText.{Names, IsReportText}
-use Rattle.script_told.specs.Bus.{Bus, Notes, Reported, node_named, tree_with}
+use Rattle.script_told.specs.Bus.{Bus, Notes, ReportedTree, node_named, tree_with}
 use Rattle.script_told.specs.Step.{LineAnswer, AtNode, AtTree, Settled, Acts, Reports, Does, config_of, node_with}
-use Rattle.script_told.specs.Script.{Stage, fresh, StageAnswer, running, bus_of, ranges_of, onwards, Follows}
+use Rattle.script_told.specs.Script.{Stage, fresh, StageAnswer, running, bus_of, ranges_of, onwards, DoesAtStage}
 use Rattle.script_told.specs.Run.{Entry}
 use Rattle.script_told.specs.SomeAnswer.{IsReachedBus}
 use Rattle.script_told.specs.ScriptEvents.{Declares, LeavesAlone, RunsOn}
@@ -62,7 +62,8 @@ same-share a b nodes delay longest = rw (nodes, delay, longest) refl
 module _
     (keeps : ActKeepsNodes) (names-one : IdsNameOneNode) (moves : ConfigsMoveRoots)
     (sets : PacketsSetGaps) (w sent u v : CableWorld) (reached : IsReached w) (from : NodeNumber)
-    (there : from < length w.cabling) (tree : Reported) (s : StandsAs w from tree) (id : ℕ) (force : Bool)
+    (there : from < length w.cabling) (tree : ReportedTree) (s : StandsAs w from tree) (id : ℕ)
+    (force : Bool)
     (gap : Option ℕ) (fits : IsAct (Config from id force gap))
     (accepted : act_fault (Config from id force gap) w ≡ None)
     (act : ActLeads (Config from id force gap) w sent) (j : ℕ) (rests : Rests j sent u)
@@ -140,7 +141,7 @@ module _
 module _
     (keeps : ActKeepsNodes) (names-one : IdsNameOneNode) (moves : ConfigsMoveRoots)
     (sets : PacketsSetGaps) (w sent u v : CableWorld) (reached : IsReached w) (from : NodeNumber)
-    (there : from < length w.cabling) (tree : Reported) (s : StandsAs w from tree) (id : ℕ)
+    (there : from < length w.cabling) (tree : ReportedTree) (s : StandsAs w from tree) (id : ℕ)
     (gap : Option ℕ) (fits : IsAct (Config from id true gap))
     (accepted : act_fault (Config from id true gap) w ≡ None)
     (act : ActLeads (Config from id true gap) w sent) (j : ℕ) (rests : Rests j sent u)
@@ -186,7 +187,7 @@ module _
 record IsSent (bus : Bus) (name : List ℕ) (id gap : Option ℕ) (sent : Bus) : Type 0 where
   node : NodeNumber
   named : node_named bus.notes.names name ≡ Some node
-  tree : Reported
+  tree : ReportedTree
   settled : tree_with node bus.notes ≡ Some tree
   accepted : act_fault (config_of node id gap) bus.world ≡ None
   act : ActLeads (config_of node id gap) bus.world sent.world
@@ -198,11 +199,12 @@ module _ (bus : Bus) (name : List ℕ) (id gap : Option ℕ) (sent : Bus) (text 
   no-fault : (kind : Kind) → sends ≡ Err kind → IsSent bus name id gap sent
   no-fault kind e = absurd cc
 
-  abbrev Sends : NodeNumber → Reported → LineAnswer → Type 0
+  abbrev Sends : NodeNumber → ReportedTree → LineAnswer → Type 0
   Sends node tree r = Acts bus (config_of node id gap) r
 
   with-tree :
-      (node : NodeNumber) → node_named bus.notes.names name ≡ Some node → (o : Option Reported) → tree_with node bus.notes ≡ o →
+      (node : NodeNumber) → node_named bus.notes.names name ≡ Some node →
+      (o : Option ReportedTree) → tree_with node bus.notes ≡ o →
       AtTree o (Sends node) sends → IsSent bus name id gap sent
   with-tree node named None e x = no-fault Kind.NotSettled x
   with-tree node named (Some tree) e x =
@@ -331,10 +333,12 @@ module _
       PassesTo (bus_of one.after).world (bus_of one.after).notes.names two.before →
       one.command ≡ command.Config name id gap → two.command ≡ command.Settle → ConfigComesOut one two name id gap
   comes one two name id gap first next time config settle =
-      let f : Follows one.before (command.Config name id gap) (Ok (one.after, one.text)) =
-      subst (λ (c : Command). Follows one.before c (Ok (one.after, one.text))) config first.follows in
-      let g : Follows two.before command.Settle (Ok (two.after, two.text)) =
-      subst (λ (c : Command). Follows two.before c (Ok (two.after, two.text))) settle next.follows in
+      let f : DoesAtStage one.before (command.Config name id gap) (Ok (one.after, one.text)) =
+      subst (λ (c : Command). DoesAtStage one.before c (Ok (one.after, one.text))) config
+      first.follows in
+      let g : DoesAtStage two.before command.Settle (Ok (two.after, two.text)) =
+      subst (λ (c : Command). DoesAtStage two.before c (Ok (two.after, two.text))) settle
+      next.follows in
       let range : IsConfigInRange id gap =
       subst (IsInRange (ranges_of one.before)) config first.range in
       let a = by-answer (bus_of one.before) (command.Config name id gap) one.after one.text f.0 f.1 f.2 in

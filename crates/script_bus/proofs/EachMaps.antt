@@ -48,9 +48,9 @@ use Rattle.script_lines.specs.declared.command.Command.TheVariants.{Node, Plug, 
 use Rattle.script_lines.specs.Refusal.{kind_of}
 use Rattle.script_text.specs.Maps.{IsMapsText}
 use Rattle.script_text.proofs.Lemmas.{same_maps}
-use Rattle.script_told.specs.Bus.{Bus, Reported, node_named, resets_shown, resets_of, tree_of, part_with, tree_with, values_at, after_access, put_look}
-use Rattle.script_told.specs.Step.{LineAnswer, AtNode, Named, AtTree, Settled, AtManager, Managed, Holds, Turns, MapsOf, GivesMaps, ShowsMaps, Accesses, Looks, Grants, seen_by, Does, id_of, end_of}
-use Rattle.script_told.specs.Script.{Stage, fresh, StageAnswer, running, bus_of, onwards, Follows}
+use Rattle.script_told.specs.Bus.{Bus, ReportedTree, node_named, resets_shown, resets_of, tree_of, part_with, tree_with, values_at, after_access, put_look}
+use Rattle.script_told.specs.Step.{LineAnswer, AtNode, Named, AtTree, Settled, AtManager, Managed, HoldsWire, Turns, MapsOf, GivesMaps, ShowsMaps, Accesses, Looks, Grants, seen_by, Does, id_of, end_of}
+use Rattle.script_told.specs.Script.{Stage, fresh, StageAnswer, running, bus_of, onwards, DoesAtStage}
 use Rattle.script_told.specs.Run.{Entry}
 use Rattle.script_bus.specs.EachMaps.{KeepsReport, StandsIn, MapsShowOneTree}
 use Rattle.script_bus.proofs.FollowOn.{LeadsOn, leads-on, at-split, behind-split, leads-behind}
@@ -165,13 +165,13 @@ module _ (stay : TreesStay) (names-one : IdsNameOneNode) (bus : Bus) where
       ((k : NodeNumber) → AllKeep (Comes k)) → AllKeep (Named bus name Comes)
   named name Comes some = at-node (node_named bus.notes.names name) Comes some
 
-  at-tree : (o : Option Reported) (Comes : Reported → LineAnswer → Type 0) →
-      ((t : Reported) → AllKeep (Comes t)) → AllKeep (AtTree o Comes)
+  at-tree : (o : Option ReportedTree) (Comes : ReportedTree → LineAnswer → Type 0) →
+      ((t : ReportedTree) → AllKeep (Comes t)) → AllKeep (AtTree o Comes)
   at-tree None Comes some r e = known (Err Kind.NotSettled) tt r e
   at-tree (Some t) Comes some r e = some t r e
 
-  settled : (node : NodeNumber) (Comes : Reported → LineAnswer → Type 0) →
-      ((t : Reported) → AllKeep (Comes t)) → AllKeep (Settled bus node Comes)
+  settled : (node : NodeNumber) (Comes : ReportedTree → LineAnswer → Type 0) →
+      ((t : ReportedTree) → AllKeep (Comes t)) → AllKeep (Settled bus node Comes)
   settled node Comes some = at-tree (tree_with node bus.notes) Comes some
 
   at-manager : (o : Option NodeNumber) (Comes : NodeNumber → LineAnswer → Type 0) →
@@ -190,11 +190,11 @@ module _ (stay : TreesStay) (names-one : IdsNameOneNode) (bus : Bus) where
   by-test true Yes No one other r x = one r x
   by-test false Yes No one other r x = other r x
 
-  gives-maps : (tree : Reported) → AllKeep (GivesMaps bus tree)
+  gives-maps : (tree : ReportedTree) → AllKeep (GivesMaps bus tree)
   gives-maps tree (Ok (after, text)) x = record { report = ap (λ (b : Bus). b.notes.report) x.after_is; names = ap (λ (b : Bus). b.notes.names) x.after_is; rests = subst (λ (b : Bus). Rests bus.world b.world) (sym x.after_is) (no-turn bus.world) }
   gives-maps tree (Err kind) x = absurd x
 
-  held : (end : End) (n : ℕ) → AllKeep (Holds bus end n)
+  held : (end : End) (n : ℕ) → AllKeep (HoldsWire bus end n)
   held end n r x = by (hold_fault end bus.world) refl
     where
       by : (o : Option CableFault) → hold_fault end bus.world ≡ o → AnswerKeeps bus r
@@ -263,7 +263,7 @@ by-answer bus c next t (Ok (after, text)) does same = record {
 by-answer bus c next t (Err kind) does same = absurd cc
 
 led : (bus : Bus) (c : Command) (next : Stage) (t : List ℕ) →
-    Follows (running bus) c (Ok (next, t)) → Led bus c next t
+    DoesAtStage (running bus) c (Ok (next, t)) → Led bus c next t
 led bus (Node name ports speed link contender force power gap holding short long word len seed packed) next t f = absurd cc
 led bus (Delay delay) next t f = absurd cc
 led bus (Times standard nanoseconds) next t f = absurd cc
@@ -286,14 +286,15 @@ kept-along kept [] rest two bus stage at on all keep = (bus, on.0 ∙ at, no-cha
 kept-along kept (e ∷ between) rest two bus stage at on all keep =
     let is : IsDone e = All-head IsDone e (between ++ two ∷ rest) all in
     let l : Led bus e.command e.after e.text =
-    led bus e.command e.after e.text (subst (λ (s : Stage). Follows s e.command (Ok (e.after, e.text))) (on.0 ∙ at) is.follows) in
+    led bus e.command e.after e.text (subst (λ (s : Stage). DoesAtStage s e.command
+    (Ok (e.after, e.text))) (on.0 ∙ at) is.follows) in
     let k : Keeps bus l.after =
     kept bus e.command e.after e.text (All-head (λ (d : Entry). KeepsReport d.command) e between keep) l in
     let more = kept-along kept between rest two l.after e.after l.next_is on.1 (All-tail IsDone e (between ++ two ∷ rest) all)
     (All-tail (λ (d : Entry). KeepsReport d.command) e between keep) in
     (more.0, more.1, both bus l.after more.0 k more.2)
 
-stand-again : (bus after : Bus) (name : List ℕ) (tree : Reported) → Keeps bus after →
+stand-again : (bus after : Bus) (name : List ℕ) (tree : ReportedTree) → Keeps bus after →
     StandsIn bus name tree → StandsIn after name tree
 stand-again bus after name tree k s = record {
   node = s.node;
@@ -303,7 +304,8 @@ stand-again bus after name tree k s = record {
 
 -- ---- the text of one
 
-module _ (bus : Bus) (name : List ℕ) (tree : Reported) (s : StandsIn bus name tree) (after : Bus) (text : List ℕ) where
+module _ (bus : Bus) (name : List ℕ) (tree : ReportedTree) (s : StandsIn bus name tree)
+    (after : Bus) (text : List ℕ) where
   abbrev answer : LineAnswer
   answer = Ok (after, text)
 
@@ -317,9 +319,10 @@ module _ (bus : Bus) (name : List ℕ) (tree : Reported) (s : StandsIn bus name 
   few true x = x
   few false x = no-fault Kind.TooManyMaps x
 
-  in-tree : (o : Option Reported) → o ≡ Some tree → AtTree o (MapsOf bus) answer → Shown
+  in-tree : (o : Option ReportedTree) → o ≡ Some tree → AtTree o (MapsOf bus) answer → Shown
   in-tree None e x = no-fault Kind.NotSettled x
-  in-tree (Some t) e x = few (nat_lt bus.notes.maps 100) (subst (λ (u : Reported). MapsOf bus u answer) (some-same t tree e) x)
+  in-tree (Some t) e x = few (nat_lt bus.notes.maps 100)
+      (subst (λ (u : ReportedTree). MapsOf bus u answer) (some-same t tree e) x)
 
   of-node : (o : Option NodeNumber) → o ≡ Some s.node →
       AtNode o (λ node. Settled bus node (MapsOf bus)) answer → Shown
@@ -332,7 +335,8 @@ module _ (bus : Bus) (name : List ℕ) (tree : Reported) (s : StandsIn bus name 
   maps-shown x = of-node (node_named bus.notes.names name) s.named x
 
 one-text :
-    NoListHasTwoTrees → (bus other after next : Bus) (tree : Reported) (a b : List ℕ) → ShowsMaps bus tree after a →
+    NoListHasTwoTrees → (bus other after next : Bus) (tree : ReportedTree) (a b : List ℕ) →
+    ShowsMaps bus tree after a →
     ShowsMaps other tree next b → resets_of bus.world tree.root ≡ resets_of other.world tree.root → a ≡ b
 one-text trees bus other after next tree a b x y same =
     let shown : y.shown ≡ x.shown = trees Ieee2000 y.shown x.shown y.is.bus x.is.bus (y.is.emitted ∙ sym x.is.emitted) in
@@ -343,7 +347,8 @@ one-text trees bus other after next tree a b x y same =
 
 -- the tree of a node, as it stands
 tree-stands :
-    TreesStay → ComponentsExist → (bus : Bus) → IsReachedBus bus → (name : List ℕ) (tree : Reported) → (s : StandsIn bus name tree) →
+    TreesStay → ComponentsExist → (bus : Bus) → IsReachedBus bus →
+    (name : List ℕ) (tree : ReportedTree) → (s : StandsIn bus name tree) →
     StandsAs bus.world s.node tree
 tree-stands stay components bus h name tree s =
     let l : IsLawful bus.world = reached-lawful bus.world h.reached in
@@ -354,7 +359,8 @@ tree-stands stay components bus h name tree s =
 
 -- its root counts as many resets
 same-count :
-    TreesStay → ComponentsExist → (bus after : Bus) → IsReachedBus bus → (name : List ℕ) (tree : Reported) → StandsIn bus name tree →
+    TreesStay → ComponentsExist → (bus after : Bus) → IsReachedBus bus →
+    (name : List ℕ) (tree : ReportedTree) → StandsIn bus name tree →
     Keeps bus after → resets_of after.world tree.root ≡ resets_of bus.world tree.root
 same-count stay components bus after h name tree s k =
     let t = tree-stands stay components bus h name tree s in
@@ -363,10 +369,12 @@ same-count stay components bus after h name tree s k =
 module _ (trees : NoListHasTwoTrees) (keep-nodes : ActKeepsNodes) (stay : TreesStay) (components : ComponentsExist) (names-one : IdsNameOneNode) where
   -- `maps` was done on a bus that runs
   at-maps :
-      (stage : Stage) (c : Command) (name : List ℕ) (next : Stage) (t : List ℕ) → c ≡ Maps name → Follows stage c (Ok (next, t)) →
+      (stage : Stage) (c : Command) (name : List ℕ) (next : Stage) (t : List ℕ) → c ≡ Maps name →
+      DoesAtStage stage c (Ok (next, t)) →
       Led (bus_of stage) (Maps name) next t
   at-maps stage c name next t same f =
-      let g : Follows stage (Maps name) (Ok (next, t)) = subst (λ (d : Command). Follows stage d (Ok (next, t))) same f in
+      let g : DoesAtStage stage (Maps name) (Ok (next, t)) =
+      subst (λ (d : Command). DoesAtStage stage d (Ok (next, t))) same f in
       by-answer (bus_of stage) (Maps name) next t g.0 g.1 g.2
 
   pub each-maps : MapsShowOneTree

@@ -21,7 +21,7 @@ use Rattle.script_lines.specs.declared.command.Command.{Command}
 use Rattle.script_lines.specs.declared.command.Command.TheVariants.{Plan}
 use Rattle.script_told.specs.Bus.{Bus, Notes}
 use Rattle.script_told.specs.Step.{LineAnswer, Does, node_with}
-use Rattle.script_told.specs.Script.{Stage, StageAnswer, running, bus_of, onwards, Follows}
+use Rattle.script_told.specs.Script.{Stage, StageAnswer, running, bus_of, onwards, DoesAtStage}
 use Rattle.script_told.specs.Run.{Entry}
 use Rattle.script_told.specs.EachPlan.{IsCarriedOut, ComesOut, EachPlanComesOut}
 use Rattle.script_told.specs.SomeAnswer.{IsReachedBus}
@@ -126,8 +126,8 @@ module _
 
   at-plan : (e : Entry) → IsDone e → (name : List ℕ) → e.command ≡ Plan name → ComesOut e name
   at-plan e is name same =
-      let f : Follows e.before (Plan name) (Ok (e.after, e.text)) =
-      subst (λ (c : Command). Follows e.before c (Ok (e.after, e.text))) same is.follows in
+      let f : DoesAtStage e.before (Plan name) (Ok (e.after, e.text)) =
+      subst (λ (c : Command). DoesAtStage e.before c (Ok (e.after, e.text))) same is.follows in
       comes e name is f.0 f.1 f.2
 
   pub each-plan : EachPlanComesOut

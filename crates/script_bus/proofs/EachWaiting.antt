@@ -32,7 +32,7 @@ use Rattle.script_text.specs.ReportText.{Names, IsReportText}
 use Rattle.port_state.specs.declared.ranges.TimeRanges.{TimeRanges}
 use Rattle.script_told.specs.Bus.{Bus, Notes, is_declared}
 use Rattle.script_told.specs.Step.{Reports, config_of}
-use Rattle.script_told.specs.Script.{Draft, Stage, fresh, declaring, running, StageAnswer, bus_of, first_draft, takes_times, with_times, with_node, draft_of, Declares as IsDeclared, Delays, SaysTimes, Follows}
+use Rattle.script_told.specs.Script.{Draft, Stage, fresh, declaring, running, StageAnswer, bus_of, first_draft, takes_times, with_times, with_node, draft_of, Declares as IsDeclared, Delays, SaysTimes, DoesAtStage}
 use Rattle.script_told.specs.Run.{Entry}
 use Rattle.script_told.specs.Reached.{world_of}
 use Rattle.script_told.specs.SomeAnswer.{IsReachedBus}
@@ -94,7 +94,7 @@ joined (turns ∷ a) b w u v first next =
 
 -- a command of a bus that runs declares nothing
 late : (bus : Bus) (c : Command) (next : Stage) (text : List ℕ) → Declares c →
-    Follows (running bus) c (Ok (next, text)) → ⊥
+    DoesAtStage (running bus) c (Ok (next, text)) → ⊥
 late bus (command.Node name ports speed link contender force power gap hold short long word len seed packed) next text d f = absurd cc
 late bus (command.Delay delay) next text d f = absurd cc
 late bus (command.Times standard nanoseconds) next text d f = absurd cc
@@ -144,7 +144,7 @@ at-once [] from settling rest done still leads =
 at-once (e ∷ acting) from settling rest done still leads =
     let d : IsDone e = done 0 e (omega arith) in
     let r : RunsOn e = runs-on e d (λ says. late from e.command e.after e.text says
-    (subst (λ (s : Stage). Follows s e.command (Ok (e.after, e.text))) leads.0 d.follows)) in
+    (subst (λ (s : Stage). DoesAtStage s e.command (Ok (e.after, e.text))) leads.0 d.follows)) in
     let next : AtOnce (running r.after) acting settling.before =
     at-once acting r.after settling rest (λ i x inside. done (suc i) x (omega (arith, inside))) (λ i x inside. still (suc i) x (omega (arith, inside)))
     (subst (λ (s : Stage). LeadsOn s (acting ++ settling ∷ rest)) r.is leads.1) in
@@ -211,7 +211,7 @@ not-some-times draft false r bus text e = absurd cc
 -- a declaration leaves no bus that runs
 not-running :
     (stage : Stage) (c : Command) (bus : Bus) (text : List ℕ) → Declares c →
-    Follows stage c (Ok (running bus, text)) → ⊥
+    DoesAtStage stage c (Ok (running bus, text)) → ⊥
 not-running stage (command.Node name ports speed link contender force power gap hold short long word len seed packed) bus text d f =
     not-declared (draft_of stage) name _ bus text f
 not-running stage (command.Delay delay) bus text d f = not-delayed stage delay bus text f
@@ -224,7 +224,7 @@ not-running stage c bus text d f = d
 
 declared-on :
     (stage next : Stage) (c : Command) (text : List ℕ) → Declares c → IsSound next →
-    Follows stage c (Ok (next, text)) → PowersOn next
+    DoesAtStage stage c (Ok (next, text)) → PowersOn next
 declared-on stage fresh c text d h f =
     just-on fresh (draft-power first_draft (no-nodes 4 (omega arith) (omega arith)))
 declared-on stage (declaring draft) c text d h f = just-on (declaring draft) (draft-power draft h)
@@ -274,8 +274,9 @@ record IsGiven (e : Entry) : Type 0 where
 is-given : (e : Entry) → IsDone e → DoesReport e.command → IsGiven e
 is-given e d reports = go e.command refl reports
   where
-    follows : (c : Command) → e.command ≡ c → Follows e.before c (Ok (e.after, e.text))
-    follows c same = subst (λ (x : Command). Follows e.before x (Ok (e.after, e.text))) same d.follows
+    follows : (c : Command) → e.command ≡ c → DoesAtStage e.before c (Ok (e.after, e.text))
+    follows c same = subst (λ (x : Command). DoesAtStage e.before x
+        (Ok (e.after, e.text))) same d.follows
 
     h : IsReachedBus (bus_of e.before)
     h = sound-bus e.before d.sound
@@ -342,7 +343,8 @@ module _
     -- a fresh component comes to a tree from the root, which is printed
     is-root : IsFresh w set → IsRootOf root settling
     is-root is_fresh =
-        let f = subst (λ (c : Command). Follows settling.before c (Ok (settling.after, settling.text))) settles d.follows in
+        let f = subst (λ (c : Command). DoesAtStage settling.before c
+        (Ok (settling.after, settling.text))) settles d.follows in
         let b = by-answer (bus_of settling.before) command.Settle settling.after settling.text f.0 f.1 f.2 in
         let r : Reports (bus_of settling.before) (Ok (b.after, b.text)) = reports-of (bus_of settling.before) b.after b.text b.does in
         let quiet : ℕ = quiet_turns_of w in

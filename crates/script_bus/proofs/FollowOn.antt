@@ -6,7 +6,7 @@ use Rattle.script_lines.specs.declared.kind.Kind.{Kind}
 use Rattle.script_lines.specs.declared.command.Command.{Command}
 use Rattle.script_told.specs.Step.{LineAnswer}
 use Rattle.script_told.specs.Script.{Stage, fresh, StageAnswer, script_lines}
-use Rattle.script_told.specs.Run.{Entry, ScriptRun, stopped, last_run, Goes, Takes, RunsFrom, IsRun}
+use Rattle.script_told.specs.Run.{Entry, ScriptRun, stopped, last_run, Proceeds, TakesLine, RunsFrom, IsRun}
 use Rattle.script_bus.specs.EachConfig.{EntriesFollowOn}
 
 -- the commands lead on from a stage
@@ -23,14 +23,14 @@ same-run stage one other same h = subst (λ (r : ScriptRun). LeadsOn stage r.ent
 
 goes :
     (number : ℕ) (Rest : Stage → ScriptRun → Type 0) (stage : Stage) (command : Command) (r : StageAnswer) (run : ScriptRun) →
-    LeadsOnFrom Rest → Goes number Rest stage command r run → LeadsOn stage run.entries
+    LeadsOnFrom Rest → Proceeds number Rest stage command r run → LeadsOn stage run.entries
 goes number Rest stage command (Ok (next, text)) run rest x =
     subst (λ (r : ScriptRun). LeadsOn stage r.entries) (sym x.2) (refl, rest next x.0 x.1)
 goes number Rest stage command (Err kind) run rest x = same-run stage run (stopped number kind) x tt
 
 takes :
     (number : ℕ) (Rest : Stage → ScriptRun → Type 0) (stage : Stage) (reading : Result (Option Command) Kind) (run : ScriptRun) →
-    LeadsOnFrom Rest → Takes number Rest stage reading run → LeadsOn stage run.entries
+    LeadsOnFrom Rest → TakesLine number Rest stage reading run → LeadsOn stage run.entries
 takes number Rest stage (Ok None) run rest x = rest stage run x
 takes number Rest stage (Ok (Some command)) run rest x = goes number Rest stage command x.0 run rest x.2
 takes number Rest stage (Err kind) run rest x = same-run stage run (stopped number kind) x tt

@@ -11,7 +11,7 @@ use Rattle.script_lines.specs.declared.command.Command.{Command}
 use Rattle.script_lines.specs.declared.command.Command.TheVariants.{Plug, Pull, Reset, Config, Hold}
 use Rattle.script_text.specs.ReportText.{IsReportText}
 use Rattle.script_told.specs.Bus.{Notes, Bus}
-use Rattle.script_told.specs.Step.{LineAnswer, Reports, Settles, notes_after_report}
+use Rattle.script_told.specs.Step.{LineAnswer, Reports, DoesSettle, notes_after_report}
 use Rattle.script_trace.specs.Voice.{Legend, legend_of, Voice}
 use Rattle.script_trace.specs.Trace.{act_trace, quiet_trace, Traces}
 use Rattle.script_bus.specs.Heard.{Hears}
@@ -64,7 +64,7 @@ reports-now sent passed after text quiet notes r = (
 pub settles-within :
     (bus : Bus) (answer : LineAnswer) →
     nat_lt 2000000 (bus.world.turns + quiet_turns_of bus.world) ≡ false → Reports bus answer →
-    Settles bus answer
+    DoesSettle bus answer
 settles-within bus answer within r =
     subst (λ (past : Bool). MatchBool past (answer ≡ Err Kind.TooManyTurns) (Reports bus answer))
     (sym within) r

@@ -7,7 +7,7 @@ use Rattle.settle.specs.declared.report.Outcome.TheVariants as reported
 use Rattle.settle.specs.declared.report.Part.{Part}
 use Rattle.settle.specs.declared.report.Report.{Report}
 use Rattle.script_text.specs.ReportText.{Names, IsNamedTree, IsNamedOutcome, IsNamedPart, IsNamedReport}
-use Rattle.script_told.specs.Bus.{Notes, Reported, tree_of, part_with, tree_with}
+use Rattle.script_told.specs.Bus.{Notes, ReportedTree, tree_of, part_with, tree_with}
 
 found : (P : Part → Type 0) (p : Part → Bool) (xs : List Part) → All P xs → IfSome (find p xs) P
 found P p [] all = tt
@@ -17,7 +17,7 @@ found P p (x ∷ xs) all = either (p x) (all 0 x (omega arith)) (found P p xs (�
     either true first rest = first
     either false first rest = rest
 
-IsNamed : Names → Reported → Type 0
+IsNamed : Names → ReportedTree → Type 0
 IsNamed names t = IsNamedTree names t.root t.list t.order
 
 named-part : (names : Names) (part : Part) → IsNamedPart names part →
@@ -44,7 +44,9 @@ named-there names node notes is = by notes.report is
     by (Some report) is = of-part names (part_with node report) (found (IsNamedPart names) (λ part. bit_at part.nodes node == 1) report.parts is)
 
 pub named_tree :
-    (names : Names) (node : ℕ) (notes : Notes) (t : Reported) → IfSome notes.report (IsNamedReport names) →
+    (names : Names) (node : ℕ) (notes : Notes) (t : ReportedTree) →
+    IfSome notes.report (IsNamedReport names) →
     tree_with node notes ≡ Some t → IsNamedTree names t.root t.list t.order
 unfolding IsNamed
-named_tree names node notes t is there = subst (λ (o : Option Reported). IfSome o (IsNamed names)) there (named-there names node notes is)
+named_tree names node notes t is there = subst (λ (o : Option ReportedTree). IfSome o
+    (IsNamed names)) there (named-there names node notes is)

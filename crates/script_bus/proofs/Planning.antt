@@ -23,13 +23,14 @@ use Rattle.port_state.specs.Machine.{PortNode}
 use Rattle.root_plan.specs.declared.choice.RootPlan.{RootPlan}
 use Rattle.root_plan.proofs.Lemmas.{candidate_within}
 use Rattle.settle.specs.Planned.{SuitsTree, HasId, PlansSuit}
-use Rattle.script_told.specs.Bus.{Reported}
+use Rattle.script_told.specs.Bus.{ReportedTree}
 use Rattle.script_text.specs.Plan.{IsPlan}
 use Rattle.script_text.specs.ReportText.{Names, IsNamedTree}
 use Rattle.script_told.specs.Step.{HasManager, node_with}
 use Rattle.script_bus.specs.codings.Standing.{StandsAs}
 
-module _ (w : CableWorld) (l : IsLawful w) (node : ℕ) (tree : Reported) (s : StandsAs w node tree) where
+module _ (w : CableWorld) (l : IsLawful w) (node : ℕ) (tree : ReportedTree)
+    (s : StandsAs w node tree) where
   abbrev t : Tree
   t = s.stands.tree
 
@@ -103,7 +104,8 @@ module _ (w : CableWorld) (l : IsLawful w) (node : ℕ) (tree : Reported) (s : S
 
 -- the root of a plan has a place in the order
 pub plan-place :
-    NoListHasTwoTrees → (names : Names) (tree : Reported) → IsNamedTree names tree.root tree.list tree.order →
+    NoListHasTwoTrees → (names : Names) (tree : ReportedTree) →
+    IsNamedTree names tree.root tree.list tree.order →
     (shown : Tree) → IsBusTreeOf Ieee2000 shown → emits shown ≡ tree.list → (plan : RootPlan) → IsPlan shown plan →
     plan.root_id < length tree.order
 plan-place trees names tree named shown bus same plan p =
@@ -112,7 +114,8 @@ plan-place trees names tree named shown bus same plan p =
 
 -- where there is a manager, some node is elected
 pub is-elected :
-    NoListHasTwoTrees → (tree : Reported) (manager : ℕ) → HasManager tree (Some manager) → (shown : Tree) →
+    NoListHasTwoTrees → (tree : ReportedTree) (manager : ℕ) → HasManager tree (Some manager) →
+    (shown : Tree) →
     IsBusTreeOf Ieee2000 shown → emits shown ≡ tree.list → elected shown ≡ None → ⊥
 is-elected trees tree manager has shown bus same none = by (elected has.shown) (ap elected one ∙ none) has.elects
   where

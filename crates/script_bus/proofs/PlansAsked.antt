@@ -4,7 +4,7 @@ use Rattle.std.specs.Prelude.{MatchBool, nat_lt}
 use Rattle.root_plan.specs.declared.choice.RootPlan.{RootPlan}
 use Rattle.settle.specs.Report.{quiet_turns_of}
 use Rattle.script_lines.specs.declared.kind.Kind.{Kind}
-use Rattle.script_told.specs.Bus.{Bus, Reported, tree_with, values_at}
+use Rattle.script_told.specs.Bus.{Bus, ReportedTree, tree_with, values_at}
 use Rattle.script_told.specs.Step.{LineAnswer, HasManager, AtNode, AtTree, AtManager, Managed, CarriesOut, Plans, PlansAs, Settled, Within, id_of}
 use Rattle.script_bus.specs.Running.{IsAsked}
 use Rattle.script_bus.specs.codings.Standing.{IsPlanned, IsSent}
@@ -16,10 +16,10 @@ pub asked-comes :
     Managed bus name Comes r
 asked-comes bus name node id manager is Comes r h =
     subst (λ (o : Option ℕ). AtNode o At r) (sym is.named)
-    (subst (λ (o : Option Reported). AtTree o (In node) r) (sym is.settled)
+    (subst (λ (o : Option ReportedTree). AtTree o (In node) r) (sym is.settled)
     (Some manager, is.managed, subst (λ (i : ℕ). Comes node i manager r) is.id_is h))
   where
-    In : ℕ → Reported → LineAnswer → Type 0
+    In : ℕ → ReportedTree → LineAnswer → Type 0
     In k t r = (m : Option ℕ) × HasManager t m × AtManager m (Comes k (id_of t k)) r
 
     At : ℕ → LineAnswer → Type 0
@@ -27,7 +27,8 @@ asked-comes bus name node id manager is Comes r h =
 
 -- a plan that is carried out
 abbrev pub carries-out :
-    (bus after : Bus) (name : List ℕ) (node : ℕ) (tree : Reported) (plan : RootPlan) (line report text : List ℕ) →
+    (bus after : Bus) (name : List ℕ) (node : ℕ) (tree : ReportedTree) (plan : RootPlan)
+    (line report text : List ℕ) →
     IsPlanned bus name tree plan line → IsSent bus node plan after report →
     text ≡ line ++ report →
     CarriesOut bus name node tree after text
@@ -74,9 +75,9 @@ module _ (bus : Bus) (name : List ℕ) (node id manager : ℕ) where
   too-many-turns r e past is = by-manager true e r (by-turns true past r is)
 
   pub carried-out :
-      (tree : Reported) (r : LineAnswer) → (values_at manager bus).bus_manager_id == id ≡ true →
+      (tree : ReportedTree) (r : LineAnswer) → (values_at manager bus).bus_manager_id == id ≡ true →
       nat_lt 2000000 (bus.world.turns + quiet_turns_of bus.world) ≡ false →
       tree_with node bus.notes ≡ Some tree → Plans bus name node tree r →
       PlansAs bus name node id manager r
   carried-out tree r e within settled h = by-manager true e r (by-turns false within r
-      (subst (λ (o : Option Reported). AtTree o (Plans bus name node) r) (sym settled) h))
+      (subst (λ (o : Option ReportedTree). AtTree o (Plans bus name node) r) (sym settled) h))

@@ -19,7 +19,7 @@ use Rattle.settle.specs.declared.report.Part.{Part}
 use Rattle.settle.specs.Report.{IsPart}
 use Rattle.script_lines.specs.declared.kind.ScriptFault.{ScriptFault}
 use Rattle.script_told.specs.Bus.{Bus}
-use Rattle.script_told.specs.Step.{LineAnswer, Acts, Settles, notes_after_act}
+use Rattle.script_told.specs.Step.{LineAnswer, Acts, DoesSettle, notes_after_act}
 use Rattle.script_told.specs.Run.{printed, unless_stopped}
 use Rattle.script_told.specs.SomeAnswer.{IsReachedBus, HasAnswer, BusesSettle}
 use Rattle.script_told.proofs.Lemmas.{act-leads, do-act, IsEnd}
@@ -102,7 +102,7 @@ advised components exist keeps settle bus end =
     let are : AreAdvices bus.world.cabling (loops_of end.report.parts) found.0 = record { each = found.1; are = found.2 } in
     let may = reported-pullable bus.world end.report found.0 cables end.is are in
     let pulled = some-pulls components keeps bus (all_pulls found.0) end.reached may in
-    let last : HasAnswer (Settles pulled.0) = settle pulled.0 pulled.2 in (
+    let last : HasAnswer (DoesSettle pulled.0) = settle pulled.0 pulled.2 in (
       after_text (advice_text bus.notes.names found.0) last.answer,
       record {
         report = end.report;

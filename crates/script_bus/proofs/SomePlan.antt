@@ -30,7 +30,7 @@ use Rattle.script_lines.specs.declared.kind.Kind.{Kind}
 use Rattle.script_text.specs.Plan.{plan_line}
 use Rattle.script_text.specs.SomePlan.{HasPlan, PlansExist}
 use Rattle.script_text.specs.SomeText.{HasReportText, QuietWorldsHaveTexts}
-use Rattle.script_told.specs.Bus.{Bus, Reported, node_named, tree_with, values_at}
+use Rattle.script_told.specs.Bus.{Bus, ReportedTree, node_named, tree_with, values_at}
 use Rattle.script_told.specs.Step.{LineAnswer, HasManager, AtNode, AtTree, AtManager, Plans, PlansAs, Settled, Within, id_of, node_with, notes_after_act, notes_after_report}
 use Rattle.script_told.specs.SomeManager.{IsManaged, ReportedTreesAreManaged}
 use Rattle.script_told.specs.SomeAnswer.{IsOfReached, IsReachedBus, HasAnswer, PlansHaveAnswers}
@@ -51,7 +51,8 @@ stands-since w (Some report) h = record {
 }
 
 -- where there is a manager there is a candidate
-has-candidate : (tree : Reported) (manager : NodeNumber) (has : HasManager tree (Some manager)) →
+has-candidate : (tree : ReportedTree) (manager : NodeNumber)
+    (has : HasManager tree (Some manager)) →
     (id : ℕ) × IsCandidate (walk has.shown) id
 has-candidate tree manager has = by (elected has.shown) (is_highest (walk has.shown)) has.elects
   where
@@ -60,7 +61,7 @@ has-candidate tree manager has = by (elected has.shown) (is_highest (walk has.sh
     by (Some id) high e = (id, high.0)
 
 -- what a plan asks of the tree of a node
-abbrev Inner : Bus → List ℕ → NodeNumber → Reported → LineAnswer → Type 0
+abbrev Inner : Bus → List ℕ → NodeNumber → ReportedTree → LineAnswer → Type 0
 Inner bus name node tree r = (manager : Option NodeNumber) × HasManager tree manager × AtManager manager (PlansAs bus name node (id_of tree node)) r
 
 module _
@@ -68,7 +69,8 @@ module _
     (texts : QuietWorldsHaveTexts) (managed : ReportedTreesAreManaged)
     (names-one : IdsNameOneNode) (moves : ConfigsMoveRoots) (sets : ConfigsSetGaps) where
   module _
-      (bus : Bus) (h : IsReachedBus bus) (name : List ℕ) (node : NodeNumber) (there : node < length bus.world.cabling) (tree : Reported)
+      (bus : Bus) (h : IsReachedBus bus) (name : List ℕ) (node : NodeNumber)
+      (there : node < length bus.world.cabling) (tree : ReportedTree)
       (settled : tree_with node bus.notes ≡ Some tree) (manager : NodeNumber) (has : HasManager tree (Some manager)) where
     abbrev w : CableWorld
     w = bus.world
@@ -153,15 +155,20 @@ module _
   module _ (bus : Bus) (h : IsReachedBus bus) (name : List ℕ) (node : NodeNumber) (there : node < length bus.world.cabling) where
     -- the tree is asked for twice
     again :
-        (tree : Reported) → tree_with node bus.notes ≡ Some tree → (manager : NodeNumber) → HasManager tree (Some manager) →
-        (o : Option Reported) → tree_with node bus.notes ≡ o → HasAnswer (AtTree o (Plans bus name node))
+        (tree : ReportedTree) → tree_with node bus.notes ≡ Some tree →
+        (manager : NodeNumber) → HasManager tree (Some manager) →
+        (o : Option ReportedTree) → tree_with node bus.notes ≡ o →
+        HasAnswer (AtTree o (Plans bus name node))
     again tree settled manager has None e = known (Err Kind.NotSettled)
     again tree settled manager has (Some t) e =
-        let a = carried bus h name node there t e manager (subst (λ (x : Reported). HasManager x (Some manager)) (some-same tree t (sym settled ∙ e)) has) in
+        let a = carried bus h name node there t e manager
+        (subst (λ (x : ReportedTree). HasManager x (Some manager))
+        (some-same tree t (sym settled ∙ e)) has) in
         record { answer = a.answer; is = a.is }
 
     by-manager :
-        (tree : Reported) → tree_with node bus.notes ≡ Some tree → (o : Option NodeNumber) → HasManager tree o →
+        (tree : ReportedTree) → tree_with node bus.notes ≡ Some tree →
+        (o : Option NodeNumber) → HasManager tree o →
         HasAnswer (AtManager o (PlansAs bus name node (id_of tree node)))
     by-manager tree settled None has = known (Err Kind.NoManager)
     by-manager tree settled (Some manager) has =
@@ -172,7 +179,8 @@ module _
         (known (Err Kind.NotManager)) in
         record { answer = a.answer; is = a.is }
 
-    by-tree : (o : Option Reported) → tree_with node bus.notes ≡ o → HasAnswer (AtTree o (Inner bus name node))
+    by-tree : (o : Option ReportedTree) → tree_with node bus.notes ≡ o →
+        HasAnswer (AtTree o (Inner bus name node))
     by-tree None e = known (Err Kind.NotSettled)
     by-tree (Some tree) e =
         let m : IsManaged tree = tree-managed managed bus h node tree e in

@@ -15,8 +15,8 @@ use Rattle.script_lines.specs.Ranged.{CommandsAreInRange}
 use Rattle.script_lines.proofs.Lemmas.{some_reading}
 use Rattle.script_told.specs.Bus.{Bus, is_declared}
 use Rattle.script_told.specs.Step.{Does}
-use Rattle.script_told.specs.Script.{Draft, Stage, fresh, declaring, running, StageAnswer, bus_of, ranges_of, first_draft, draft_with, takes_times, with_times, new_node, times_of, coins_of, with_node, Declares, Delays, SaysTimes, onwards, Runs, Follows, script_lines}
-use Rattle.script_told.specs.Run.{ScriptRun, done, stopped, behind, last_run, Goes, Takes, RunsFrom}
+use Rattle.script_told.specs.Script.{Draft, Stage, fresh, declaring, running, StageAnswer, bus_of, ranges_of, first_draft, draft_with, takes_times, with_times, new_node, times_of, coins_of, with_node, Declares, Delays, SaysTimes, onwards, DoesOnBus, DoesAtStage, script_lines}
+use Rattle.script_told.specs.Run.{ScriptRun, done, stopped, behind, last_run, Proceeds, TakesLine, RunsFrom}
 use Rattle.script_told.specs.SomeAnswer.{IsReachedBus, HasAnswer, CommandsHaveAnswers, PlansHaveAnswers, BusesSettle}
 use Rattle.script_told.specs.Fitting.{IsFitting}
 use Rattle.script_told.proofs.Lemmas.{says, IsSoundDraft, IsSound, LeavesSound, sound-bus, no-nodes, drafted, leaves, onwards-sound, attrs_said, node-at-power-on}
@@ -76,7 +76,7 @@ module _ (keeps : ActKeepsNodes) (commands : CommandsHaveAnswers) (plans : Plans
   any-answer bus command h = commands bus command h tt
 
   runs : (stage : Stage) (command : Command) → IsSound stage → IsInRange (ranges_of stage) command →
-      Step (Runs stage command)
+      Step (DoesOnBus stage command)
   runs stage command h i =
       let a = any-answer (bus_of stage) command (sound-bus stage h) in
       record {
@@ -86,7 +86,7 @@ module _ (keeps : ActKeepsNodes) (commands : CommandsHaveAnswers) (plans : Plans
       }
 
   follow : (stage : Stage) (command : Command) → IsSound stage →
-      IsInRange (ranges_of stage) command → Step (Follows stage command)
+      IsInRange (ranges_of stage) command → Step (DoesAtStage stage command)
   follow fresh (Node name ports speed link contender force power gap held short long word len seed packed) h i =
       declare-node first_draft (no-nodes 4 (omega arith) (omega arith)) name ports speed link contender force power gap held short long word len seed i
   follow (declaring draft) (Node name ports speed link contender force power gap held short long word len seed packed) h i =
@@ -106,7 +106,8 @@ module _ (keeps : ActKeepsNodes) (commands : CommandsHaveAnswers) (plans : Plans
 
   goes :
       (number : ℕ) (Rest : Stage → ScriptRun → Type 0) (stage : Stage) (command : Command) → HasFrom Rest →
-      (r : StageAnswer) → LeavesSound r → (run : ScriptRun) × Goes number Rest stage command r run
+      (r : StageAnswer) → LeavesSound r → (run : ScriptRun) ×
+      Proceeds number Rest stage command r run
   goes number Rest stage command rest (Ok (next, text)) h =
       let more = rest next h in (behind (done number stage command next text ∷ []) more.0, (more.0, more.1, refl))
   goes number Rest stage command rest (Err kind) h = (stopped number kind, refl)
@@ -114,7 +115,7 @@ module _ (keeps : ActKeepsNodes) (commands : CommandsHaveAnswers) (plans : Plans
   takes :
       (number : ℕ) (Rest : Stage → ScriptRun → Type 0) → HasFrom Rest → (stage : Stage) (line : List ℕ)
       (reading : Result (Option Command) Kind) → IsSound stage → Reads (ranges_of stage) line reading →
-      (run : ScriptRun) × Takes number Rest stage reading run
+      (run : ScriptRun) × TakesLine number Rest stage reading run
   takes number Rest rest stage line (Ok None) h reads = rest stage h
   takes number Rest rest stage line (Ok (Some command)) h reads =
       let s = follow stage command h (ranged (ranges_of stage) line command reads) in

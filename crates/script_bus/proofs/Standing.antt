@@ -31,7 +31,7 @@ use Rattle.settle.specs.declared.report.Report.{Report}
 use Rattle.settle.specs.Report.{IsPart}
 use Rattle.settle.specs.Reported.{IsReported, ReportsTree}
 use Rattle.settle.proofs.Lemmas.{one-order, same-component, same-tree}
-use Rattle.script_told.specs.Bus.{Notes, Reported, tree_of, part_with, tree_with}
+use Rattle.script_told.specs.Bus.{Notes, ReportedTree, tree_of, part_with, tree_with}
 use Rattle.script_bus.specs.codings.Standing.{StandsSince, StandsAs}
 
 -- ---- since a report
@@ -84,7 +84,7 @@ found-part P p (x ∷ xs) y all e =
     either false h rest e = rest e
 
 part-tree :
-    (w : CableWorld) (part : Part) (tree : Reported) → tree_of part ≡ Some tree →
+    (w : CableWorld) (part : Part) (tree : ReportedTree) → tree_of part ≡ Some tree →
     IsReported w part.nodes part.outcome → ReportsTree w part.nodes tree.root tree.list tree.order
 part-tree w part tree e is = by part.outcome refl e is
   where
@@ -92,7 +92,7 @@ part-tree w part tree e is = by part.outcome refl e is
         (o : Outcome) → part.outcome ≡ o → tree_of (record part { outcome = o }) ≡ Some tree →
         IsReported w part.nodes o → ReportsTree w part.nodes tree.root tree.list tree.order
     by (reported.Tree root list order) at e is =
-        subst (λ (t : Reported). ReportsTree w part.nodes t.root t.list t.order)
+        subst (λ (t : ReportedTree). ReportsTree w part.nodes t.root t.list t.order)
         (some-same (record { root = root; list = list; order = order }) tree e) is
     by (reported.Contention a b) at e is = absurd cc
     by (reported.Loop core) at e is = absurd cc
@@ -152,7 +152,7 @@ module _
 module _
     (stay : TreesStay) (w : CableWorld) (node whole : ℕ) (component : IsComponent w.cabling node whole)
     (small : whole < 2 ^ 63) (report : Report) (s : StandsSince report w) (part : Part)
-    (is : IsPart s.before part) (here : Holds part.nodes node) (tree : Reported)
+    (is : IsPart s.before part) (here : Holds part.nodes node) (tree : ReportedTree)
     (k : ReportsTree s.before part.nodes tree.root tree.list tree.order) where
   abbrev u : CableWorld
   u = s.before
@@ -214,7 +214,7 @@ module _
 pub reported-stands :
     TreesStay → (w : CableWorld) (node whole : ℕ) → IsComponent w.cabling node whole →
     whole < 2 ^ 63 → (notes : Notes) → IfSome notes.report (λ r. StandsSince r w) →
-    (tree : Reported) → tree_with node notes ≡ Some tree → StandsAs w node tree
+    (tree : ReportedTree) → tree_with node notes ≡ Some tree → StandsAs w node tree
 reported-stands stay w node whole component small notes stands tree settled =
     let p = and-then tree_of (option_and_then (part_with node) notes.report) tree settled in
     let q = and-then (part_with node) notes.report p.0 p.1 in

@@ -3,7 +3,7 @@ use Rattle.std.specs.Prelude.{◌≡◌, ℕ, ◌<◌, All, List, ◌∷◌, ◌
 use Rattle.cable_world.specs.World.{NodeNumber}
 use Rattle.settle.specs.Planned.{HaveGap}
 use Rattle.script_lines.specs.declared.command.Command.TheVariants.{Settle, Config}
-use Rattle.script_told.specs.Bus.{Bus, Reported, node_named, tree_with}
+use Rattle.script_told.specs.Bus.{Bus, ReportedTree, node_named, tree_with}
 use Rattle.script_told.specs.Step.{node_with}
 use Rattle.script_told.specs.Script.{running, bus_of}
 use Rattle.script_told.specs.Run.{Entry, ScriptRun, IsRun}
@@ -27,7 +27,7 @@ pub record ConfigComesOut
     (one two : Entry) (name : List ℕ) (id gap : Option ℕ) : Type 0 where
   pub node : NodeNumber
   pub named : node_named (bus_of one.before).notes.names name ≡ Some node
-  pub tree : Reported
+  pub tree : ReportedTree
   pub settled : tree_with node (bus_of one.before).notes ≡ Some tree
   pub after : Bus
   pub after_is : two.after ≡ running after

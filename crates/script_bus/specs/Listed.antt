@@ -3,10 +3,10 @@ use Rattle.std.specs.Prelude.{ℕ, List, Option, None, Some, Result, Ok, Err}
 use Rattle.cable_world.specs.World.{NodeNumber}
 use Rattle.script_lines.specs.declared.kind.Kind.{Kind}
 use Rattle.script_lines.specs.declared.kind.Kind.TheVariants.{NoNode, NotSettled}
-use Rattle.script_told.specs.Bus.{Bus, Reported, node_named, tree_with}
+use Rattle.script_told.specs.Bus.{Bus, ReportedTree, node_named, tree_with}
 
 -- the list of a tree, else `NotSettled`
-abbrev pub list_in : Option Reported → Result (List ℕ) Kind
+abbrev pub list_in : Option ReportedTree → Result (List ℕ) Kind
 list_in None = Err NotSettled
 list_in (Some tree) = Ok tree.list
 

@@ -8,7 +8,7 @@ use Rattle.script_lines.specs.declared.kind.LineStop.TheVariants.{Fault, Memory}
 use Rattle.script_bus.specs.declared.bus.Notes as kept
 use Rattle.script_bus.specs.declared.bus.Reported as shown
 use Rattle.script_text.specs.ReportText.{IsNamedReport}
-use Rattle.script_told.specs.Bus.{Notes, Bus, Reported, node_named, tree_with}
+use Rattle.script_told.specs.Bus.{Notes, Bus, ReportedTree, node_named, tree_with}
 use Rattle.script_bus.specs.codings.Standing.{StandsSince}
 use Rattle.script_told.specs.Step.{LineAnswer, HasManager, id_of}
 
@@ -26,7 +26,7 @@ notes_now notes = record {
 abbrev pub bus_now : CableWorld → kept.Notes → Bus
 bus_now world notes = record { world = world; notes = notes_now notes }
 
-abbrev pub reported : shown.Reported → Reported
+abbrev pub reported : shown.Reported → ReportedTree
 reported tree = record { root = tree.root; list = tree.list.now; order = tree.order.now }
 
 -- what holds of a bus between two lines
@@ -59,7 +59,7 @@ Stops comes stop = IfFault (λ kind. comes (Err kind)) stop
 -- the node with a name has this number and this ID in its tree, and this is the tree's manager
 pub record IsAsked (bus : Bus) (name : List ℕ) (node id manager : ℕ) : Type 0 where
   pub named : node_named bus.notes.names name ≡ Some node
-  pub tree : Reported
+  pub tree : ReportedTree
   pub settled : tree_with node bus.notes ≡ Some tree
   pub id_is : id ≡ id_of tree node
   pub managed : HasManager tree (Some manager)

@@ -2,7 +2,7 @@
 ghost use Rattle.std.specs.Prelude.{◌≡◌, ◌++◌, ℕ, List, Ok, IfOk, IfErr, IfSome, IsSomeAnd};
 ghost use Rattle.settle.specs.Report.{IsReport};
 ghost use Rattle.script_told.specs.Bus as shown;
-ghost use Rattle.script_told.specs.Step.{Settles};
+ghost use Rattle.script_told.specs.Step.{DoesSettle};
 ghost use Rattle.script_advice.specs.Advice.{advice_text, all_pulls, AreAdvices, loops_of, PullsLead, Advises};
 ghost use Rattle.script_advice.specs.Advising.{ArePullable};
 ghost use Rattle.script_bus.specs.Running.{Stops};
@@ -75,8 +75,8 @@ impl Bus {
     /// The bus settles. Answers a text, and behind it the report.
     fn settled_text(self, alloc: Global, text: Vec<u8>) -> Result<Vec<u8>, LineStop>
         ensures done { IfOk result (λ whole. (after : shown.Bus) × (report : List ℕ)
-            × Settles self (Ok (after, report)) × (whole.items ≡ text.items ++ report)) }
-        ensures stop { IfErr result (Stops (Settles self)) }
+            × DoesSettle self (Ok (after, report)) × (whole.items ≡ text.items ++ report)) }
+        ensures stop { IfErr result (Stops (DoesSettle self)) }
     {
         match self.settle(alloc, &mut Silent) {
             Ok((_, report)) => Ok(joined(text, report.as_slice())?),

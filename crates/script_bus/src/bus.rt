@@ -12,7 +12,7 @@ ghost use Rattle.script_lines.specs.Refusal.{kind_of};
 ghost use Rattle.script_text.specs.ReportText.{IsNamedTree, IsNamedReport};
 ghost use Rattle.script_trace.specs.Voice.{legend_of};
 ghost use Rattle.script_told.specs.Bus.{bus_of_nodes, first_bank, node_named, notes_of, part_with, resets_of, tree_with};
-ghost use Rattle.script_told.specs.Step.{Acts, Holds, end_of, notes_after_act};
+ghost use Rattle.script_told.specs.Step.{Acts, HoldsWire, end_of, notes_after_act};
 ghost use Rattle.script_bus.specs.Running.{notes_now, IfFault, IsBus, Stops, reported};
 
 use crate::bank::Bank;
@@ -77,7 +77,7 @@ impl Model for Bus {
 
 /// A tree as it was reported.
 #[derive(Clone, Copy)]
-pub(crate) struct Reported<'a> {
+pub(crate) struct ReportedTree<'a> {
     pub root: u8,
     pub list: &'a [u32],
     pub order: &'a Walk,
@@ -175,12 +175,12 @@ impl Notes {
     }
 
     /// The tree in which a node stands settled, if it does.
-    fn reported(&self, node: u8) -> Option<Reported<'_>>
+    fn reported(&self, node: u8) -> Option<ReportedTree<'_>>
         ensures { option_map reported result ≡ tree_with node (notes_now self.now) }
     {
         let part = part_with(self.report.as_ref()?, node)?;
         match &part.outcome {
-            Outcome::Tree { root, list, order } => Some(Reported {
+            Outcome::Tree { root, list, order } => Some(ReportedTree {
                 root: *root,
                 list: list.as_slice(),
                 order,
@@ -190,7 +190,7 @@ impl Notes {
     }
 
     /// The tree in which a node stands settled.
-    fn tree(&self, node: u8) -> Result<Reported<'_>, LineStop>
+    fn tree(&self, node: u8) -> Result<ReportedTree<'_>, LineStop>
         requires { IfSome self.now.report (λ report. IsNamedReport self.now.names report) }
         ensures found { IfOk result (λ tree. tree_with node (notes_now self.now)
             ≡ Some (reported tree)) }
@@ -344,7 +344,7 @@ impl Bus {
     }
 
     /// The tree in which a node stands settled.
-    pub(crate) fn tree(&self, node: u8) -> Result<Reported<'_>, LineStop>
+    pub(crate) fn tree(&self, node: u8) -> Result<ReportedTree<'_>, LineStop>
         ensures found { IfOk result (λ tree. tree_with node self.now.notes ≡ Some (reported tree)) }
         ensures named { IfOk result (λ tree.
             IsNamedTree self.now.notes.names tree.root tree.list.now tree.order.now) }
@@ -400,8 +400,8 @@ impl Bus {
 
     /// Holds the wire that leaves an end.
     pub(crate) fn hold(self, end: End, turns: u16) -> Result<Bus, LineStop>
-        ensures done { IfOk result (λ bus. Holds self end turns (Ok (bus, []))) }
-        ensures stop { IfErr result (Stops (Holds self end turns)) }
+        ensures done { IfOk result (λ bus. HoldsWire self end turns (Ok (bus, []))) }
+        ensures stop { IfErr result (Stops (HoldsWire self end turns)) }
     {
         let Bus { mut world, notes } = self;
         hold_boxed(&mut world, end, turns)?;

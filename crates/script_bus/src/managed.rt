@@ -9,7 +9,7 @@ ghost use Rattle.script_bus.specs.Running.{IsAsked, Stops, nothing, reported};
 ghost use Rattle.resource_manager.specs.declared.access.Access.TheVariants as access;
 
 use crate::bank::Bank;
-use crate::bus::{Bus, Reported};
+use crate::bus::{Bus, ReportedTree};
 use bus_manager::{Bid, attempt};
 use resource_manager::{Access, Answer, Registers, Seen, look, serve};
 use script_lines::{Kind, LineStop};
@@ -37,7 +37,7 @@ fn place_of(order: &[u8], node: u8) -> Option<usize>
 }
 
 /// The ID of a node of a tree.
-fn id_of(tree: Reported<'_>, node: u8) -> u8
+fn id_of(tree: ReportedTree<'_>, node: u8) -> u8
     requires { length tree.order.now ≤ 63 }
     ensures value { result ≡ id_of (reported tree.entry) node }
     ensures few { result ≤ 62 }
@@ -50,7 +50,7 @@ fn id_of(tree: Reported<'_>, node: u8) -> u8
 
 impl Bus {
     /// The isochronous resource manager of a tree of these nodes, or none.
-    fn manager(&self, alloc: Global, tree: Reported<'_>) -> Result<Option<u8>, OutOfMemory>
+    fn manager(&self, alloc: Global, tree: ReportedTree<'_>) -> Result<Option<u8>, OutOfMemory>
         requires { IsNamedTree self.now.notes.names tree.root tree.list.now tree.order.now }
         ensures has { IfOk result (λ manager. HasManager (reported tree.entry) manager) }
         ensures within { IfOk result (λ manager.

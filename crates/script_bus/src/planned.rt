@@ -17,7 +17,7 @@ ghost use Rattle.script_bus.specs.codings.Standing.{StandsAs, IsPlanned, IsPacke
 ghost use Rattle.script_bus.specs.codings.Doing.{IsReady};
 ghost use Rattle.script_lines.specs.declared.command.Command.TheVariants as command;
 
-use crate::bus::{Bus, Reported};
+use crate::bus::{Bus, ReportedTree};
 use crate::managed::Asked;
 use cable_world::{Act, acts_keep};
 use cabling::{NodeSet, Walk, components_exist};
@@ -88,7 +88,7 @@ impl Bus {
     }
 
     /// The component of a node stands as the tree that was reported.
-    fn stands(&self, node: u8, tree: Reported<'_>)
+    fn stands(&self, node: u8, tree: ReportedTree<'_>)
         requires there { node < length self.now.world.nodes }
         requires settled { tree_with node self.now.notes ≡ Some (reported tree) }
         ensures { StandsAs self.now.world node (reported tree.entry) }
@@ -99,7 +99,7 @@ impl Bus {
     }
 
     /// The nodes of a tree in the order in which they identify themselves once a plan's root is root.
-    fn expected(&self, node: u8, tree: Reported<'_>, plan: &RootPlan) -> Walk
+    fn expected(&self, node: u8, tree: ReportedTree<'_>, plan: &RootPlan) -> Walk
         requires stands { StandsAs self.now.world node (reported tree) }
         requires place { plan.now.root_id < length tree.order.now }
         ensures walk { IsWalk self.now.world.cabling
@@ -119,7 +119,7 @@ impl Bus {
         alloc: Global,
         name: &Name,
         node: u8,
-        tree: Reported<'_>,
+        tree: ReportedTree<'_>,
     ) -> Result<Planned, OutOfMemory>
         requires there { node < length self.now.world.nodes }
         requires named { IsNamedTree self.now.notes.names tree.root tree.list.now tree.order.now }

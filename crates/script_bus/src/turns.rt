@@ -4,7 +4,7 @@ ghost use Rattle.settle.specs.Report.{HasSettled, quiet_turns_of};
 ghost use Rattle.cable_world.specs.Run.{IsReached};
 ghost use Rattle.cable_world.specs.Turn.{turns_after};
 ghost use Rattle.cable_world.specs.Unchanged.{TurnsPass};
-ghost use Rattle.script_told.specs.Step.{Reports, Turns, Settles};
+ghost use Rattle.script_told.specs.Step.{Reports, Turns, DoesSettle};
 ghost use Rattle.script_lines.specs.declared.command.Command.TheVariants as command;
 ghost use Rattle.script_trace.specs.Voice.{legend_of, turns_told};
 ghost use Rattle.script_bus.specs.Running.{Stops};
@@ -144,10 +144,10 @@ impl Bus {
         alloc: Global,
         listener: &mut L,
     ) -> Result<(Bus, Vec<u8>), LineStop>
-        ensures done { IfOk result (λ r. Settles self (Ok (r.0, r.1.items))) }
+        ensures done { IfOk result (λ r. DoesSettle self (Ok (r.0, r.1.items))) }
         ensures heard { IfOk result (λ r. Hears L.voice self command.Settle r.0
             (L.written listener.old) (L.written listener.new)) }
-        ensures stop { IfErr result (Stops (Settles self)) }
+        ensures stop { IfErr result (Stops (DoesSettle self)) }
     {
         self.check_quiet_turns()?;
         Ok(self.pass(alloc, listener)?)

@@ -5,14 +5,15 @@ use Rattle.c_border.specs.Places.{Tells, some, no_memory as no_memory_for_it}
 use Rattle.script_lines.specs.declared.kind.ScriptFault.{ScriptFault}
 use Rattle.script_lines.specs.declared.kind.ScriptStop.{ScriptStop}
 use Rattle.script_lines.specs.declared.kind.ScriptStop.TheVariants.{Fault, Memory}
-use Rattle.script_told.specs.Script.{Told}
+use Rattle.script_told.specs.Script.{ScriptResult}
 use Rattle.script_run.specs.Answered.{StopsWith}
 use Rattle.script_c.specs.declared.record.ScriptFaultRecord.{ScriptFaultRecord}
 use Rattle.script_c.specs.Faults.{IsStopped}
 use Rattle.script_c.specs.Answers.{TellsScript, told, refused, no_memory}
 
 pub stopped :
-    (HasText : List ℕ → Type 0) (Tells : Told → Type 0) (stop : ScriptStop) (place : List ℕ) (needed : ℕ) (before after : ScriptFaultRecord) (status : ℕ) →
+    (HasText : List ℕ → Type 0) (Tells : ScriptResult → Type 0) (stop : ScriptStop)
+    (place : List ℕ) (needed : ℕ) (before after : ScriptFaultRecord) (status : ℕ) →
     StopsWith Tells stop → IsStopped stop before after status →
     TellsScript HasText (λ f. Tells (Err f)) place place needed needed before after status
 stopped HasText Tells (Fault f) place needed before after status has (is, one) = refused f has is refl refl one

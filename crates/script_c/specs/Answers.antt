@@ -4,7 +4,7 @@ use Rattle.std.specs.Prelude.{◌≡◌, ℕ, List, Ok}
 use Rattle.quad_lanes.specs.Capture.{capture}
 use Rattle.script_run.specs.Listed.{IsListed}
 use Rattle.script_lines.specs.declared.kind.ScriptFault.{ScriptFault}
-use Rattle.script_told.specs.Script.{Told}
+use Rattle.script_told.specs.Script.{ScriptResult}
 use Rattle.c_border.specs.Places.{IsCopied}
 use Rattle.script_c.specs.declared.record.ScriptFaultRecord.{ScriptFaultRecord}
 use Rattle.script_c.specs.Faults.{fault_record}
@@ -47,5 +47,5 @@ pub record HasCapture (bytes name text : List ℕ) : Type 0 where
   pub text_is : text ≡ capture list
 
 -- there is one thing at most that a script tells so
-abbrev pub IsOneThing : (Told → Type 0) → Type 0
-IsOneThing Tells = (one other : Told) → Tells one → Tells other → one ≡ other
+abbrev pub IsOneThing : (ScriptResult → Type 0) → Type 0
+IsOneThing Tells = (one other : ScriptResult) → Tells one → Tells other → one ≡ other

@@ -1,6 +1,6 @@
 //! Scripts.
 ghost use Rattle.std.specs.Prelude.{◌≡◌, ◌<◌, ◌≤◌, ℕ, List, Ok, Err, length};
-ghost use Rattle.script_told.specs.Run.{IsTold};
+ghost use Rattle.script_told.specs.Run.{IsResult};
 ghost use Rattle.script_advice.specs.Advice.{IsAdvice, EndsWithoutLoop};
 ghost use Rattle.script_trace.specs.Trace.{IsTrace};
 ghost use Rattle.script_trace.specs.waves.Waves.{IsWaves};
@@ -28,11 +28,11 @@ pub extern "C" fn busconf_run(
     fault: &mut ScriptFaultRecord,
 ) -> u32
     ensures answer { length bytes.now ≤ 1048576 →
-        TellsScript (λ text. IsTold bytes.now (Ok text)) (λ f. IsTold bytes.now (Err f))
+        TellsScript (λ text. IsResult bytes.now (Ok text)) (λ f. IsResult bytes.now (Err f))
         place.old place.new needed.old needed.new fault.old fault.new result }
     ensures too_long { 1048576 < length bytes.now →
         IsTooLong place.old place.new needed.old needed.new fault.old fault.new result }
-    ensures only { IsOneThing (IsTold bytes.now) }
+    ensures only { IsOneThing (IsResult bytes.now) }
 {
     scripts_tell_one_thing();
     if bytes.len() > MAX_SCRIPT {
@@ -83,7 +83,7 @@ pub extern "C" fn busconf_trace(
     fault: &mut ScriptFaultRecord,
 ) -> u32
     ensures answer { length bytes.now ≤ 1048576 →
-        TellsScript (λ lines. IsTrace bytes.now (Ok lines)) (λ f. IsTold bytes.now (Err f))
+        TellsScript (λ lines. IsTrace bytes.now (Ok lines)) (λ f. IsResult bytes.now (Err f))
         place.old place.new needed.old needed.new fault.old fault.new result }
     ensures too_long { 1048576 < length bytes.now →
         IsTooLong place.old place.new needed.old needed.new fault.old fault.new result }
@@ -109,7 +109,7 @@ pub extern "C" fn busconf_waves(
     fault: &mut ScriptFaultRecord,
 ) -> u32
     ensures answer { length bytes.now ≤ 1048576 →
-        TellsScript (λ dump. IsWaves bytes.now (Ok dump)) (λ f. IsTold bytes.now (Err f))
+        TellsScript (λ dump. IsWaves bytes.now (Ok dump)) (λ f. IsResult bytes.now (Err f))
         place.old place.new needed.old needed.new fault.old fault.new result }
     ensures too_long { 1048576 < length bytes.now →
         IsTooLong place.old place.new needed.old needed.new fault.old fault.new result }

@@ -2,8 +2,8 @@
 use Rattle.std.specs.Prelude.{◌≡◌, ℕ, ◌≤◌, List, Ok}
 use Rattle.script_made.specs.Made.{made_script}
 use Rattle.script_told.specs.Bus.{Bus}
-use Rattle.script_told.specs.Script.{Told}
-use Rattle.script_told.specs.Run.{ScriptRun, IsRun, IsTold}
+use Rattle.script_told.specs.Script.{ScriptResult}
+use Rattle.script_told.specs.Run.{ScriptRun, IsRun, IsResult}
 
 -- no line of a made script stops its run
 abbrev pub MadeScriptsRunThrough : Type 0
@@ -14,5 +14,5 @@ MadeScriptsRunThrough =
 -- what a made script tells is a text, and no fault of a line
 abbrev pub MadeScriptsHaveNoFault : Type 0
 MadeScriptsHaveNoFault =
-    (nodes seed : ℕ) (told : Told) → nodes ≤ 63 → IsTold (made_script nodes seed) told →
+    (nodes seed : ℕ) (told : ScriptResult) → nodes ≤ 63 → IsResult (made_script nodes seed) told →
     (text : List ℕ) × (told ≡ Ok text)

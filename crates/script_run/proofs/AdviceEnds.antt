@@ -5,7 +5,7 @@ use Rattle.script_lines.specs.declared.kind.LineStop.{LineStop}
 use Rattle.script_lines.specs.declared.kind.LineStop.TheVariants.{Fault, Memory}
 use Rattle.script_lines.specs.declared.kind.ScriptStop.{ScriptStop}
 use Rattle.script_told.specs.Bus.{Bus}
-use Rattle.script_told.specs.Step.{Settles}
+use Rattle.script_told.specs.Step.{DoesSettle}
 use Rattle.script_told.specs.Script.{Stage, bus_of, fault_at, script_lines}
 use Rattle.script_told.specs.Run.{Entry, behind, last_run}
 use Rattle.script_advice.specs.Advice.{RunsTo, IsAdvice}
@@ -31,7 +31,8 @@ err-all P Q all (Err e) h = all e h
 -- the run leads to the bus that settles at the end
 ran-to :
     (bytes : List ℕ) (entries : List Entry) (number : ℕ) (stage : Stage) (bus : Bus) (text : List ℕ) →
-    Went bytes entries number [] stage → Settles (bus_of stage) (Ok (bus, text)) → RunsTo bytes bus
+    Went bytes entries number [] stage → DoesSettle (bus_of stage) (Ok (bus, text)) →
+    RunsTo bytes bus
 ran-to bytes entries number stage bus text went settles = (
   behind entries (last_run number stage (Ok (bus, text))),
   run-ends bytes entries number stage bus text went settles,
@@ -51,7 +52,8 @@ ends-with bytes entries text number stage went (after, is) = (is.0, after, ran-t
 pub refused-advice :
     (bytes : List ℕ) (entries : List Entry) (number : ℕ) (stage : Stage) (stop : LineStop) (r : ScriptStop) →
     r ≡ stop_at number stop → number ≡ length (script_lines bytes) + 1 →
-    Went bytes entries number [] stage → Stops (λ a. Settles (bus_of stage) a ⊎ IsAdvised stage a) stop →
+    Went bytes entries number [] stage → Stops (λ a. DoesSettle
+    (bus_of stage) a ⊎ IsAdvised stage a) stop →
     IsAdviceRefused bytes r
 refused-advice bytes entries number stage (Fault kind) r is lines went (inl settles) =
     subst (IsAdviceRefused bytes) (sym is) (inl (record {

@@ -10,10 +10,10 @@ use Rattle.script_lines.specs.declared.kind.ScriptStop.TheVariants as script
 use Rattle.script_lines.specs.declared.command.Command.{Command}
 use Rattle.script_lines.specs.declared.command.Command.TheVariants.{Settle}
 use Rattle.script_told.specs.Bus.{Bus}
-use Rattle.script_told.specs.Step.{Settles}
+use Rattle.script_told.specs.Step.{DoesSettle}
 use Rattle.script_lines.specs.Line.{Reads}
-use Rattle.script_told.specs.Script.{Stage, fresh, running, Told, bus_of, ranges_of, Follows, fault_at, script_lines}
-use Rattle.script_told.specs.Run.{Entry, ScriptRun, done, stopped, behind, last_run, RunsFrom, IsRun, printed, IsTold}
+use Rattle.script_told.specs.Script.{Stage, fresh, running, ScriptResult, bus_of, ranges_of, DoesAtStage, fault_at, script_lines}
+use Rattle.script_told.specs.Run.{Entry, ScriptRun, done, stopped, behind, last_run, RunsFrom, IsRun, printed, IsResult}
 use Rattle.script_run.specs.Answered.{StopsWith, IsRefused, IsOnlyFault}
 use Rattle.script_bus.specs.Running.{IfFault, Stops}
 use Rattle.script_trace.specs.Voice.{Voice}
@@ -38,7 +38,7 @@ printed-more (e ∷ entries) entry =
 
 -- a command of a line is at fault
 pub done-fails : (stage : Stage) (line : List ℕ) (command : Command) (stop : LineStop) → Reads (ranges_of stage) line (Ok (Some command)) →
-    Stops (Follows stage command) stop → IfFault (LineFails stage line) stop
+    Stops (DoesAtStage stage command) stop → IfFault (LineFails stage line) stop
 done-fails stage line command (Fault kind) reads fails = inr (command, reads, fails)
 done-fails stage line command (Memory e) reads fails = tt
 
@@ -137,14 +137,14 @@ line-fails number line lines stage kind (inr did) = (Ok (Some did.0), did.1, (Er
 pub stops-there :
     (bytes : List ℕ) (entries : List Entry) (number : ℕ) (lines : List (List ℕ)) (stage : Stage) (kind : Kind) →
     RunsFrom number lines stage (stopped number kind) → Went bytes entries number lines stage →
-    IsTold bytes (Err (fault_at number kind))
+    IsResult bytes (Err (fault_at number kind))
 stops-there bytes entries number lines stage kind stop went =
     (behind entries (stopped number kind), went (stopped number kind) stop, refl)
 
 -- the run where the bus settles at the end
 pub run-ends :
     (bytes : List ℕ) (entries : List Entry) (number : ℕ) (stage : Stage) (bus : Bus) (text : List ℕ) →
-    Went bytes entries number [] stage → Settles (bus_of stage) (Ok (bus, text)) →
+    Went bytes entries number [] stage → DoesSettle (bus_of stage) (Ok (bus, text)) →
     IsRun bytes (behind entries (last_run number stage (Ok (bus, text))))
 run-ends bytes entries number stage bus text went settles =
     went (last_run number stage (Ok (bus, text))) (Ok (bus, text), settles, refl)
@@ -152,8 +152,8 @@ run-ends bytes entries number stage bus text went settles =
 -- the bus settles at the end, and the script has told its text
 pub script-ends :
     (voice : Voice) (bytes said text out mid : List ℕ) (number : ℕ) (stage : Stage) (bus : Bus) →
-    HaveGone voice bytes said out mid number [] stage → Settles (bus_of stage) (Ok (bus, text)) →
-    IsTold bytes (Ok (said ++ text))
+    HaveGone voice bytes said out mid number [] stage → DoesSettle (bus_of stage) (Ok (bus, text)) →
+    IsResult bytes (Ok (said ++ text))
 script-ends voice bytes said text out mid number stage bus have settles = (
   behind have.entries (last_run number stage (Ok (bus, text))),
   run-ends bytes have.entries number stage bus text have.went settles,
@@ -175,13 +175,16 @@ refused-line bytes entries number line lines all stage (Memory e) r cut is wrong
 
 pub refused-end :
     (bytes : List ℕ) (entries : List Entry) (number : ℕ) (stage : Stage) (stop : LineStop) (r : ScriptStop) →
-    r ≡ stop_at number stop → Stops (Settles (bus_of stage)) stop → Went bytes entries number [] stage → IsRefused bytes r
+    r ≡ stop_at number stop → Stops (DoesSettle (bus_of stage)) stop →
+    Went bytes entries number [] stage → IsRefused bytes r
 refused-end bytes entries number stage (Fault kind) r is wrong went =
     subst (IsRefused bytes) (sym is) (stops-there bytes entries number [] stage kind (Err kind, wrong, refl) went)
 refused-end bytes entries number stage (Memory e) r is wrong went = subst (IsRefused bytes) (sym is) tt
 
 pub only-fault :
-    (Tells : Told → Type 0) (r : ScriptStop) → ((one other : Told) → Tells one → Tells other → one ≡ other) → StopsWith Tells r → (told : Told) → Tells told → IsOnlyFault told r
+    (Tells : ScriptResult → Type 0) (r : ScriptStop) → ((one other : ScriptResult) → Tells one →
+    Tells other → one ≡ other) → StopsWith Tells r →
+    (told : ScriptResult) → Tells told → IsOnlyFault told r
 only-fault Tells (script.Fault fault) one is told other = one told (Err fault) other is
 only-fault Tells (script.Memory e) one is told other = tt
 

@@ -7,7 +7,7 @@ use Rattle.script_lines.specs.declared.kind.ScriptFault.{ScriptFault}
 use Rattle.script_lines.specs.declared.kind.ScriptStop.{ScriptStop}
 use Rattle.script_lines.specs.declared.kind.ScriptStop.TheVariants as script
 use Rattle.script_told.specs.Bus.{Bus}
-use Rattle.script_told.specs.Script.{Stage, Told, bus_of, fault_at, script_lines}
+use Rattle.script_told.specs.Script.{Stage, ScriptResult, bus_of, fault_at, script_lines}
 use Rattle.script_told.specs.Run.{Entry, ScriptRun, IsRun, behind, stopped, last_run}
 use Rattle.script_told.specs.OneTold.{ScriptsHaveOneRun}
 use Rattle.script_bus.specs.Listed.{list_of}
@@ -56,7 +56,8 @@ end-refuses bytes name entries number stage (Memory e) r is lines went h =
     subst (StopsWith (IsListed bytes name)) (sym is) tt
 
 -- a script lists one thing
-pub one-listed : ScriptsHaveOneRun → (bytes name : List ℕ) (a b : Told) → IsListed bytes name a →
+pub one-listed : ScriptsHaveOneRun → (bytes name : List ℕ) (a b : ScriptResult) →
+    IsListed bytes name a →
     IsListed bytes name b → a ≡ b
 one-listed one bytes name a b (run, is, e) (other, too, f) =
     e ∙ ap (λ (r : ScriptRun). listed_at (length (script_lines bytes) + 1) name r.end) (one bytes run other is too) ∙ sym f

@@ -11,7 +11,7 @@ use Rattle.script_lines.specs.declared.command.Command.TheVariants.{Settle, Plan
 use Rattle.settle.specs.declared.report.Report.{Report}
 use Rattle.report_views.specs.OneView.{ReportsHaveOneGraph, ReportsHaveOneLine, NamedReportsHaveGraphs, NamedReportsHaveLines}
 use Rattle.script_told.specs.Bus.{Bus}
-use Rattle.script_told.specs.Script.{Stage, Told, bus_of}
+use Rattle.script_told.specs.Script.{Stage, ScriptResult, bus_of}
 use Rattle.script_told.specs.Run.{Entry, ScriptRun, printed, unless_stopped}
 use Rattle.script_told.specs.OneTold.{ScriptsHaveOneRun}
 use Rattle.script_told.specs.EachReport.{DoesReport, IsReportedAt, ReportsAreSettled}
@@ -66,7 +66,8 @@ some-line read lines bus end =
 
 -- ---- the picture
 
-same-picture : ReportsHaveOneGraph → (run : ScriptRun) (one other : Told) → IsPictureOf run one →
+same-picture : ReportsHaveOneGraph → (run : ScriptRun) (one other : ScriptResult) →
+    IsPictureOf run one →
     IsPictureOf run other → one ≡ other
 same-picture one run (Ok a) (Ok b) x y =
     let bus = same-bus y.0 x.0 (sym y.1 ∙ x.1) in
@@ -143,7 +144,8 @@ module _ (read : ListsAreReadBack) (lines : NamedReportsHaveLines) where
 
 -- ---- the lines of the reports
 
-same-reporting : ReportsHaveOneLine → (run : ScriptRun) (one other : Told) → AreLinesOf run one →
+same-reporting : ReportsHaveOneLine → (run : ScriptRun) (one other : ScriptResult) →
+    AreLinesOf run one →
     AreLinesOf run other → one ≡ other
 same-reporting one run (Ok a) (Ok b) x y = ap Ok (same-lines one run.entries a b x.2 y.2)
 same-reporting one run (Ok a) (Err g) x y = absurd (not-both run x.0 g x.1 y)

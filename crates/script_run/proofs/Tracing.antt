@@ -6,7 +6,7 @@ use Rattle.script_lines.specs.declared.kind.ScriptFault.{ScriptFault}
 use Rattle.script_lines.specs.declared.kind.ScriptStop.{ScriptStop}
 use Rattle.script_lines.specs.declared.kind.ScriptStop.TheVariants as script
 use Rattle.script_told.specs.Bus.{Bus}
-use Rattle.script_told.specs.Step.{Settles}
+use Rattle.script_told.specs.Step.{DoesSettle}
 use Rattle.script_told.specs.Script.{Stage, running, bus_of}
 use Rattle.script_told.specs.Run.{Entry, ScriptRun, IsRun, done, behind, last_run, printed, unless_stopped}
 use Rattle.script_trace.specs.Voice.{Voice, legend_of}
@@ -30,7 +30,8 @@ record IsToldRun (voice : Voice) (bytes : List ℕ) (bus : Bus) (lines : List �
 told-ends :
     (voice : Voice) (bytes said out mid new : List ℕ) (number : ℕ) (stage : Stage) (after : Bus)
     (text : List ℕ) → out ≡ [] → HaveGone voice bytes said out mid number [] stage →
-    Settles (bus_of stage) (Ok (after, text)) → Hears voice (bus_of stage) command.Settle after mid new →
+    DoesSettle (bus_of stage) (Ok (after, text)) → Hears voice
+    (bus_of stage) command.Settle after mid new →
     IsToldRun voice bytes after new
 told-ends voice bytes said out mid new number stage after text empty have settles h =
     let entry : Entry = done number stage command.Settle (running after) text in
@@ -46,7 +47,7 @@ told-ends voice bytes said out mid new number stage after text empty have settle
 pub trace-ends :
     (bytes said out mid new : List ℕ) (number : ℕ) (stage : Stage) (after : Bus) (text : List ℕ) →
     out ≡ [] → HaveGone trace_voice bytes said out mid number [] stage →
-    Settles (bus_of stage) (Ok (after, text)) →
+    DoesSettle (bus_of stage) (Ok (after, text)) →
     Hears trace_voice (bus_of stage) command.Settle after mid new → IsTrace bytes (Ok new)
 trace-ends bytes said out mid new number stage after text empty have settles h =
     let t = told-ends trace_voice bytes said out mid new number stage after text empty have settles h in
@@ -56,7 +57,7 @@ trace-ends bytes said out mid new number stage after text empty have settles h =
 pub dump-ends :
     (bytes said out mid new dump : List ℕ) (number : ℕ) (stage : Stage) (after : Bus) (text : List ℕ) →
     out ≡ [] → HaveGone waves_voice bytes said out mid number [] stage →
-    Settles (bus_of stage) (Ok (after, text)) →
+    DoesSettle (bus_of stage) (Ok (after, text)) →
     Hears waves_voice (bus_of stage) command.Settle after mid new →
     dump ≡ head (legend_of after.notes) after.world ++ new → IsWaves bytes (Ok dump)
 dump-ends bytes said out mid new dump number stage after text empty have settles h is =

@@ -9,8 +9,8 @@ use Rattle.script_lines.specs.declared.kind.ScriptStop.{ScriptStop}
 use Rattle.script_lines.specs.declared.kind.ScriptStop.TheVariants as script
 use Rattle.settle.specs.declared.report.Report.{Report}
 use Rattle.script_told.specs.Bus.{Bus}
-use Rattle.script_told.specs.Step.{Settles}
-use Rattle.script_told.specs.Script.{Stage, Told, fresh, running, bus_of, script_lines}
+use Rattle.script_told.specs.Step.{DoesSettle}
+use Rattle.script_told.specs.Script.{Stage, ScriptResult, fresh, running, bus_of, script_lines}
 use Rattle.script_told.specs.Run.{Entry, ScriptRun, IsRun, RunsFrom, done, behind, last_run}
 use Rattle.script_told.specs.OneTold.{ScriptsHaveOneRun}
 use Rattle.script_bus.specs.Viewed.{IsGraphOf, IsLineOf, IsReadLineOf}
@@ -77,7 +77,7 @@ shown-next bytes out new number line lines all stage next cut leads have =
 -- the bus settles at the end, and its report is shown
 pub lines-end :
     (bytes out one new : List ℕ) (number : ℕ) (stage : Stage) (bus : Bus) (text : List ℕ) →
-    HaveShown bytes out number [] stage → Settles (bus_of stage) (Ok (bus, text)) →
+    HaveShown bytes out number [] stage → DoesSettle (bus_of stage) (Ok (bus, text)) →
     IsReadLineOf bus one → new ≡ out ++ one → AreReadBack bytes new
 lines-end bytes out one new number stage bus text have settles is e = record {
   run = behind have.entries (last_run number stage (Ok (bus, text)));
@@ -118,7 +118,8 @@ are-reported bytes text h = (h.run, h.is, (h.bus, h.end, are-lines h.run.entries
 
 pub picture-ends :
     (bytes : List ℕ) (entries : List Entry) (number : ℕ) (stage : Stage) (bus : Bus) (text graph : List ℕ) →
-    Went bytes entries number [] stage → Settles (bus_of stage) (Ok (bus, text)) → IsGraphOf bus graph →
+    Went bytes entries number [] stage → DoesSettle (bus_of stage) (Ok (bus, text)) →
+    IsGraphOf bus graph →
     IsPictured bytes (Ok graph)
 picture-ends bytes entries number stage bus text graph went settles is = (
   behind entries (last_run number stage (Ok (bus, text))),
@@ -134,14 +135,15 @@ ends-so : ScriptsHaveOneRun → (bytes : List ℕ) (fault : ScriptFault) (end : 
 ends-so one bytes fault end run (other, is, told) too at =
     sym at ∙ ap (λ (r : ScriptRun). r.end) (one bytes run other too is) ∙ end-is other fault other.end refl told
 
-same-fault : (a b : ScriptFault) → ◌≡◌ {A = Result Bus ScriptFault} (Err a) (Err b) → ◌≡◌ {A = Told} (Err a) (Err b)
+same-fault : (a b : ScriptFault) → ◌≡◌ {A = Result Bus ScriptFault} (Err a) (Err b) →
+    ◌≡◌ {A = ScriptResult} (Err a) (Err b)
 same-fault a b e = ap Err (inside e)
   where
     inside : ◌≡◌ {A = Result Bus ScriptFault} (Err a) (Err b) → a ≡ b
     inside e = cc
 
 pub only-picture : ScriptsHaveOneRun → (bytes : List ℕ) (r : ScriptStop) → IsRefused bytes r →
-    (told : Told) → IsPictured bytes told → IsOnlyFault told r
+    (told : ScriptResult) → IsPictured bytes told → IsOnlyFault told r
 only-picture one bytes (script.Memory e) h told is = tt
 only-picture one bytes (script.Fault fault) h (Ok text) (run, is, ends) =
     absurd (let e = ends-so one bytes fault (Ok ends.0) run h is ends.1 in cc)
@@ -149,7 +151,7 @@ only-picture one bytes (script.Fault fault) h (Err other) (run, is, ends) =
     same-fault other fault (ends-so one bytes fault (Err other) run h is ends)
 
 pub only-lines : ScriptsHaveOneRun → (bytes : List ℕ) (r : ScriptStop) → IsRefused bytes r →
-    (told : Told) → AreReported bytes told → IsOnlyFault told r
+    (told : ScriptResult) → AreReported bytes told → IsOnlyFault told r
 only-lines one bytes (script.Memory e) h told is = tt
 only-lines one bytes (script.Fault fault) h (Ok text) (run, is, ends) =
     absurd (let e = ends-so one bytes fault (Ok ends.0) run h is ends.1 in cc)

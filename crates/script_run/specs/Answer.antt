@@ -5,7 +5,7 @@ use Rattle.script_text.specs.Summary.{summary}
 use Rattle.script_made.specs.Made.{made_script}
 use Rattle.script_told.specs.Bus.{Bus}
 use Rattle.script_told.specs.Reached.{world_of}
-use Rattle.script_told.specs.Run.{Entry, ScriptRun, IsRun, printed, IsTold}
+use Rattle.script_told.specs.Run.{Entry, ScriptRun, IsRun, printed, IsResult}
 use Rattle.script_told.specs.EachReport.{EachReportIsSettled}
 use Rattle.script_told.specs.ScriptEvents.{EachRunsOn}
 use Rattle.script_told.specs.EachPlan.{PlansComeOut}
@@ -43,7 +43,7 @@ pub record PrintsRun (bytes text : List ℕ) : Type 0 where
 -- `run`
 abbrev pub AnswersRun : List ℕ → ℕ → List ℕ → Type 0
 AnswersRun bytes = ValidOrRefused (PrintsRun bytes)
-    (λ text. (f : ScriptFault) × IsTold bytes (Err f) × (text ≡ script_line f))
+    (λ text. (f : ScriptFault) × IsResult bytes (Err f) × (text ≡ script_line f))
 
 -- `advice`: the text of the script's advice, whose report has no loop
 abbrev pub AnswersAdvice : List ℕ → ℕ → List ℕ → Type 0

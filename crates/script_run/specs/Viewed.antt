@@ -1,19 +1,19 @@
 -- The reports of a script as a picture and as data.
 use Rattle.std.specs.Prelude.{◌≡◌, ℕ, Bool, true, false, MatchBool, List, [], ◌∷◌, ◌++◌, Ok, Err}
 use Rattle.script_told.specs.Bus.{Bus}
-use Rattle.script_told.specs.Script.{Stage, Told, bus_of}
+use Rattle.script_told.specs.Script.{Stage, ScriptResult, bus_of}
 use Rattle.script_told.specs.Run.{Entry, ScriptRun, IsRun}
 use Rattle.script_lines.specs.declared.command.Command.{Command}
 use Rattle.script_lines.specs.declared.command.Command.TheVariants.{Settle, Plan}
 use Rattle.script_bus.specs.Viewed.{IsGraphOf, IsLineOf, IsReadLineOf}
 
 -- the graph of the report at the end of a run, or the run's fault
-abbrev pub IsPictureOf : ScriptRun → Told → Type 0
+abbrev pub IsPictureOf : ScriptRun → ScriptResult → Type 0
 IsPictureOf run (Ok text) = (bus : Bus) × (run.end ≡ Ok bus) × IsGraphOf bus text
 IsPictureOf run (Err fault) = run.end ≡ Err fault
 
 -- The graph of a script: that of the report of the `settle` behind its last line.
-abbrev pub IsPictured : List ℕ → Told → Type 0
+abbrev pub IsPictured : List ℕ → ScriptResult → Type 0
 IsPictured bytes told = (run : ScriptRun) × IsRun bytes run × IsPictureOf run told
 
 -- `settle` and `plan` print a report
@@ -35,12 +35,12 @@ AreLines (entry ∷ entries) text =
     × AreLines entries more × (text ≡ one ++ more)
 
 -- the lines of the reports of a run, or the run's fault
-abbrev pub AreLinesOf : ScriptRun → Told → Type 0
+abbrev pub AreLinesOf : ScriptRun → ScriptResult → Type 0
 AreLinesOf run (Ok text) = (bus : Bus) × (run.end ≡ Ok bus) × AreLines run.entries text
 AreLinesOf run (Err fault) = run.end ≡ Err fault
 
 -- The reports of a script as JSON: a line for each that it prints.
-abbrev pub AreReported : List ℕ → Told → Type 0
+abbrev pub AreReported : List ℕ → ScriptResult → Type 0
 AreReported bytes told = (run : ScriptRun) × IsRun bytes run × AreLinesOf run told
 
 -- ---- lines that are read back

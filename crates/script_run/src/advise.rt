@@ -1,6 +1,6 @@
 //! The advice for a whole script.
 ghost use Rattle.std.specs.Prelude.{◌≡◌, ◌≤◌, Ok, IfOk, IfErr, length};
-ghost use Rattle.script_told.specs.Script.{Told};
+ghost use Rattle.script_told.specs.Script.{ScriptResult};
 ghost use Rattle.script_advice.specs.Advice.{IsAdvice, EndsWithoutLoop};
 ghost use Rattle.script_run.specs.Answered.{IsAdviceRefused, IsOnlyFault};
 ghost use Rattle.script_advice.specs.Advising.{EndsWith};
@@ -44,9 +44,9 @@ pub fn advise_script(alloc: Global, bytes: &[u8]) -> Result<Vec<u8>, ScriptStop>
     ensures told { IfOk result (λ text. IsAdvice bytes.now (Ok text.items)) }
     ensures no_loop { IfOk result (λ text. EndsWithoutLoop bytes.now text.items) }
     ensures refused { IfErr result (IsAdviceRefused bytes.now) }
-    ensures only { IfOk result (λ text. (told : Told) → IsAdvice bytes.now told
+    ensures only { IfOk result (λ text. (told : ScriptResult) → IsAdvice bytes.now told
         → told ≡ Ok text.items) }
-    ensures exact { IfErr result (λ stop. (told : Told) → IsAdvice bytes.now told
+    ensures exact { IfErr result (λ stop. (told : ScriptResult) → IsAdvice bytes.now told
         → IsOnlyFault told stop) }
 {
     scripts_have_one_advice();

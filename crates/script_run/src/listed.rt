@@ -1,6 +1,6 @@
 //! The list of a node's tree at the end of a script.
 ghost use Rattle.std.specs.Prelude.{◌≡◌, ◌≤◌, Ok, IfOk, IfErr, length};
-ghost use Rattle.script_told.specs.Script.{Told};
+ghost use Rattle.script_told.specs.Script.{ScriptResult};
 ghost use Rattle.script_run.specs.Answered.{StopsWith, IsOnlyFault};
 ghost use Rattle.script_run.specs.Listed.{IsListed};
 
@@ -36,9 +36,9 @@ pub fn list_script(alloc: Global, bytes: &[u8], name: &Name) -> Result<Vec<u32>,
     requires { length bytes.now ≤ 1048576 }
     ensures listed { IfOk result (λ list. IsListed bytes.now name.now (Ok list.items)) }
     ensures refused { IfErr result (StopsWith (IsListed bytes.now name.now)) }
-    ensures only { IfOk result (λ list. (told : Told) → IsListed bytes.now name.now told
+    ensures only { IfOk result (λ list. (told : ScriptResult) → IsListed bytes.now name.now told
         → told ≡ Ok list.items) }
-    ensures exact { IfErr result (λ stop. (told : Told) → IsListed bytes.now name.now told
+    ensures exact { IfErr result (λ stop. (told : ScriptResult) → IsListed bytes.now name.now told
         → IsOnlyFault told stop) }
 {
     scripts_tell_one_thing();

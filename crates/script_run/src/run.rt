@@ -1,7 +1,7 @@
 //! The run of a script.
 ghost use Rattle.std.specs.Prelude.{◌≡◌, ◌≤◌, ◌<◌, ◌∷◌, ◌++◌, [], ℕ, List, Some, None, Ok, Err, IfOk, IfErr, OnOk, length};
 ghost use Rattle.script_lines.specs.Range.{IsInRange};
-ghost use Rattle.script_told.specs.Script.{Declares, Delays, SaysTimes, Follows, Runs, bus_of, draft_of, ranges_of};
+ghost use Rattle.script_told.specs.Script.{Declares, Delays, SaysTimes, DoesAtStage, DoesOnBus, bus_of, draft_of, ranges_of};
 ghost use Rattle.script_bus.specs.Running.{IfFault, Stops};
 ghost use Rattle.script_run.specs.codings.Declaring.{IsDraft, IsLine, draft_now, node_said};
 ghost use Rattle.script_run.specs.codings.Going.{HearsAt};
@@ -80,10 +80,10 @@ impl Stage {
     ) -> Result<Vec<u8>, LineStop>
         requires { IsInRange (ranges_of self.old) command.now }
         ensures done { IfOk result (λ text.
-            Runs self.old command.now (Ok (self.new, text.items))) }
+            DoesOnBus self.old command.now (Ok (self.new, text.items))) }
         ensures heard { OnOk result (HearsAt L.voice self.old command.now self.new
             (L.written listener.old) (L.written listener.new)) }
-        ensures stop { IfErr result (Stops (Runs self.old command.now)) }
+        ensures stop { IfErr result (Stops (DoesOnBus self.old command.now)) }
     {
         let bus = mem::replace(self, Stage::new()).bus(alloc)?;
         let (bus, text) = bus.command(alloc, command, listener)?;
@@ -98,10 +98,10 @@ impl Stage {
         count: u32,
         listener: &mut L,
     ) -> Result<(), LineStop>
-        ensures done { OnOk result (Follows self.old (command.Turn count) (Ok (self.new, []))) }
+        ensures done { OnOk result (DoesAtStage self.old (command.Turn count) (Ok (self.new, []))) }
         ensures heard { OnOk result (HearsAt L.voice self.old (command.Turn count) self.new
             (L.written listener.old) (L.written listener.new)) }
-        ensures stop { IfErr result (Stops (Follows self.old (command.Turn count))) }
+        ensures stop { IfErr result (Stops (DoesAtStage self.old (command.Turn count))) }
     {
         let bus = mem::replace(self, Stage::new()).bus(alloc)?;
         self.phase = Phase::Running(bus.turn(alloc, count, listener)?);
@@ -150,10 +150,11 @@ impl Stage {
         listener: &mut L,
     ) -> Result<Vec<u8>, LineStop>
         requires { IsInRange (ranges_of self.old) command }
-        ensures done { IfOk result (λ text. Follows self.old command (Ok (self.new, text.items))) }
+        ensures done { IfOk result (λ text.
+            DoesAtStage self.old command (Ok (self.new, text.items))) }
         ensures heard { OnOk result (HearsAt L.voice self.old command self.new
             (L.written listener.old) (L.written listener.new)) }
-        ensures stop { IfErr result (Stops (Follows self.old command)) }
+        ensures stop { IfErr result (Stops (DoesAtStage self.old command)) }
     {
         match command {
             Command::Node {

@@ -1,7 +1,7 @@
 //! A whole script.
 ghost use Rattle.std.specs.Prelude.{◌≡◌, ◌≤◌, ◌<◌, ◌+◌, ◌∷◌, ◌++◌, [], Ok, IfOk, IfErr, length};
-ghost use Rattle.script_told.specs.Script.{Told, script_lines};
-ghost use Rattle.script_told.specs.Run.{IsTold};
+ghost use Rattle.script_told.specs.Script.{ScriptResult, script_lines};
+ghost use Rattle.script_told.specs.Run.{IsResult};
 ghost use Rattle.script_run.specs.Answered.{IsRefused, IsOnlyFault};
 ghost use Rattle.script_run.specs.codings.Going.{HaveGone, stop_at};
 
@@ -97,11 +97,11 @@ fn with_report(mut text: Vec<u8>, report: Vec<u8>) -> Result<Vec<u8>, OutOfMemor
 /// last `settle` has the number of lines and 1.
 pub fn run_script(alloc: Global, bytes: &[u8]) -> Result<Vec<u8>, ScriptStop>
     requires { length bytes.now ≤ 1048576 }
-    ensures told { IfOk result (λ text. IsTold bytes.now (Ok text.items)) }
+    ensures told { IfOk result (λ text. IsResult bytes.now (Ok text.items)) }
     ensures refused { IfErr result (IsRefused bytes.now) }
-    ensures only { IfOk result (λ text. (told : Told) → IsTold bytes.now told
+    ensures only { IfOk result (λ text. (told : ScriptResult) → IsResult bytes.now told
         → told ≡ Ok text.items) }
-    ensures exact { IfErr result (λ stop. (told : Told) → IsTold bytes.now told
+    ensures exact { IfErr result (λ stop. (told : ScriptResult) → IsResult bytes.now told
         → IsOnlyFault told stop) }
 {
     scripts_tell_one_thing();

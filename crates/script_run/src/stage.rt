@@ -1,9 +1,9 @@
 //! A script that is gone through, a line at a time.
 ghost use Rattle.std.specs.Prelude.{◌≡◌, ◌⊎◌, ◌++◌, ℕ, List, Ok, IfOk, IfErr, OnOk, IsSomeAnd};
 ghost use Rattle.settle.specs.Report.{IsReport};
-ghost use Rattle.script_told.specs.Step.{Settles};
+ghost use Rattle.script_told.specs.Step.{DoesSettle};
 ghost use Rattle.script_told.specs.Bus as shown;
-ghost use Rattle.script_told.specs.Script.{Follows, fresh, bus_of, ranges_of};
+ghost use Rattle.script_told.specs.Script.{DoesAtStage, fresh, bus_of, ranges_of};
 ghost use Rattle.script_bus.specs.Running.{IfFault, Stops};
 ghost use Rattle.script_bus.specs.Heard.{Hears};
 ghost use Rattle.script_lines.specs.declared.command.Command.TheVariants as command;
@@ -119,10 +119,10 @@ impl Stage {
         listener: &mut L,
     ) -> Result<Vec<u8>, LineStop>
         ensures done { IfOk result (λ text. (after : shown.Bus)
-            × Settles (bus_of self) (Ok (after, text.items))
+            × DoesSettle (bus_of self) (Ok (after, text.items))
             × Hears L.voice (bus_of self) command.Settle after
             (L.written listener.old) (L.written listener.new)) }
-        ensures stop { IfErr result (Stops (Settles (bus_of self))) }
+        ensures stop { IfErr result (Stops (DoesSettle (bus_of self))) }
     {
         let (_, text) = self.bus(alloc)?.settle(alloc, listener)?;
         Ok(text)
@@ -131,10 +131,10 @@ impl Stage {
     /// The bus after the `settle` behind the last line, in which the listener hears what happens.
     pub fn last_bus<L: Listener>(self, alloc: Global, listener: &mut L) -> Result<Bus, LineStop>
         ensures done { IfOk result (λ bus. (text : List ℕ)
-            × Settles (bus_of self) (Ok (bus, text))
+            × DoesSettle (bus_of self) (Ok (bus, text))
             × Hears L.voice (bus_of self) command.Settle bus
             (L.written listener.old) (L.written listener.new)) }
-        ensures stop { IfErr result (Stops (Settles (bus_of self))) }
+        ensures stop { IfErr result (Stops (DoesSettle (bus_of self))) }
     {
         let (bus, _) = self.bus(alloc)?.settle(alloc, listener)?;
         Ok(bus)
@@ -162,7 +162,7 @@ impl Stage {
         requires { IsInRange (ranges_of self.old) command }
         ensures done { OnOk result (CommandShows self.old command self.new out.old.items
             out.new.items) }
-        ensures stop { IfErr result (Stops (Follows self.old command)) }
+        ensures stop { IfErr result (Stops (DoesAtStage self.old command)) }
     {
         let prints = prints_report(&command);
         let _text = self.follow(alloc, command, &mut Silent)?;
@@ -186,8 +186,9 @@ impl Stage {
 
     /// The bus after the `settle` behind the last line.
     pub fn settled(self, alloc: Global) -> Result<Bus, LineStop>
-        ensures done { IfOk result (λ bus. (text : List ℕ) × Settles (bus_of self) (Ok (bus, text))) }
-        ensures stop { IfErr result (Stops (Settles (bus_of self))) }
+        ensures done { IfOk result (λ bus. (text : List ℕ)
+            × DoesSettle (bus_of self) (Ok (bus, text))) }
+        ensures stop { IfErr result (Stops (DoesSettle (bus_of self))) }
         ensures reported { IfOk result (λ bus. IsSomeAnd bus.notes.report (IsReport bus.world)) }
     {
         let (bus, _) = self.bus(alloc)?.settle(alloc, &mut Silent)?;
@@ -198,7 +199,7 @@ impl Stage {
     pub fn advised(self, alloc: Global) -> Result<Vec<u8>, LineStop>
         ensures done { IfOk result (λ text. (after : shown.Bus)
             × IsAdvised self (Ok (after, text.items))) }
-        ensures stop { IfErr result (Stops (λ r. Settles (bus_of self) r ⊎ IsAdvised self r)) }
+        ensures stop { IfErr result (Stops (λ r. DoesSettle (bus_of self) r ⊎ IsAdvised self r)) }
     {
         self.settled(alloc)?.advised(alloc)
     }

@@ -1,6 +1,6 @@
 //! The trace of a whole script.
 ghost use Rattle.std.specs.Prelude.{◌≡◌, ◌≤◌, Ok, IfOk, IfErr, length};
-ghost use Rattle.script_told.specs.Script.{Told};
+ghost use Rattle.script_told.specs.Script.{ScriptResult};
 ghost use Rattle.script_trace.specs.Trace.{IsTrace};
 ghost use Rattle.script_run.specs.Answered.{IsRefused, IsOnlyFault};
 
@@ -38,9 +38,9 @@ pub fn trace_script(alloc: Global, bytes: &[u8]) -> Result<Vec<u8>, ScriptStop>
     requires { length bytes.now ≤ 1048576 }
     ensures traced { IfOk result (λ lines. IsTrace bytes.now (Ok lines.items)) }
     ensures refused { IfErr result (IsRefused bytes.now) }
-    ensures only { IfOk result (λ lines. (told : Told) → IsTrace bytes.now told
+    ensures only { IfOk result (λ lines. (told : ScriptResult) → IsTrace bytes.now told
         → told ≡ Ok lines.items) }
-    ensures exact { IfErr result (λ stop. (told : Told) → IsTrace bytes.now told
+    ensures exact { IfErr result (λ stop. (told : ScriptResult) → IsTrace bytes.now told
         → IsOnlyFault told stop) }
 {
     scripts_have_one_trace();

@@ -1,6 +1,6 @@
 //! The reports of a whole script as a picture and as data.
 ghost use Rattle.std.specs.Prelude.{◌≡◌, ◌≤◌, ◌+◌, [], Ok, IfOk, IfErr, OnOk, length};
-ghost use Rattle.script_told.specs.Script.{Told, script_lines};
+ghost use Rattle.script_told.specs.Script.{ScriptResult, script_lines};
 ghost use Rattle.script_bus.specs.Running.{IfFault};
 ghost use Rattle.script_run.specs.Answered.{IsRefused, IsOnlyFault};
 ghost use Rattle.script_run.specs.Viewed.{IsPictured, AreReported, AreReadBack};
@@ -38,9 +38,9 @@ pub fn graph_script(alloc: Global, bytes: &[u8]) -> Result<Vec<u8>, ScriptStop>
     requires { length bytes.now ≤ 1048576 }
     ensures pictured { IfOk result (λ text. IsPictured bytes.now (Ok text.items)) }
     ensures refused { IfErr result (IsRefused bytes.now) }
-    ensures only { IfOk result (λ text. (told : Told) → IsPictured bytes.now told
+    ensures only { IfOk result (λ text. (told : ScriptResult) → IsPictured bytes.now told
         → told ≡ Ok text.items) }
-    ensures exact { IfErr result (λ stop. (told : Told) → IsPictured bytes.now told
+    ensures exact { IfErr result (λ stop. (told : ScriptResult) → IsPictured bytes.now told
         → IsOnlyFault told stop) }
 {
     scripts_tell_one_thing();
@@ -115,9 +115,9 @@ pub fn json_script(alloc: Global, bytes: &[u8]) -> Result<Vec<u8>, ScriptStop>
     ensures reported { IfOk result (λ text. AreReported bytes.now (Ok text.items)) }
     ensures reads_back { IfOk result (λ text. AreReadBack bytes.now text.items) }
     ensures refused { IfErr result (IsRefused bytes.now) }
-    ensures only { IfOk result (λ text. (told : Told) → AreReported bytes.now told
+    ensures only { IfOk result (λ text. (told : ScriptResult) → AreReported bytes.now told
         → told ≡ Ok text.items) }
-    ensures exact { IfErr result (λ stop. (told : Told) → AreReported bytes.now told
+    ensures exact { IfErr result (λ stop. (told : ScriptResult) → AreReported bytes.now told
         → IsOnlyFault told stop) }
 {
     scripts_tell_one_thing();

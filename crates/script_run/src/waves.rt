@@ -1,6 +1,6 @@
 //! The dump of a whole script.
 ghost use Rattle.std.specs.Prelude.{◌≡◌, ◌≤◌, Ok, IfOk, IfErr, length};
-ghost use Rattle.script_told.specs.Script.{Told};
+ghost use Rattle.script_told.specs.Script.{ScriptResult};
 ghost use Rattle.script_trace.specs.waves.Waves.{IsWaves};
 ghost use Rattle.script_run.specs.Answered.{IsRefused, IsOnlyFault};
 
@@ -38,9 +38,9 @@ pub fn dump_script(alloc: Global, bytes: &[u8]) -> Result<Vec<u8>, ScriptStop>
     requires { length bytes.now ≤ 1048576 }
     ensures dumped { IfOk result (λ dump. IsWaves bytes.now (Ok dump.items)) }
     ensures refused { IfErr result (IsRefused bytes.now) }
-    ensures only { IfOk result (λ dump. (told : Told) → IsWaves bytes.now told
+    ensures only { IfOk result (λ dump. (told : ScriptResult) → IsWaves bytes.now told
         → told ≡ Ok dump.items) }
-    ensures exact { IfErr result (λ stop. (told : Told) → IsWaves bytes.now told
+    ensures exact { IfErr result (λ stop. (told : ScriptResult) → IsWaves bytes.now told
         → IsOnlyFault told stop) }
 {
     scripts_have_one_dump();

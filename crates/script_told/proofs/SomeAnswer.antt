@@ -30,8 +30,8 @@ use Rattle.script_lines.specs.Refusal.{kind_of}
 use Rattle.script_text.specs.CommandText.{csr_text, grant_text, bid_text}
 use Rattle.script_text.specs.SomeText.{HasReportText, QuietWorldsHaveTexts}
 use Rattle.script_text.specs.SomeMaps.{HasMapsText, MapsHaveTexts}
-use Rattle.script_told.specs.Bus.{Bus, Reported, node_named, resets_of, values_at, after_access, put_look, tree_of, part_with, tree_with}
-use Rattle.script_told.specs.Step.{LineAnswer, AtNode, Named, AtTree, Settled, AtManager, Managed, id_of, Acts, Holds, Within, Reports, Accesses, seen_by, Grants, Looks, MapsOf, GivesMaps, end_of, config_of, notes_after_act, notes_after_report, after_maps}
+use Rattle.script_told.specs.Bus.{Bus, ReportedTree, node_named, resets_of, values_at, after_access, put_look, tree_of, part_with, tree_with}
+use Rattle.script_told.specs.Step.{LineAnswer, AtNode, Named, AtTree, Settled, AtManager, Managed, id_of, Acts, HoldsWire, Within, Reports, Accesses, seen_by, Grants, Looks, MapsOf, GivesMaps, end_of, config_of, notes_after_act, notes_after_report, after_maps}
 use Rattle.script_told.specs.SomeManager.{IsManaged, ReportedTreesAreManaged}
 use Rattle.script_told.specs.SomeAnswer.{IsOfReached, IsReachedBus, HasAnswer, CommandsHaveAnswers, BusesSettle}
 use Rattle.script_told.proofs.Turns.{after-turns}
@@ -51,7 +51,8 @@ named : (bus : Bus) (name : List ℕ) (Comes : NodeNumber → LineAnswer → Typ
 named bus name Comes some = at-node (node_named bus.notes.names name) Comes some
 
 at-tree :
-    (o : Option Reported) (Comes : Reported → LineAnswer → Type 0) → ((t : Reported) → o ≡ Some t → HasAnswer (Comes t)) →
+    (o : Option ReportedTree) (Comes : ReportedTree → LineAnswer → Type 0) →
+    ((t : ReportedTree) → o ≡ Some t → HasAnswer (Comes t)) →
     HasAnswer (AtTree o Comes)
 at-tree None Comes some = known (Err Kind.NotSettled)
 at-tree (Some t) Comes some = let a = some t refl in record { answer = a.answer; is = a.is }
@@ -103,10 +104,11 @@ acts components bus a r = by (act_fault a bus.world) refl
       is = subst (λ (o : Option CableFault). IsSomeAnd o (λ f. kind_of fault ≡ kind_of f)) (sym e) refl;
     }
 
-holds : (bus : Bus) (end : End) (turns : ℕ) → HasAnswer (Holds bus end turns)
+holds : (bus : Bus) (end : End) (turns : ℕ) → HasAnswer (HoldsWire bus end turns)
 holds bus end turns = by (hold_fault end bus.world) refl
   where
-    by : (o : Option CableFault) → hold_fault end bus.world ≡ o → HasAnswer (Holds bus end turns)
+    by : (o : Option CableFault) → hold_fault end bus.world ≡ o →
+        HasAnswer (HoldsWire bus end turns)
     by None e = record { answer = Ok (record bus { world = hold end turns bus.world }, []); is = rw e refl }
     by (Some fault) e = record { answer = Err (kind_of fault); is = rw e refl }
 
@@ -133,7 +135,8 @@ settles texts bus h = within bus (quiet_turns_of bus.world) (Reports bus) (repor
 -- ---- trees of the last report
 
 module _ (trees : ReportedTreesAreManaged) (bus : Bus) (h : IsReachedBus bus) where
-  pub tree-managed : (node : NodeNumber) (tree : Reported) → tree_with node bus.notes ≡ Some tree →
+  pub tree-managed : (node : NodeNumber) (tree : ReportedTree) →
+      tree_with node bus.notes ≡ Some tree →
       IsManaged tree
   tree-managed node tree is = by bus.notes.report refl is h.reported
     where
@@ -143,8 +146,8 @@ module _ (trees : ReportedTreesAreManaged) (bus : Bus) (h : IsReachedBus bus) wh
       by None e found r = absurd cc
       by (Some report) e found r = trees r.world report bus.notes node tree ∣ r.reached ∣₁ r.is e is
 
-  settled : (node : NodeNumber) (Comes : Reported → LineAnswer → Type 0) →
-      ((t : Reported) → IsManaged t → HasAnswer (Comes t)) → HasAnswer (Settled bus node Comes)
+  settled : (node : NodeNumber) (Comes : ReportedTree → LineAnswer → Type 0) →
+      ((t : ReportedTree) → IsManaged t → HasAnswer (Comes t)) → HasAnswer (Settled bus node Comes)
   settled node Comes some = at-tree (tree_with node bus.notes) Comes (λ t is. some t (tree-managed node t is))
 
   managed :
@@ -154,7 +157,7 @@ module _ (trees : ReportedTreesAreManaged) (bus : Bus) (h : IsReachedBus bus) wh
       let a = at-manager m.manager (Comes node (id_of tree node)) (λ manager. some node (id_of tree node) manager) in
       record { answer = a.answer; is = (m.manager, m.has, a.is) }))
 
-  maps : MapsHaveTexts → (tree : Reported) → IsManaged tree → HasAnswer (MapsOf bus tree)
+  maps : MapsHaveTexts → (tree : ReportedTree) → IsManaged tree → HasAnswer (MapsOf bus tree)
   maps texts tree m = if-test (nat_lt bus.notes.maps 100) (GivesMaps bus tree) (λ r. r ≡ Err Kind.TooManyMaps)
       (let t : HasMapsText (resets_of bus.world tree.root) m.shown = texts (resets_of bus.world tree.root) m.shown m.is.bus.bus in
       record { answer = Ok (after_maps bus, t.text); is = record { shown = m.shown; is = m.is; after_is = refl; told = t.is } })

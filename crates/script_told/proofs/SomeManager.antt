@@ -11,7 +11,7 @@ use Rattle.settle.specs.declared.report.Outcome.{Outcome}
 use Rattle.settle.specs.declared.report.Outcome.TheVariants as reported
 use Rattle.settle.specs.declared.report.Part.{Part}
 use Rattle.settle.specs.ReadBack.{IsReadBack, IfTree, ListsAreReadBack}
-use Rattle.script_told.specs.Bus.{Reported, tree_of, part_with}
+use Rattle.script_told.specs.Bus.{ReportedTree, tree_of, part_with}
 use Rattle.script_told.specs.Step.{node_with}
 use Rattle.script_told.specs.SomeManager.{IsManaged, ReportedTreesAreManaged}
 
@@ -30,13 +30,13 @@ found-part P p (x ∷ xs) y all e = either (p x) (found-part P p xs y (All-tail 
     either true rest e = subst P (some-same x y e) (All-head P x xs all)
     either false rest e = rest e
 
-managed-part : (w : CableWorld) (part : Part) (tree : Reported) → tree_of part ≡ Some tree →
+managed-part : (w : CableWorld) (part : Part) (tree : ReportedTree) → tree_of part ≡ Some tree →
     IfTree (IsReadBack w) part.outcome → IsManaged tree
 managed-part w part tree e read = by part.outcome e read
   where
     by : (o : Outcome) → tree_of (record part { outcome = o }) ≡ Some tree → IfTree (IsReadBack w) o → IsManaged tree
     by (reported.Tree root list order) e read =
-        let r : Reported = record { root = root; list = list; order = order } in
+        let r : ReportedTree = record { root = root; list = list; order = order } in
         subst IsManaged (some-same r tree e) (record {
           shown = read.tree;
           is = record { bus = read.bus; emitted = read.emitted };

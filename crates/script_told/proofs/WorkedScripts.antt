@@ -29,9 +29,9 @@ use Rattle.script_lines.specs.Name.{is_name}
 use Rattle.script_lines.specs.Line.{IsRead, Reads}
 use Rattle.script_text.specs.ReportText.{report_line, numbered, none}
 use Rattle.script_told.specs.Bus.{Bus, bus_of_nodes}
-use Rattle.script_told.specs.Step.{LineAnswer, end_of, notes_after_act, notes_after_report, Reports, Settles}
-use Rattle.script_told.specs.Script.{script_lines, Stage, fresh, declaring, running, bus_of, ranges_of, first_draft, new_node, times_of, coins_of, Follows, fault_at}
-use Rattle.script_told.specs.Run.{ScriptRun, done, stopped, behind, last_run, RunsFrom, IsTold}
+use Rattle.script_told.specs.Step.{LineAnswer, end_of, notes_after_act, notes_after_report, Reports, DoesSettle}
+use Rattle.script_told.specs.Script.{script_lines, Stage, fresh, declaring, running, bus_of, ranges_of, first_draft, new_node, times_of, coins_of, DoesAtStage, fault_at}
+use Rattle.script_told.specs.Run.{ScriptRun, done, stopped, behind, last_run, RunsFrom, IsResult}
 use Rattle.script_lines.proofs.Lemmas.{read_line, reads}
 use Rattle.script_told.proofs.Turns.{AfterTurns, after-turns}
 
@@ -72,7 +72,7 @@ module _ (number : ℕ) (line : List ℕ) (lines : List (List ℕ)) (stage : Sta
   -- a command is done
   step :
       (command : Command) (next : Stage) (text : List ℕ) (more : ScriptRun) →
-      said ≡ Ok (Some command) → Follows stage command (Ok (next, text)) →
+      said ≡ Ok (Some command) → DoesAtStage stage command (Ok (next, text)) →
       RunsFrom (number + 1) lines next more →
       RunsFrom number (line ∷ lines) stage (behind (done number stage command next text ∷ []) more)
   step command next text more e f rest =
@@ -81,7 +81,7 @@ module _ (number : ℕ) (line : List ℕ) (lines : List (List ℕ)) (stage : Sta
   -- a command is at fault
   refused :
       (command : Command) (kind : Kind) →
-      said ≡ Ok (Some command) → Follows stage command (Err kind) →
+      said ≡ Ok (Some command) → DoesAtStage stage command (Err kind) →
       RunsFrom number (line ∷ lines) stage (stopped number kind)
   refused command kind e f = (Ok (Some command), line-is (Ok (Some command)) e, (Err kind, f, refl))
 
@@ -120,7 +120,7 @@ empty-report k =
     }
 
 -- at its end the bus settles once
-no-bytes : IsTold [] (Ok (codes "report 1 turn 8000\n"))
+no-bytes : IsResult [] (Ok (codes "report 1 turn 8000\n"))
 unfolding report_line numbered digits
 no-bytes =
     let bus : Bus = bus_of_nodes 4 (profile_times 4) [] [] in
@@ -150,14 +150,14 @@ past w h =
     let more = le-max_left (quiet_turns (length w.cabling) w.delay) (turns_to_settle w) in
     lt-ltb 2000000 (w.turns + quiet_turns_of w) (omega (arith, h.turns, quiet, more))
 
-too-many-turns : IsTold (codes "turn 2000000") (Err (fault_at 2 TooManyTurns))
+too-many-turns : IsResult (codes "turn 2000000") (Err (fault_at 2 TooManyTurns))
 unfolding words_by number_of of_digits is_name
 too-many-turns =
     let bus : Bus = bus_of_nodes 4 (profile_times 4) [] [] in
     let after : Bus = record bus { world = turns_after 2000000 nothing } in
     let answer : LineAnswer = Err TooManyTurns in
     let full = past after.world (after-turns 2000000 nothing) in
-    let ends : Settles after answer =
+    let ends : DoesSettle after answer =
     subst (λ (b : Bool). MatchBool b (answer ≡ Err TooManyTurns) (Reports after answer)) (sym full)
     refl in (
       behind (done 1 fresh (Turn 2000000) (running after) [] ∷ []) (stopped 2 TooManyTurns),
@@ -220,7 +220,7 @@ fifth :
     (line : List ℕ) (kind : Kind) →
     script_lines (desk ++ line) ≡ codes "node a 3" ∷ from-second line →
     RunsFrom 5 (line ∷ []) (running joined) (stopped 5 kind) →
-    IsTold (desk ++ line) (Err (fault_at 5 kind))
+    IsResult (desk ++ line) (Err (fault_at 5 kind))
 unfolding words_by number_of of_digits is_name
 fifth line kind split rest =
     let end : ScriptRun = stopped 5 kind in
@@ -246,41 +246,41 @@ fifth line kind split rest =
       refl,
     )
 
-in-use : IsTold (desk ++ codes "plug a 0 c 0") (Err (fault_at 5 InUse))
+in-use : IsResult (desk ++ codes "plug a 0 c 0") (Err (fault_at 5 InUse))
 unfolding words_by number_of of_digits is_name
 in-use =
     fifth (codes "plug a 0 c 0") InUse refl
     (refused 5 (codes "plug a 0 c 0") [] (running joined) (Plug (codes "a") 0 (codes "c") 0) InUse
     refl (Err InUse, refl, refl))
 
-same-node : IsTold (desk ++ codes "plug c 0 c 1") (Err (fault_at 5 SameNode))
+same-node : IsResult (desk ++ codes "plug c 0 c 1") (Err (fault_at 5 SameNode))
 unfolding words_by number_of of_digits is_name
 same-node =
     fifth (codes "plug c 0 c 1") SameNode refl
     (refused 5 (codes "plug c 0 c 1") [] (running joined) (Plug (codes "c") 0 (codes "c") 1)
     SameNode refl (Err SameNode, refl, refl))
 
-not-plugged : IsTold (desk ++ codes "pull c 0") (Err (fault_at 5 NotPlugged))
+not-plugged : IsResult (desk ++ codes "pull c 0") (Err (fault_at 5 NotPlugged))
 unfolding words_by number_of of_digits is_name
 not-plugged =
     fifth (codes "pull c 0") NotPlugged refl
     (refused 5 (codes "pull c 0") [] (running joined) (Pull (codes "c") 0) NotPlugged
     refl (Err NotPlugged, refl, refl))
 
-late : IsTold (desk ++ codes "node e 3") (Err (fault_at 5 Late))
+late : IsResult (desk ++ codes "node e 3") (Err (fault_at 5 Late))
 unfolding words_by number_of of_digits is_name
 late =
     fifth (codes "node e 3") Late refl
     (refused 5 (codes "node e 3") [] (running joined) (plain (codes "e")) Late refl refl)
 
-not-settled : IsTold (desk ++ codes "csr a read 0x220") (Err (fault_at 5 NotSettled))
+not-settled : IsResult (desk ++ codes "csr a read 0x220") (Err (fault_at 5 NotSettled))
 unfolding words_by number_of of_digits is_name
 not-settled =
     fifth (codes "csr a read 0x220") NotSettled refl
     (refused 5 (codes "csr a read 0x220") [] (running joined) (CsrRead (codes "a") 0x220) NotSettled
     refl (Err NotSettled, refl, refl))
 
-no-command : IsTold (desk ++ codes "plug a 0 b") (Err (fault_at 5 Word))
+no-command : IsResult (desk ++ codes "plug a 0 b") (Err (fault_at 5 Word))
 unfolding words_by number_of of_digits is_name
 no-command =
     fifth (codes "plug a 0 b") Word refl
@@ -288,7 +288,7 @@ no-command =
 
 -- ---- lines that are skipped
 
-skipped-lines : IsTold (codes "# none\n\n  \r\nplug a 0 b") (Err (fault_at 4 Word))
+skipped-lines : IsResult (codes "# none\n\n  \r\nplug a 0 b") (Err (fault_at 4 Word))
 unfolding words_by number_of of_digits is_name
 skipped-lines =
     let run : ScriptRun = stopped 4 Word in (
@@ -315,7 +315,7 @@ said-times = codes "times 1394a 170"
 second-line :
     (line : List ℕ) (kind : Kind) → script_lines (codes "times 1394a 170\n" ++ line) ≡ said-times ∷ line ∷ [] →
     RunsFrom 2 (line ∷ []) timed (stopped 2 kind) →
-    IsTold (codes "times 1394a 170\n" ++ line) (Err (fault_at 2 kind))
+    IsResult (codes "times 1394a 170\n" ++ line) (Err (fault_at 2 kind))
 unfolding words_by number_of of_digits is_name
 second-line line kind split rest =
     let end : ScriptRun = stopped 2 kind in
@@ -326,27 +326,28 @@ second-line line kind split rest =
       refl,
     )
 
-times-twice : IsTold (codes "times 1394a 170\n" ++ said-times) (Err (fault_at 2 Late))
+times-twice : IsResult (codes "times 1394a 170\n" ++ said-times) (Err (fault_at 2 Late))
 unfolding words_by number_of of_digits is_name
 times-twice =
     second-line said-times Late refl
     (refused 2 said-times [] timed (Times Ieee2000 170) Late refl refl)
 
-delay-behind-times : IsTold (codes "times 1394a 170\n" ++ codes "delay 4") (Err (fault_at 2 Late))
+delay-behind-times : IsResult (codes "times 1394a 170\n" ++ codes "delay 4") (Err (fault_at 2 Late))
 unfolding words_by number_of of_digits is_name
 delay-behind-times =
     second-line (codes "delay 4") Late refl
     (refused 2 (codes "delay 4") [] timed (Delay 4) Late refl refl)
 
 -- a hold may be 3920 to 3923 ticks
-hold-of-the-profile : IsTold (codes "times 1394a 170\n" ++ codes "node a 3 hold 3924") (Err (fault_at 2 Range))
+hold-of-the-profile : IsResult (codes "times 1394a 170\n" ++ codes "node a 3 hold 3924")
+    (Err (fault_at 2 Range))
 unfolding words_by number_of of_digits is_name
 hold-of-the-profile =
     second-line (codes "node a 3 hold 3924") Range refl
     (bad 2 (codes "node a 3 hold 3924") [] timed Range refl)
 
 -- by 1394-1995 a short wait may be 5 ticks, which a signal takes over the cable and back
-too-slow : IsTold (codes "times 1394-1995 170") (Err (fault_at 1 Range))
+too-slow : IsResult (codes "times 1394-1995 170") (Err (fault_at 1 Range))
 unfolding words_by number_of of_digits is_name
 too-slow =
     let run : ScriptRun = stopped 1 Range in (

@@ -87,15 +87,15 @@ resets_of w node = resets_shown (slice_get w.nodes node)
 -- ---- the last report
 
 -- a tree as it was reported: its list, and the node of each ID
-pub record Reported : Type 0 where
+pub record ReportedTree : Type 0 where
   pub root : NodeNumber
   pub list : List ℕ
   pub order : List NodeNumber
 
-abbrev pub tree_of : Part → Option Reported
+abbrev pub tree_of : Part → Option ReportedTree
 tree_of part = of_outcome part.outcome
   where
-    of_outcome : Outcome → Option Reported
+    of_outcome : Outcome → Option ReportedTree
     of_outcome (reported.Tree root list order) =
         Some (record { root = root; list = list; order = order })
     of_outcome outcome = None
@@ -105,7 +105,7 @@ abbrev pub part_with : NodeNumber → Report → Option Part
 part_with node report = find (λ part. bit_at part.nodes node == 1) report.parts
 
 -- the tree with this node, where it stands settled as a tree
-abbrev pub tree_with : NodeNumber → Notes → Option Reported
+abbrev pub tree_with : NodeNumber → Notes → Option ReportedTree
 tree_with node notes = option_and_then tree_of (option_and_then (part_with node) notes.report)
 
 -- ---- registers

@@ -3,7 +3,7 @@ use Rattle.std.specs.Prelude.{◌≡◌, ℕ, List, All, Some}
 use Rattle.cable_world.specs.World.{NodeNumber}
 use Rattle.settle.specs.Planned.{HaveGap}
 use Rattle.script_lines.specs.declared.command.Command.TheVariants.{Plan}
-use Rattle.script_told.specs.Bus.{Bus, Reported, node_named, tree_with}
+use Rattle.script_told.specs.Bus.{Bus, ReportedTree, node_named, tree_with}
 use Rattle.script_told.specs.Step.{CarriesOut, node_with}
 use Rattle.script_told.specs.Script.{running, bus_of}
 use Rattle.script_told.specs.Run.{Entry, ScriptRun, IsRun}
@@ -13,7 +13,7 @@ use Rattle.script_told.specs.PrintedTree.{PrintsTree}
 pub record IsCarriedOut (bus : Bus) (name : List ℕ) (after : Bus) (text : List ℕ) : Type 0 where
   pub node : NodeNumber
   pub named : node_named bus.notes.names name ≡ Some node
-  pub tree : Reported
+  pub tree : ReportedTree
   pub settled : tree_with node bus.notes ≡ Some tree
   pub carried : CarriesOut bus name node tree after text
 

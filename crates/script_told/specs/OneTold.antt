@@ -1,7 +1,7 @@
 -- A script has one run at most, and so tells one thing at most.
 use Rattle.std.specs.Prelude.{◌≡◌, ℕ, List}
-use Rattle.script_told.specs.Script.{Told}
-use Rattle.script_told.specs.Run.{ScriptRun, IsRun, IsTold}
+use Rattle.script_told.specs.Script.{ScriptResult}
+use Rattle.script_told.specs.Run.{ScriptRun, IsRun, IsResult}
 
 abbrev pub ScriptsHaveOneRun : Type 0
 ScriptsHaveOneRun =
@@ -9,4 +9,5 @@ ScriptsHaveOneRun =
 
 abbrev pub ScriptsTellOneThing : Type 0
 ScriptsTellOneThing =
-    (bytes : List ℕ) (one other : Told) → IsTold bytes one → IsTold bytes other → one ≡ other
+    (bytes : List ℕ) (one other : ScriptResult) → IsResult bytes one → IsResult bytes other →
+    one ≡ other

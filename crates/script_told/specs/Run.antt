@@ -7,8 +7,8 @@ use Rattle.script_lines.specs.declared.command.Command.{Command}
 use Rattle.script_lines.specs.declared.command.Command.TheVariants.{Settle}
 use Rattle.script_lines.specs.Line.{Reads}
 use Rattle.script_told.specs.Bus.{Bus}
-use Rattle.script_told.specs.Step.{LineAnswer, Settles}
-use Rattle.script_told.specs.Script.{Stage, fresh, running, StageAnswer, bus_of, ranges_of, Follows, Told, fault_at, script_lines}
+use Rattle.script_told.specs.Step.{LineAnswer, DoesSettle}
+use Rattle.script_told.specs.Script.{Stage, fresh, running, StageAnswer, bus_of, ranges_of, DoesAtStage, ScriptResult, fault_at, script_lines}
 
 -- A command that was done: the number of its line, what the script had come to before it and behind
 -- it, and what it printed.
@@ -47,30 +47,30 @@ last_run number stage (Err kind) = stopped number kind
 
 abbrev pub Ends : ℕ → Stage → ScriptRun → Type 0
 Ends number stage run =
-    (r : LineAnswer) × Settles (bus_of stage) r × (run ≡ last_run number stage r)
+    (r : LineAnswer) × DoesSettle (bus_of stage) r × (run ≡ last_run number stage r)
 
 -- a command is done, and the rest goes on from where it led; or it is at fault
-abbrev pub Goes :
+abbrev pub Proceeds :
     ℕ → (Stage → ScriptRun → Type 0) → Stage → Command → StageAnswer → ScriptRun → Type 0
-Goes number Rest stage command (Ok (next, text)) run =
+Proceeds number Rest stage command (Ok (next, text)) run =
     (more : ScriptRun) × Rest next more
     × (run ≡ behind (done number stage command next text ∷ []) more)
-Goes number Rest stage command (Err kind) run = run ≡ stopped number kind
+Proceeds number Rest stage command (Err kind) run = run ≡ stopped number kind
 
 -- a line that was read is nothing, a command or at fault
-abbrev pub Takes :
+abbrev pub TakesLine :
     ℕ → (Stage → ScriptRun → Type 0) → Stage → Result (Option Command) Kind → ScriptRun → Type 0
-Takes number Rest stage (Ok None) run = Rest stage run
-Takes number Rest stage (Ok (Some command)) run =
-    (r : StageAnswer) × Follows stage command r × Goes number Rest stage command r run
-Takes number Rest stage (Err kind) run = run ≡ stopped number kind
+TakesLine number Rest stage (Ok None) run = Rest stage run
+TakesLine number Rest stage (Ok (Some command)) run =
+    (r : StageAnswer) × DoesAtStage stage command r × Proceeds number Rest stage command r run
+TakesLine number Rest stage (Err kind) run = run ≡ stopped number kind
 
 -- the run of these lines from a stage on, of which the first has this number
 abbrev pub RunsFrom : ℕ → List (List ℕ) → Stage → ScriptRun → Type 0
 RunsFrom number [] stage run = Ends number stage run
 RunsFrom number (line ∷ lines) stage run =
     (reading : Result (Option Command) Kind) × Reads (ranges_of stage) line reading
-    × Takes number (RunsFrom (number + 1) lines) stage reading run
+    × TakesLine number (RunsFrom (number + 1) lines) stage reading run
 
 -- the run of a script
 abbrev pub IsRun : List ℕ → ScriptRun → Type 0
@@ -84,15 +84,15 @@ printed [] = []
 printed (entry ∷ entries) = entry.text ++ printed entries
 
 -- this text, unless a fault stopped the script
-abbrev pub unless_stopped : List ℕ → Result Bus ScriptFault → Told
+abbrev pub unless_stopped : List ℕ → Result Bus ScriptFault → ScriptResult
 unless_stopped text (Ok bus) = Ok text
 unless_stopped text (Err fault) = Err fault
 
 -- what a run tells: the text that its commands print, or its fault
-abbrev pub told_by : ScriptRun → Told
-told_by run = unless_stopped (printed run.entries) run.end
+abbrev pub result_of : ScriptRun → ScriptResult
+result_of run = unless_stopped (printed run.entries) run.end
 
 -- A script's text is what the commands of its run print. Or it is refused for the fault of its first
 -- bad line.
-abbrev pub IsTold : List ℕ → Told → Type 0
-IsTold bytes told = (run : ScriptRun) × IsRun bytes run × (told ≡ told_by run)
+abbrev pub IsResult : List ℕ → ScriptResult → Type 0
+IsResult bytes told = (run : ScriptRun) × IsRun bytes run × (told ≡ result_of run)

@@ -133,13 +133,13 @@ abbrev pub onwards : LineAnswer → StageAnswer
 onwards (Ok (bus, text)) = Ok (running bus, text)
 onwards (Err kind) = Err kind
 
-abbrev pub Runs : Stage → Command → StageAnswer → Type 0
-Runs stage command answer =
+abbrev pub DoesOnBus : Stage → Command → StageAnswer → Type 0
+DoesOnBus stage command answer =
     (r : LineAnswer) × Does (bus_of stage) command r × (answer ≡ onwards r)
 
 -- what a command comes to
-abbrev pub Follows : Stage → Command → StageAnswer → Type 0
-Follows stage
+abbrev pub DoesAtStage : Stage → Command → StageAnswer → Type 0
+DoesAtStage stage
     (Node name ports speed link contender force power gap hold short long word len seed packed)
     answer = Declares (draft_of stage) name (λ ranges number.
     new_node
@@ -153,16 +153,16 @@ Follows stage
       initiated = false;
     })
     ports force (times_of ranges hold short long) (coins_of number word len seed)) answer
-Follows stage (Delay delay) answer = Delays stage delay answer
-Follows stage (Times standard nanoseconds) answer =
+DoesAtStage stage (Delay delay) answer = Delays stage delay answer
+DoesAtStage stage (Times standard nanoseconds) answer =
     SaysTimes (draft_of stage) standard nanoseconds answer
-Follows stage command answer = Runs stage command answer
+DoesAtStage stage command answer = DoesOnBus stage command answer
 
 -- ---- faults
 
 -- the text of a script, or its fault
-abbrev pub Told : Type 0
-Told = Result (List ℕ) ScriptFault
+abbrev pub ScriptResult : Type 0
+ScriptResult = Result (List ℕ) ScriptFault
 
 abbrev pub fault_at : ℕ → Kind → ScriptFault
 fault_at line kind = record { line = line; kind = kind }

@@ -7,7 +7,7 @@ use Rattle.settle.specs.Report.{IsReport}
 use Rattle.script_lines.specs.declared.command.Command.{Command}
 use Rattle.script_lines.specs.declared.command.Command.TheVariants.{Plan}
 use Rattle.script_told.specs.Bus.{Bus}
-use Rattle.script_told.specs.Step.{LineAnswer, Does, Settles}
+use Rattle.script_told.specs.Step.{LineAnswer, Does, DoesSettle}
 
 -- a report is of a reached world, from which holds and turns alone led to this one
 pub record IsOfReached (now : CableWorld) (report : Report) : Type 0 where
@@ -44,4 +44,4 @@ PlansHaveAnswers =
 
 -- and what a bus settles to
 abbrev pub BusesSettle : Type 0
-BusesSettle = (bus : Bus) → IsReachedBus bus → HasAnswer (Settles bus)
+BusesSettle = (bus : Bus) → IsReachedBus bus → HasAnswer (DoesSettle bus)

@@ -5,11 +5,11 @@ use Rattle.cable_world.specs.World.{CableWorld, NodeNumber}
 use Rattle.cable_world.specs.Run.{IsReached}
 use Rattle.settle.specs.declared.report.Report.{Report}
 use Rattle.settle.specs.Report.{IsReport}
-use Rattle.script_told.specs.Bus.{Notes, Reported, tree_with}
+use Rattle.script_told.specs.Bus.{Notes, ReportedTree, tree_with}
 use Rattle.script_told.specs.Step.{IsTreeOf, HasManager}
 
 -- the bus tree of a list, whose nodes the order has, and the manager of it, if there is one
-pub record IsManaged (tree : Reported) : Type 0 where
+pub record IsManaged (tree : ReportedTree) : Type 0 where
   pub shown : Tree
   pub is : IsTreeOf tree.list shown
   pub whole : length tree.order ≡ length (walk shown)
@@ -19,6 +19,6 @@ pub record IsManaged (tree : Reported) : Type 0 where
 -- so it is with each tree of the last report, whatever was the world that it was of
 abbrev pub ReportedTreesAreManaged : Type 0
 ReportedTreesAreManaged =
-    (w : CableWorld) (report : Report) (notes : Notes) (node : NodeNumber) (tree : Reported) →
+    (w : CableWorld) (report : Report) (notes : Notes) (node : NodeNumber) (tree : ReportedTree) →
     ∥ IsReached w ∥₁ → IsReport w report → notes.report ≡ Some report →
     tree_with node notes ≡ Some tree → IsManaged tree

@@ -32,7 +32,7 @@ use Rattle.script_text.specs.ReportText.{IsReportText}
 use Rattle.script_text.specs.Maps.{IsMapsText}
 use Rattle.script_text.specs.CommandText.{csr_text, grant_text, bid_text}
 use Rattle.script_text.specs.Plan.{IsPlan, plan_line}
-use Rattle.script_told.specs.Bus.{Notes, Bus, Reported, node_named, resets_of, tree_with, values_at, after_access, look_of, put_look}
+use Rattle.script_told.specs.Bus.{Notes, Bus, ReportedTree, node_named, resets_of, tree_with, values_at, after_access, look_of, put_look}
 
 -- the bus and what was printed, or a fault
 abbrev pub LineAnswer : Type 0
@@ -49,11 +49,11 @@ abbrev pub Named : Bus → List ℕ → (NodeNumber → LineAnswer → Type 0) �
 Named bus name comes answer = AtNode (node_named bus.notes.names name) comes answer
 
 -- the tree in which a node stands settled, else `NotSettled`
-abbrev pub AtTree : Option Reported → (Reported → LineAnswer → Type 0) → LineAnswer → Type 0
+abbrev pub AtTree : Option ReportedTree → (ReportedTree → LineAnswer → Type 0) → LineAnswer → Type 0
 AtTree None comes answer = answer ≡ Err NotSettled
 AtTree (Some tree) comes answer = comes tree answer
 
-abbrev pub Settled : Bus → NodeNumber → (Reported → LineAnswer → Type 0) → LineAnswer → Type 0
+abbrev pub Settled : Bus → NodeNumber → (ReportedTree → LineAnswer → Type 0) → LineAnswer → Type 0
 Settled bus node comes answer = AtTree (tree_with node bus.notes) comes answer
 
 -- the bus tree that has this list
@@ -62,14 +62,14 @@ pub record IsTreeOf (list : List ℕ) (t : Tree) : Type 0 where
   pub emitted : emits t ≡ list
 
 -- the node of an ID, and the ID of a node
-abbrev pub node_with : Reported → ℕ → NodeNumber
+abbrev pub node_with : ReportedTree → ℕ → NodeNumber
 node_with tree id = slice_index_or tree.order id 0
 
-abbrev pub id_of : Reported → NodeNumber → ℕ
+abbrev pub id_of : ReportedTree → NodeNumber → ℕ
 id_of tree node = unwrap_or (position (λ k. k == node) tree.order) 0
 
 -- the isochronous resource manager of a tree, or none
-pub record HasManager (tree : Reported) (manager : Option NodeNumber) : Type 0 where
+pub record HasManager (tree : ReportedTree) (manager : Option NodeNumber) : Type 0 where
   pub shown : Tree
   pub is : IsTreeOf tree.list shown
   pub elects : manager ≡ option_map (node_with tree) (elected shown)
@@ -112,8 +112,8 @@ abbrev pub config_of : NodeNumber → Option ℕ → Option ℕ → Act
 config_of from root_id gap = act.Config from (unwrap_or root_id 0) (is_some root_id) gap
 
 -- the wire that leaves an end is held, or this is refused
-abbrev pub Holds : Bus → End → ℕ → LineAnswer → Type 0
-Holds bus end turns answer = unless (hold_fault end bus.world)
+abbrev pub HoldsWire : Bus → End → ℕ → LineAnswer → Type 0
+HoldsWire bus end turns answer = unless (hold_fault end bus.world)
   where
     unless : Option CableFault → Type 0
     unless None = answer ≡ Ok (record bus { world = hold end turns bus.world }, [])
@@ -145,8 +145,8 @@ Reports bus (Ok (after, text)) = (report : Report)
     × IsReportText bus.notes.names after.notes.reports report text
 Reports bus (Err kind) = ⊥
 
-abbrev pub Settles : Bus → LineAnswer → Type 0
-Settles bus answer = Within bus (quiet_turns_of bus.world) (Reports bus) answer
+abbrev pub DoesSettle : Bus → LineAnswer → Type 0
+DoesSettle bus answer = Within bus (quiet_turns_of bus.world) (Reports bus) answer
 
 -- ---- questions to the isochronous resource manager
 
@@ -186,7 +186,7 @@ AsBusManager bus id manager comes answer =
 -- the gap count and resets the bus, the quiet turns are done, and what then is reported is printed
 -- behind the line of the plan.
 pub record CarriesOut
-    (bus : Bus) (name : List ℕ) (node : NodeNumber) (tree : Reported) (after : Bus)
+    (bus : Bus) (name : List ℕ) (node : NodeNumber) (tree : ReportedTree) (after : Bus)
     (text : List ℕ) : Type 0 where
   pub shown : Tree
   pub is : IsTreeOf tree.list shown
@@ -202,7 +202,7 @@ pub record CarriesOut
   pub text_is :
       text ≡ plan_line bus.notes.names name (node_with tree plan.root_id) plan expected ++ report
 
-abbrev pub Plans : Bus → List ℕ → NodeNumber → Reported → LineAnswer → Type 0
+abbrev pub Plans : Bus → List ℕ → NodeNumber → ReportedTree → LineAnswer → Type 0
 Plans bus name node tree (Ok (after, text)) = CarriesOut bus name node tree after text
 Plans bus name node tree (Err kind) = ⊥
 
@@ -220,18 +220,18 @@ abbrev pub after_maps : Bus → Bus
 after_maps bus = record bus { notes = notes_after_maps bus.notes }
 
 -- the maps of a tree, with the root's count of resets as their generation
-pub record ShowsMaps (bus : Bus) (tree : Reported) (after : Bus) (text : List ℕ) : Type 0 where
+pub record ShowsMaps (bus : Bus) (tree : ReportedTree) (after : Bus) (text : List ℕ) : Type 0 where
   pub shown : Tree
   pub is : IsTreeOf tree.list shown
   pub after_is : after ≡ after_maps bus
   pub told : IsMapsText (resets_of bus.world tree.root) shown text
 
-abbrev pub GivesMaps : Bus → Reported → LineAnswer → Type 0
+abbrev pub GivesMaps : Bus → ReportedTree → LineAnswer → Type 0
 GivesMaps bus tree (Ok (after, text)) = ShowsMaps bus tree after text
 GivesMaps bus tree (Err kind) = ⊥
 
 -- a script has 100 maps at most
-abbrev pub MapsOf : Bus → Reported → LineAnswer → Type 0
+abbrev pub MapsOf : Bus → ReportedTree → LineAnswer → Type 0
 MapsOf bus tree answer =
     MatchBool (nat_lt bus.notes.maps 100) (GivesMaps bus tree answer) (answer ≡ Err TooManyMaps)
 
@@ -249,8 +249,8 @@ Does bus (Pull name port) r = Named bus name (λ node. Acts bus (act.Pull (end_o
 Does bus (Reset name) r = Named bus name (λ node. Acts bus (act.Reset node)) r
 Does bus (Turn count) r = Turns bus count r
 Does bus (Hold name port turns) r =
-    Named bus name (λ node. Holds bus (end_of node port) turns) r
-Does bus Settle r = Settles bus r
+    Named bus name (λ node. HoldsWire bus (end_of node port) turns) r
+Does bus Settle r = DoesSettle bus r
 Does bus (Config name root_id gap) r = Named bus name (λ node. Settled bus node (λ tree.
     Acts bus (config_of node root_id gap))) r
 Does bus (CsrRead name offset) r = Managed bus name (λ node id manager.

@@ -10,9 +10,9 @@ use Rattle.script_lines.specs.declared.kind.Kind.{Kind}
 use Rattle.script_lines.specs.declared.kind.ScriptFault.{ScriptFault}
 use Rattle.script_lines.specs.declared.command.Command.{Command}
 use Rattle.script_lines.specs.declared.command.Command.TheVariants.{Node, Plug, Pull, Reset, Turn, Hold, Settle, Config, Plan, Delay, Times}
-use Rattle.script_told.specs.Bus.{Bus, Reported, tree_with}
+use Rattle.script_told.specs.Bus.{Bus, ReportedTree, tree_with}
 use Rattle.script_told.specs.Step.{LineAnswer, CarriesOut, Does}
-use Rattle.script_told.specs.Script.{Stage, fresh, declaring, running, Runs, Follows, onwards, Told, bus_of}
+use Rattle.script_told.specs.Script.{Stage, fresh, declaring, running, DoesOnBus, DoesAtStage, onwards, ScriptResult, bus_of}
 use Rattle.script_told.specs.Run.{Entry, ScriptRun, printed, unless_stopped}
 use Rattle.script_told.specs.EachPlan.{IsCarriedOut}
 use Rattle.script_told.proofs.Lemmas.{stage-in, IsCabled, same-plan, same-sent, IsSound, cabled, one-run, IsDone, each-done, plan-carried}
@@ -40,13 +40,15 @@ one-plan trees v bus after name xs ys h x y =
     same x.node y.node node x.tree y.tree tree x.text y.text x.carried y.carried x.lines_are y.lines_are
   where
     same :
-        (j k : ℕ) → k ≡ j → (t u : Reported) → u ≡ t → (s r : List ℕ) →
+        (j k : ℕ) → k ≡ j → (t u : ReportedTree) → u ≡ t → (s r : List ℕ) →
         (p : CarriesOut bus name j t after s) (q : CarriesOut bus name k u after r) →
         xs ≡ plan-lines v bus after name p.plan p.sent → ys ≡ plan-lines v bus after name q.plan q.sent →
         xs ≡ ys
     same j k e t u f s r p q is also =
-        let Q : ℕ → Reported → Type 0 = λ i z. (c : CarriesOut bus name i z after r) × (ys ≡ plan-lines v bus after name c.plan c.sent) in
-        let d : Q j t = subst (λ (v : Reported). Q j v) f (subst (λ (i : ℕ). Q i u) e (q, also)) in
+        let Q : ℕ → ReportedTree → Type 0 = λ i z. (c : CarriesOut bus name i z after r) ×
+        (ys ≡ plan-lines v bus after name c.plan c.sent) in
+        let d : Q j t = subst (λ (v : ReportedTree). Q j v) f
+        (subst (λ (i : ℕ). Q i u) e (q, also)) in
         let plan : p.plan ≡ d.0.plan = same-plan trees bus name j t after s after r p d.0 in
         let sent : p.sent ≡ d.0.sent = (same-sent trees bus name j t h after s after r p d.0).0 in
         is
@@ -88,7 +90,7 @@ pub same-fault : (a b : ScriptFault) → ◌≡◌ {A = Result Bus ScriptFault} 
 same-fault a b e = cc
 
 same-told :
-    NoListHasTwoTrees → (run : ScriptRun) (one other : Told) → All IsDone run.entries →
+    NoListHasTwoTrees → (run : ScriptRun) (one other : ScriptResult) → All IsDone run.entries →
     IsTraceOf run one → IsTraceOf run other → one ≡ other
 same-told trees run (Ok xs) (Ok ys) h x y = ap Ok (one-trace-of trees trace_voice run.entries xs ys h x.2 y.2)
 same-told trees run (Ok xs) (Err f) h x y = absurd (not-both x.0 f (sym x.1 ∙ y))
@@ -151,12 +153,14 @@ command-lines v bus command after text x = ([], refl)
 
 stage-lines :
     (v : Voice) (stage : Stage) (command : Command) (next : Stage) (text : List ℕ) →
-    Follows stage command (Ok (next, text)) → (lines : List ℕ) × TracesAt v stage command next lines
+    DoesAtStage stage command (Ok (next, text)) → (lines : List ℕ) ×
+    TracesAt v stage command next lines
 stage-lines v stage command fresh text f = ([], refl)
 stage-lines v stage command (declaring draft) text f = ([], refl)
 stage-lines v stage command (running after) text f = by-command command f
   where
-    of-runs : (c : Command) → Runs stage c (Ok (running after, text)) → HasLines v (bus_of stage) c after
+    of-runs : (c : Command) → DoesOnBus stage c (Ok (running after, text)) →
+        HasLines v (bus_of stage) c after
     of-runs c r = go r.0 r.1 r.2
       where
         go : (a : LineAnswer) → Does (bus_of stage) c a → Ok (running after, text) ≡ onwards a → HasLines v (bus_of stage) c after
@@ -172,7 +176,8 @@ stage-lines v stage command (running after) text f = by-command command f
             no : (k : Kind) → Ok (running after, text) ≡ onwards (Err k) → ⊥
             no k g = absurd cc
 
-    by-command : (c : Command) → Follows stage c (Ok (running after, text)) → HasLines v (bus_of stage) c after
+    by-command : (c : Command) → DoesAtStage stage c (Ok (running after, text)) →
+        HasLines v (bus_of stage) c after
     by-command
         (Node name ports speed link contender force power gap hold short long word len seed packed)
         g = ([], refl)

@@ -6,9 +6,9 @@ use Rattle.settle.specs.Report.{quiet_turns_of}
 use Rattle.script_lines.specs.declared.command.Command.{Command}
 use Rattle.script_lines.specs.declared.command.Command.TheVariants.{Plug, Pull, Reset, Turn, Hold, Settle, Config, Plan}
 use Rattle.script_text.specs.ReportText.{numbered}
-use Rattle.script_told.specs.Bus.{Bus, Reported, node_named, tree_with}
+use Rattle.script_told.specs.Bus.{Bus, ReportedTree, node_named, tree_with}
 use Rattle.script_told.specs.Step.{CarriesOut}
-use Rattle.script_told.specs.Script.{Stage, running, bus_of, Told}
+use Rattle.script_told.specs.Script.{Stage, running, bus_of, ScriptResult}
 use Rattle.script_told.specs.Run.{Entry, ScriptRun, IsRun}
 use Rattle.script_trace.specs.Step.{lines_since, seen_before_act}
 use Rattle.script_trace.specs.Voice.{Legend, legend_of, Voice, turns_told}
@@ -54,7 +54,7 @@ pub record TracesPlan (voice : Voice) (bus : Bus) (name : List ℕ) (after : Bus
     Type 0 where
   pub node : NodeNumber
   pub named : node_named bus.notes.names name ≡ Some node
-  pub tree : Reported
+  pub tree : ReportedTree
   pub settled : tree_with node bus.notes ≡ Some tree
   pub text : List ℕ
   pub carried : CarriesOut bus name node tree after text
@@ -109,10 +109,10 @@ trace_voice = record {
 }
 
 -- what happens in a run, or its fault
-abbrev pub IsTraceOf : ScriptRun → Told → Type 0
+abbrev pub IsTraceOf : ScriptRun → ScriptResult → Type 0
 IsTraceOf run (Ok lines) = (bus : Bus) × (run.end ≡ Ok bus) × AllTrace trace_voice run.entries lines
 IsTraceOf run (Err fault) = run.end ≡ Err fault
 
 -- The trace of a script, or the fault of its first bad line.
-abbrev pub IsTrace : List ℕ → Told → Type 0
+abbrev pub IsTrace : List ℕ → ScriptResult → Type 0
 IsTrace bytes told = (run : ScriptRun) × IsRun bytes run × IsTraceOf run told

@@ -8,7 +8,7 @@ use Rattle.root_plan.specs.declared.choice.RootPlan.{RootPlan}
 use Rattle.settle.specs.Report.{quiet_turns_of}
 use Rattle.settle.specs.Planned.{SuitsTree}
 use Rattle.script_lines.specs.declared.command.Command.{Command}
-use Rattle.script_told.specs.Bus.{Bus, Reported, tree_with, values_at}
+use Rattle.script_told.specs.Bus.{Bus, ReportedTree, tree_with, values_at}
 use Rattle.script_told.specs.Step.{LineAnswer, Acts, Does}
 use Rattle.script_trace.specs.Voice.{Voice, legend_of}
 use Rattle.script_trace.specs.Trace.{act_trace, Traces}
@@ -33,7 +33,7 @@ pub record IsReady
   pub asked : IsAsked bus name node id manager
   pub is_manager : ((values_at manager bus).bus_manager_id == id) ≡ true
   pub within : nat_lt 2000000 (bus.world.turns + quiet_turns_of bus.world) ≡ false
-  pub tree : Reported
+  pub tree : ReportedTree
   pub settled : tree_with node bus.notes ≡ Some tree
   pub planned : IsPlanned bus name tree plan line
   pub suits : SuitsTree bus.world node plan

@@ -13,7 +13,7 @@ use Rattle.settle.specs.Reported.{ReportsTree}
 use Rattle.script_lines.specs.declared.command.Command.{Command}
 use Rattle.script_lines.specs.declared.command.Command.TheVariants.{Plug, Pull, Reset, Config, Hold, Turn, Settle, Plan}
 use Rattle.script_text.specs.ReportText.{IsNamedReport, IsReportText}
-use Rattle.script_told.specs.Bus.{Bus, Reported}
+use Rattle.script_told.specs.Bus.{Bus, ReportedTree}
 use Rattle.script_text.specs.Plan.{IsPlan, plan_line}
 use Rattle.script_told.specs.Step.{IsTreeOf, Acts, Reports, config_of, node_with, notes_after_report}
 use Rattle.script_trace.specs.Voice.{Legend, legend_of, Voice}
@@ -28,7 +28,7 @@ pub record StandsSince (report : Report) (w : CableWorld) : Type 0 where
   pub rests : Rests turns before w
 
 -- the component of a node stands as a reported tree
-pub record StandsAs (w : CableWorld) (node : NodeNumber) (tree : Reported) : Type 0 where
+pub record StandsAs (w : CableWorld) (node : NodeNumber) (tree : ReportedTree) : Type 0 where
   pub set : NodeSet
   pub component : IsComponent w.cabling node set
   pub small : set < 2 ^ 63
@@ -36,7 +36,8 @@ pub record StandsAs (w : CableWorld) (node : NodeNumber) (tree : Reported) : Typ
 
 -- a plan for a reported tree, and its line
 pub record IsPlanned
-    (bus : Bus) (name : List ℕ) (tree : Reported) (plan : RootPlan) (line : List ℕ) : Type 0 where
+    (bus : Bus) (name : List ℕ) (tree : ReportedTree) (plan : RootPlan)
+    (line : List ℕ) : Type 0 where
   pub shown : Tree
   pub is : IsTreeOf tree.list shown
   pub planned : IsPlan shown plan

@@ -24,7 +24,7 @@ use Rattle.script_made.specs.declared.made.End.{End}
 use Rattle.script_lines.specs.declared.kind.Kind.TheVariants.{TooManyTurns}
 use Rattle.script_lines.specs.declared.command.Command.TheVariants.{Turn}
 use Rattle.script_told.specs.Bus.{Notes, Bus, node_named}
-use Rattle.script_told.specs.Step.{LineAnswer, AtNode, Named, Acts, Within, Reports, Settles, Does, end_of}
+use Rattle.script_told.specs.Step.{LineAnswer, AtNode, Named, Acts, Within, Reports, DoesSettle, Does, end_of}
 use Rattle.script_made.specs.Made.{end}
 use Rattle.script_made.specs.MadeRead.{made_name, plugs, pulls}
 use Rattle.script_told.proofs.Lemmas.{AfterTurns, after-turns, nodes-after-turns, IsCabled, act-cabled, act-adds, act-takes, not-refused}
@@ -219,7 +219,7 @@ module _ (n turns : ℕ) (bus : Bus) (P : Bus → Type 0) (few : n ≤ 63) (h : 
   pub settle-goes :
       (most : ℕ) → turns + 73520 ≤ most → most ≤ 2000000 →
       ((after : Bus) → IsBusOf n most after → after.world.cabling ≡ cables → P after) →
-      (r : LineAnswer) → Settles bus r → GoesOn P r
+      (r : LineAnswer) → DoesSettle bus r → GoesOn P r
   settle-goes most room limit f r x =
       go r (within (quiet_turns_of bus.world) (Reports bus) r (omega (arith, room, limit, h.few, quiet-few)) x)
     where

@@ -8,9 +8,9 @@ use Rattle.script_lines.specs.declared.kind.Kind.{Kind}
 use Rattle.script_lines.specs.declared.command.Command.{Command}
 use Rattle.script_lines.specs.Line.{Reads}
 use Rattle.script_told.specs.Bus.{Bus}
-use Rattle.script_told.specs.Step.{LineAnswer, Does, Settles}
-use Rattle.script_told.specs.Script.{Stage, running, StageAnswer, bus_of, ranges_of, onwards, Runs, Follows}
-use Rattle.script_told.specs.Run.{ScriptRun, done, behind, last_run, Goes, Takes, RunsFrom}
+use Rattle.script_told.specs.Step.{LineAnswer, Does, DoesSettle}
+use Rattle.script_told.specs.Script.{Stage, running, StageAnswer, bus_of, ranges_of, onwards, DoesOnBus, DoesAtStage}
+use Rattle.script_told.specs.Run.{ScriptRun, done, behind, last_run, Proceeds, TakesLine, RunsFrom}
 use Rattle.script_made.specs.Made.{for_each}
 use Rattle.script_lines.proofs.Lemmas.{one_reading}
 
@@ -36,7 +36,7 @@ leads-wider P Q f (Err kind) h = h
 pub runs-lead :
     (P : Stage → Type 0) (stage : Stage) (command : Command) →
     ((r : LineAnswer) → Does (bus_of stage) command r → GoesOn (λ bus. P (running bus)) r) →
-    (answer : StageAnswer) → Runs stage command answer → Leads P answer
+    (answer : StageAnswer) → DoesOnBus stage command answer → Leads P answer
 runs-lead P stage command f answer x = subst (Leads P) (sym x.2) (go x.0 (f x.0 x.1))
   where
     go : (r : LineAnswer) → GoesOn (λ bus. P (running bus)) r → Leads P (onwards r)
@@ -49,7 +49,7 @@ runs-lead P stage command f answer x = subst (Leads P) (sym x.2) (go x.0 (f x.0 
 abbrev pub After : List Command → (Stage → Type 0) → Stage → Type 0
 After [] P stage = P stage
 After (command ∷ commands) P stage =
-    (r : StageAnswer) → Follows stage command r → Leads (After commands P) r
+    (r : StageAnswer) → DoesAtStage stage command r → Leads (After commands P) r
 
 pub wider :
     (commands : List Command) (P Q : Stage → Type 0) → ((stage : Stage) → P stage → Q stage) →
@@ -88,7 +88,7 @@ each (suc n) commands P step stage h =
 
 -- at the end of the script the bus settles
 abbrev pub SettlesAtEnd : Stage → Type 0
-SettlesAtEnd stage = (r : LineAnswer) → Settles (bus_of stage) r → GoesOn (λ bus. Unit {0}) r
+SettlesAtEnd stage = (r : LineAnswer) → DoesSettle (bus_of stage) r → GoesOn (λ bus. Unit {0}) r
 
 -- a run comes to its end
 abbrev pub ComesThrough : ScriptRun → Type 0
@@ -110,7 +110,7 @@ gone :
     (number : ℕ) (Rest : Stage → ScriptRun → Type 0) (P : Stage → Type 0) (stage : Stage)
     (command : Command) →
     ((next : Stage) (more : ScriptRun) → P next → Rest next more → ComesThrough more) →
-    (r : StageAnswer) (run : ScriptRun) → Leads P r → Goes number Rest stage command r run →
+    (r : StageAnswer) (run : ScriptRun) → Leads P r → Proceeds number Rest stage command r run →
     ComesThrough run
 gone number Rest P stage command f (Ok (next, text)) run h x =
     let rest : ComesThrough x.0 = f next x.0 h x.1 in
@@ -129,8 +129,9 @@ comes-through (line ∷ lines) (command ∷ commands) say number stage run h x =
     let times : TimeRanges = ranges_of stage in
     let same : x.0 ≡ Ok (Some command) =
     one_reading times line x.0 (Ok (Some command)) x.1 (say times).0 in
-    let taken : Takes number Rest stage (Ok (Some command)) run =
-    subst (λ (reading : Result (Option Command) Kind). Takes number Rest stage reading run) same x.2 in
+    let taken : TakesLine number Rest stage (Ok (Some command)) run =
+    subst (λ (reading : Result (Option Command) Kind). TakesLine number Rest stage reading run)
+    same x.2 in
     gone number Rest (After commands SettlesAtEnd) stage command
     (λ next more after rest. comes-through lines commands (λ times. (say times).1) (number + 1) next more after rest)
     taken.0 run (h taken.0 taken.1) taken.2

@@ -9,7 +9,7 @@ use Rattle.script_lines.specs.declared.command.Command.{Command}
 use Rattle.script_run.specs.declared.stage.Phase.{Phase}
 use Rattle.script_run.specs.declared.stage.Phase.TheVariants.{Fresh, Declaring, Running}
 use Rattle.script_lines.specs.Line.{Reads}
-use Rattle.script_told.specs.Script.{Stage, fresh, declaring, running, ranges_of, Follows, fault_at}
+use Rattle.script_told.specs.Script.{Stage, fresh, declaring, running, ranges_of, DoesAtStage, fault_at}
 use Rattle.script_told.specs.Run.{Entry, ScriptRun, behind, RunsFrom, IsRun, printed}
 use Rattle.script_trace.specs.Voice.{Voice}
 use Rattle.script_trace.specs.Trace.{TracesAt, AllTrace}
@@ -38,14 +38,14 @@ abbrev pub LineLeads : Voice → Stage → List ℕ → Stage → List ℕ → L
 LineLeads voice stage line next text out new =
     (Reads (ranges_of stage) line (Ok None) × (next ≡ stage) × (text ≡ []) × (new ≡ out))
     ⊎ ((command : Command) × Reads (ranges_of stage) line (Ok (Some command))
-    × Follows stage command (Ok (next, text)) × HearsAt voice stage command next out new)
+    × DoesAtStage stage command (Ok (next, text)) × HearsAt voice stage command next out new)
 
 -- a line is at fault
 abbrev pub LineFails : Stage → List ℕ → Kind → Type 0
 LineFails stage line kind =
     Reads (ranges_of stage) line (Err kind)
     ⊎ ((command : Command) × Reads (ranges_of stage) line (Ok (Some command))
-    × Follows stage command (Err kind))
+    × DoesAtStage stage command (Err kind))
 
 -- the stop of a script at a line
 abbrev pub stop_at : ℕ → LineStop → ScriptStop

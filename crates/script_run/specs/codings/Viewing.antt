@@ -2,7 +2,7 @@
 use Rattle.std.specs.Prelude.{◌≡◌, ◌⊎◌, ℕ, List, ◌++◌, None, Some, Ok}
 use Rattle.script_lines.specs.declared.command.Command.{Command}
 use Rattle.script_lines.specs.Line.{Reads}
-use Rattle.script_told.specs.Script.{Stage, ranges_of, Follows}
+use Rattle.script_told.specs.Script.{Stage, ranges_of, DoesAtStage}
 use Rattle.script_told.specs.Run.{Entry}
 use Rattle.script_run.specs.Viewed.{IsReadAfter, AreReadLines}
 use Rattle.script_run.specs.codings.Going.{Went}
@@ -11,7 +11,7 @@ use Rattle.script_run.specs.codings.Going.{Went}
 pub record CommandShows (stage : Stage) (command : Command) (next : Stage) (out new : List ℕ) :
     Type 0 where
   pub text : List ℕ
-  pub follows : Follows stage command (Ok (next, text))
+  pub follows : DoesAtStage stage command (Ok (next, text))
   pub added : List ℕ
   pub shown : IsReadAfter command next added
   pub written : new ≡ out ++ added

@@ -4,7 +4,7 @@ use Rattle.std.proofs.Common.{◌≡◌, ◌+◌, ℕ, Bool, true, false, List, 
 use Rattle.std.specs.Prelude.{Err, MatchBool, nat_lt}
 use Rattle.cable_world.specs.World.{NodeNumber}
 use Rattle.script_lines.specs.declared.kind.Kind.{Kind}
-use Rattle.script_told.specs.Bus.{Bus, Reported, node_named, tree_with}
+use Rattle.script_told.specs.Bus.{Bus, ReportedTree, node_named, tree_with}
 use Rattle.script_told.specs.Step.{LineAnswer, AtNode, AtTree, Settled, AtManager, Managed, id_of, Within}
 
 module _ (P : LineAnswer → Type 0) (fault : (kind : Kind) → P (Err kind)) where
@@ -26,13 +26,15 @@ module _ (P : LineAnswer → Type 0) (fault : (kind : Kind) → P (Err kind)) wh
   each-node-at None Comes some r e = is-known (Err Kind.NoNode) (fault Kind.NoNode) r e
   each-node-at (Some k) Comes some r e = some k refl r e
 
-  pub each-tree : (o : Option Reported) (Comes : Reported → LineAnswer → Type 0) →
-      ((t : Reported) (r : LineAnswer) → Comes t r → P r) → (r : LineAnswer) → AtTree o Comes r → P r
+  pub each-tree : (o : Option ReportedTree) (Comes : ReportedTree → LineAnswer → Type 0) →
+      ((t : ReportedTree) (r : LineAnswer) → Comes t r → P r) →
+      (r : LineAnswer) → AtTree o Comes r → P r
   each-tree None Comes some r e = is-known (Err Kind.NotSettled) (fault Kind.NotSettled) r e
   each-tree (Some t) Comes some r e = some t r e
 
-  pub each-settled : (bus : Bus) (node : NodeNumber) (Comes : Reported → LineAnswer → Type 0) →
-      ((t : Reported) (r : LineAnswer) → Comes t r → P r) → (r : LineAnswer) → Settled bus node Comes r → P r
+  pub each-settled : (bus : Bus) (node : NodeNumber) (Comes : ReportedTree → LineAnswer → Type 0) →
+      ((t : ReportedTree) (r : LineAnswer) → Comes t r → P r) →
+      (r : LineAnswer) → Settled bus node Comes r → P r
   each-settled bus node Comes some = each-tree (tree_with node bus.notes) Comes some
 
   each-manager : (o : Option NodeNumber) (Comes : NodeNumber → LineAnswer → Type 0) →

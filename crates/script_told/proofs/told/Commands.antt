@@ -30,8 +30,8 @@ use Rattle.script_text.specs.Maps.{IsMapsText}
 use Rattle.script_text.specs.CommandText.{csr_text, grant_text}
 use Rattle.std.specs.Option.{option_map}
 use Rattle.script_text.specs.Plan.{IsPlan, plan_line}
-use Rattle.script_told.specs.Bus.{Notes, Bus, Reported, node_named, resets_of, tree_with, values_at}
-use Rattle.script_told.specs.Step.{LineAnswer, AtNode, Named, AtTree, Settled, AtManager, IsTreeOf, Managed, node_with, id_of, Acts, Holds, Within, Reports, Settles, Accesses, Looks, Grants, Bids, CarriesOut, Plans, PlansAs, MapsOf, GivesMaps, Does, end_of, config_of, notes_after_report}
+use Rattle.script_told.specs.Bus.{Notes, Bus, ReportedTree, node_named, resets_of, tree_with, values_at}
+use Rattle.script_told.specs.Step.{LineAnswer, AtNode, Named, AtTree, Settled, AtManager, IsTreeOf, Managed, node_with, id_of, Acts, HoldsWire, Within, Reports, DoesSettle, Accesses, Looks, Grants, Bids, CarriesOut, Plans, PlansAs, MapsOf, GivesMaps, Does, end_of, config_of, notes_after_report}
 use Rattle.script_lines.specs.Refusal.{kind_of}
 use Rattle.script_text.proofs.Lemmas.{one-text, same_maps}
 use Rattle.script_told.proofs.told.Cables.{IsCabled, turns-cabled, act-cabled, one-world}
@@ -58,8 +58,8 @@ at-node None Comes one a b x y = known (Err Kind.NoNode) a b tt x y
 at-node (Some k) Comes one a b x y = one k a b x y
 
 at-tree :
-    (tree : Option Reported) (Comes : Reported → LineAnswer → Type 0) →
-    ((t : Reported) → IsOne (Comes t)) → IsOne (AtTree tree Comes)
+    (tree : Option ReportedTree) (Comes : ReportedTree → LineAnswer → Type 0) →
+    ((t : ReportedTree) → IsOne (Comes t)) → IsOne (AtTree tree Comes)
 at-tree None Comes one a b x y = known (Err Kind.NotSettled) a b tt x y
 at-tree (Some t) Comes one a b x y = one t a b x y
 
@@ -69,8 +69,8 @@ named :
 named bus name Comes one = at-node (node_named bus.notes.names name) Comes one
 
 settled :
-    (bus : Bus) (node : NodeNumber) (Comes : Reported → LineAnswer → Type 0) →
-    ((t : Reported) → IsOne (Comes t)) → IsOne (Settled bus node Comes)
+    (bus : Bus) (node : NodeNumber) (Comes : ReportedTree → LineAnswer → Type 0) →
+    ((t : ReportedTree) → IsOne (Comes t)) → IsOne (Settled bus node Comes)
 settled bus node Comes one = at-tree (tree_with node bus.notes) Comes one
 
 at-manager :
@@ -150,7 +150,7 @@ acts bus act h (Err kind) (Ok (b, t)) x y =
 acts bus act h (Err one) (Err other) x y =
     (ap Err (one-refusal (act_fault act bus.world) one other x y), tt)
 
-holds : (bus : Bus) (end : _) (turns : ℕ) → IsCabled bus.world → IsOne (Holds bus end turns)
+holds : (bus : Bus) (end : _) (turns : ℕ) → IsCabled bus.world → IsOne (HoldsWire bus end turns)
 holds bus end turns h a b x y = go (hold_fault end bus.world) refl
   where
     go : (fault : Option CableFault) → hold_fault end bus.world ≡ fault → (a ≡ b) × LeavesCabled a
@@ -186,14 +186,14 @@ reports trees bus h (Ok (a, s)) (Ok (b, t)) x y =
 reports trees bus h (Ok p) (Err kind) x y = absurd y
 reports trees bus h (Err kind) b x y = absurd x
 
-pub settles : NoListHasTwoTrees → (bus : Bus) → IsCabled bus.world → IsOne (Settles bus)
+pub settles : NoListHasTwoTrees → (bus : Bus) → IsCabled bus.world → IsOne (DoesSettle bus)
 settles trees bus h =
     within bus (quiet_turns_of bus.world) (Reports bus) (reports trees bus h)
 
 -- ---- maps
 
 gives-maps :
-    NoListHasTwoTrees → (bus : Bus) (tree : Reported) → IsCabled bus.world →
+    NoListHasTwoTrees → (bus : Bus) (tree : ReportedTree) → IsCabled bus.world →
     IsOne (GivesMaps bus tree)
 unfolding answer-of
 gives-maps trees bus tree h (Ok (a, s)) (Ok (b, t)) x y =
@@ -209,7 +209,8 @@ gives-maps trees bus tree h (Ok p) (Err kind) x y = absurd y
 gives-maps trees bus tree h (Err kind) b x y = absurd x
 
 maps-of :
-    NoListHasTwoTrees → (bus : Bus) (tree : Reported) → IsCabled bus.world → IsOne (MapsOf bus tree)
+    NoListHasTwoTrees → (bus : Bus) (tree : ReportedTree) → IsCabled bus.world →
+    IsOne (MapsOf bus tree)
 maps-of trees bus tree h = go (nat_lt bus.notes.maps 100)
   where
     go : (few : Bool) →
@@ -259,7 +260,7 @@ one-walk c root a b x y =
     p.order ∙ one-order c no-label no-label root None p.tree q.tree p.seen q.seen ∙ sym q.order
 
 pub same-plan :
-    NoListHasTwoTrees → (bus : Bus) (name : List ℕ) (node : NodeNumber) (tree : Reported)
+    NoListHasTwoTrees → (bus : Bus) (name : List ℕ) (node : NodeNumber) (tree : ReportedTree)
     (a : Bus) (s : List ℕ) (b : Bus) (t : List ℕ) (x : CarriesOut bus name node tree a s)
     (y : CarriesOut bus name node tree b t) → x.plan ≡ y.plan
 same-plan trees bus name node tree a s b t x y =
@@ -267,7 +268,7 @@ same-plan trees bus name node tree a s b t x y =
     one-plan x.shown x.plan y.plan x.planned (subst (λ (u : Tree). IsPlan u y.plan) shown y.planned)
 
 pub same-sent :
-    NoListHasTwoTrees → (bus : Bus) (name : List ℕ) (node : NodeNumber) (tree : Reported) →
+    NoListHasTwoTrees → (bus : Bus) (name : List ℕ) (node : NodeNumber) (tree : ReportedTree) →
     IsCabled bus.world → (a : Bus) (s : List ℕ) (b : Bus) (t : List ℕ)
     (x : CarriesOut bus name node tree a s) (y : CarriesOut bus name node tree b t) →
     (x.sent ≡ y.sent) × IsCabled x.sent.world
@@ -279,7 +280,7 @@ same-sent trees bus name node tree h a s b t x y =
     (ap (bus-in x.sent) here.0, here.1)
 
 plans :
-    NoListHasTwoTrees → (bus : Bus) (name : List ℕ) (node : NodeNumber) (tree : Reported) →
+    NoListHasTwoTrees → (bus : Bus) (name : List ℕ) (node : NodeNumber) (tree : ReportedTree) →
     IsCabled bus.world → IsOne (Plans bus name node tree)
 unfolding answer-of
 plans trees bus name node tree h (Ok (a, s)) (Ok (b, t)) x y =

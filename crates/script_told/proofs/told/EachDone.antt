@@ -13,10 +13,10 @@ use Rattle.script_lines.proofs.Lemmas.{in-range}
 use Rattle.settle.specs.declared.report.Report.{Report}
 use Rattle.settle.specs.Report.{IsReport, quiet_turns_of}
 use Rattle.script_told.specs.Bus.{Bus, Notes}
-use Rattle.script_told.specs.Step.{LineAnswer, Reports, Settles}
+use Rattle.script_told.specs.Step.{LineAnswer, Reports, DoesSettle}
 use Rattle.script_told.specs.SomeAnswer.{IsReachedBus}
-use Rattle.script_told.specs.Script.{Stage, fresh, running, StageAnswer, bus_of, ranges_of, Follows, script_lines}
-use Rattle.script_told.specs.Run.{Entry, ScriptRun, done, stopped, last_run, Goes, Takes, RunsFrom, IsRun}
+use Rattle.script_told.specs.Script.{Stage, fresh, running, StageAnswer, bus_of, ranges_of, DoesAtStage, script_lines}
+use Rattle.script_told.specs.Run.{Entry, ScriptRun, done, stopped, last_run, Proceeds, TakesLine, RunsFrom, IsRun}
 use Rattle.script_told.proofs.told.Reached.{IsSound, sound-bus, leaves}
 use Rattle.script_told.proofs.told.Lines.{follows}
 
@@ -24,7 +24,7 @@ use Rattle.script_told.proofs.told.Lines.{follows}
 pub record IsDone (entry : Entry) : Type 0 where
   pub sound : IsSound entry.before
   pub range : IsInRange (ranges_of entry.before) entry.command
-  pub follows : Follows entry.before entry.command (Ok (entry.after, entry.text))
+  pub follows : DoesAtStage entry.before entry.command (Ok (entry.after, entry.text))
   pub left : IsSound entry.after
 
 -- the world of a bus comes of power-on, and was just reported
@@ -41,7 +41,8 @@ pub record AllDone (run : ScriptRun) : Type 0 where
 
 -- a bus that has settled was reported
 pub just-reported :
-    (bus after : Bus) (text : List ℕ) → Settles bus (Ok (after, text)) → IsReachedBus after → IsEnd after
+    (bus after : Bus) (text : List ℕ) → DoesSettle bus (Ok (after, text)) → IsReachedBus after →
+    IsEnd after
 just-reported bus after text s h = go (nat_lt 2000000 (bus.world.turns + quiet_turns_of bus.world)) s
   where
     go : (b : Bool) → MatchBool b (◌≡◌ {A = LineAnswer} (Ok (after, text)) (Err Kind.TooManyTurns)) (Reports bus (Ok (after, text))) → IsEnd after
@@ -57,8 +58,9 @@ module _ (trees : NoListHasTwoTrees) (keeps : ActKeepsNodes) where
 
   goes :
       (number : ℕ) (Rest : Stage → ScriptRun → Type 0) (stage : Stage) (command : Command) (r : StageAnswer) (run : ScriptRun) →
-      IsDoneFrom Rest → IsSound stage → IsInRange (ranges_of stage) command → Follows stage command r →
-      Goes number Rest stage command r run → AllDone run
+      IsDoneFrom Rest → IsSound stage → IsInRange (ranges_of stage) command →
+      DoesAtStage stage command r →
+      Proceeds number Rest stage command r run → AllDone run
   goes number Rest stage command (Ok (next, text)) run rest h i f x =
       let left : IsSound next = (follows trees keeps stage command h i (Ok (next, text)) (Ok (next, text)) f f).1 in
       let more = rest next x.0 left x.1 in
@@ -71,14 +73,15 @@ module _ (trees : NoListHasTwoTrees) (keeps : ActKeepsNodes) where
   takes :
       (number : ℕ) (Rest : Stage → ScriptRun → Type 0) (stage : Stage) (line : List ℕ) (reading : Result (Option Command) Kind)
       (run : ScriptRun) → IsDoneFrom Rest → IsSound stage → Reads (ranges_of stage) line reading →
-      Takes number Rest stage reading run → AllDone run
+      TakesLine number Rest stage reading run → AllDone run
   takes number Rest stage line (Ok None) run rest h reads x = rest stage run h x
   takes number Rest stage line (Ok (Some command)) run rest h reads x =
       goes number Rest stage command x.0 run rest h (in-range (ranges_of stage) line command reads) x.1 x.2
   takes number Rest stage line (Err kind) run rest h reads x = subst AllDone (sym x) (none-done number kind)
 
   -- the `settle` behind the last line is a command too
-  ends : (number : ℕ) (stage : Stage) (r : LineAnswer) → IsSound stage → Settles (bus_of stage) r →
+  ends : (number : ℕ) (stage : Stage) (r : LineAnswer) → IsSound stage →
+      DoesSettle (bus_of stage) r →
       AllDone (last_run number stage r)
   ends number stage (Ok (bus, text)) h s =
       let left = leaves keeps (ranges_of stage) (bus_of stage) Settle (sound-bus stage h) tt (Ok (bus, text)) s in

@@ -19,9 +19,9 @@ use Rattle.script_lines.specs.declared.command.Command.{Command}
 use Rattle.script_lines.specs.declared.command.Command.TheVariants.{Settle, Plan}
 use Rattle.script_text.specs.ReportText.{IsReportText}
 use Rattle.script_text.specs.Plan.{plan_line}
-use Rattle.script_told.specs.Bus.{Notes, Bus, Reported, node_named, tree_with, values_at}
-use Rattle.script_told.specs.Step.{LineAnswer, AtNode, AtTree, AtManager, Settled, Within, Reports, Settles, Plans, PlansAs, Does, id_of, node_with}
-use Rattle.script_told.specs.Script.{Stage, running, StageAnswer, bus_of, onwards, Follows}
+use Rattle.script_told.specs.Bus.{Notes, Bus, ReportedTree, node_named, tree_with, values_at}
+use Rattle.script_told.specs.Step.{LineAnswer, AtNode, AtTree, AtManager, Settled, Within, Reports, DoesSettle, Plans, PlansAs, Does, id_of, node_with}
+use Rattle.script_told.specs.Script.{Stage, running, StageAnswer, bus_of, onwards, DoesAtStage}
 use Rattle.script_told.specs.Run.{Entry}
 use Rattle.script_told.specs.EachReport.{EachComponentCameTo, DoesReport, IsBeforeReport, IsReportedAt, ReportsAreSettled}
 use Rattle.script_told.proofs.told.Reached.{IsSound}
@@ -84,8 +84,8 @@ module _ (Before : List ℕ → Type 0) where
   at-node (Some k) Comes f r h = f k r h
 
   at-tree :
-      (tree : Option Reported) (Comes : Reported → LineAnswer → Type 0) →
-      ((t : Reported) → AllSay Before (Comes t)) → AllSay Before (AtTree tree Comes)
+      (tree : Option ReportedTree) (Comes : ReportedTree → LineAnswer → Type 0) →
+      ((t : ReportedTree) → AllSay Before (Comes t)) → AllSay Before (AtTree tree Comes)
   at-tree None Comes f r h = fault Kind.NotSettled r h
   at-tree (Some t) Comes f r h = f t r h
 
@@ -125,10 +125,10 @@ reports bus (Ok (after, text)) h = record {
 }
 reports bus (Err kind) h = absurd h
 
-pub settles-say : (bus : Bus) → AllSay is-none (Settles bus)
+pub settles-say : (bus : Bus) → AllSay is-none (DoesSettle bus)
 settles-say bus = within is-none bus (quiet_turns_of bus.world) (Reports bus) (reports bus)
 
-plans : (bus : Bus) (name : List ℕ) (node : NodeNumber) (tree : Reported) →
+plans : (bus : Bus) (name : List ℕ) (node : NodeNumber) (tree : ReportedTree) →
     AllSay is-any (Plans bus name node tree)
 plans bus name node tree (Ok (after, text)) h =
     let s = reports h.sent (Ok (after, h.report)) h.reports in
@@ -197,7 +197,7 @@ reported-at read came one entry sound h =
 
 says :
     (stage : Stage) (command : Command) (next : Stage) (text : List ℕ) → DoesReport command →
-    Follows stage command (Ok (next, text)) → StageSays (IsBeforeReport command) next text
+    DoesAtStage stage command (Ok (next, text)) → StageSays (IsBeforeReport command) next text
 says stage Settle next text does f =
     subst (StageAnswerSays is-none) (sym f.2) (onwards-says is-none f.0 (settles-say (bus_of stage) f.0 f.1))
 says stage (Plan name) next text does f =

@@ -27,9 +27,9 @@ use Rattle.script_lines.specs.declared.kind.Kind.{Kind}
 use Rattle.script_lines.specs.declared.command.Command.{Command}
 use Rattle.script_lines.specs.declared.command.Command.TheVariants.{Node, Plug, Pull, Reset, Turn, Hold, Settle, Config, CsrRead, CsrWrite, CsrLock, Look, Allocate, Release, Manager, Plan, Maps, Delay, Times}
 use Rattle.script_lines.specs.Range.{IsInRange}
-use Rattle.script_told.specs.Bus.{Bus, Notes, Reported, node_named, values_at, after_access, put_look}
-use Rattle.script_told.specs.Step.{LineAnswer, AtNode, Acts, Holds, Turns, Reports, Accesses, Grants, Looks, seen_by, Plans, GivesMaps, Does, end_of, config_of}
-use Rattle.script_told.specs.Script.{Stage, StageAnswer, bus_of, ranges_of, onwards, Follows, Runs as StageRuns}
+use Rattle.script_told.specs.Bus.{Bus, Notes, ReportedTree, node_named, values_at, after_access, put_look}
+use Rattle.script_told.specs.Step.{LineAnswer, AtNode, Acts, HoldsWire, Turns, Reports, Accesses, Grants, Looks, seen_by, Plans, GivesMaps, Does, end_of, config_of}
+use Rattle.script_told.specs.Script.{Stage, StageAnswer, bus_of, ranges_of, onwards, DoesAtStage, DoesOnBus}
 use Rattle.script_told.specs.Run.{Entry}
 use Rattle.script_told.specs.ScriptEvents.{Declares, LeavesAlone, TakesNoTurn, IsActOf, IsPullOf, DoesEvents, RunsOn, ScriptsAreRuns}
 use Rattle.script_lines.specs.Refusal.{kind_of}
@@ -132,7 +132,7 @@ module _ (bus : Bus) (command : Command) where
 
   -- no act
   module _ (no_act : (a : Act) → IsActOf bus command a → ⊥) where
-    held : (end : End) (n : ℕ) (r : LineAnswer) → Holds bus end n r → Led bus command r
+    held : (end : End) (n : ℕ) (r : LineAnswer) → HoldsWire bus end n r → Led bus command r
     held end n r x = go (hold_fault end bus.world) refl
       where
         go : (o : Option CableFault) → hold_fault end bus.world ≡ o → Led bus command r
@@ -175,14 +175,14 @@ module _ (bus : Bus) (command : Command) where
     looked : (node manager : NodeNumber) (r : LineAnswer) → Looks bus node manager r → Led bus command r
     looked node manager = asked (put_look node (Some (seen_of (values_at manager bus))) bus) [] refl refl
 
-    mapped : (tree : Reported) (r : LineAnswer) → GivesMaps bus tree r → Led bus command r
+    mapped : (tree : ReportedTree) (r : LineAnswer) → GivesMaps bus tree r → Led bus command r
     mapped tree (Ok (after, text)) x =
         without-act bus after command [] tt no_act (λ h. refl) (ap (λ (b : Bus). b.world) x.after_is) (ap (λ (b : Bus). b.notes.names) x.after_is)
     mapped tree (Err kind) x = absurd x
 
 -- a plan's packet, and the turns to settle
 planned :
-    (bus : Bus) (name other : List ℕ) (node : NodeNumber) (tree : Reported) (r : LineAnswer) →
+    (bus : Bus) (name other : List ℕ) (node : NodeNumber) (tree : ReportedTree) (r : LineAnswer) →
     Plans bus other node tree r → Led bus (Plan name) r
 planned bus name other node tree (Ok (after, text)) x =
     let a : Act = config_of node (Some x.plan.root_id) (Some x.plan.gap) in
@@ -292,8 +292,9 @@ by-answer e (Ok (after, text)) led same = record { after = after; is = ap stage-
 by-answer e (Err kind) led same = absurd cc
 
 follows-runs :
-    (stage : Stage) (c : Command) (answer : StageAnswer) → (Declares c → ⊥) → Follows stage c answer →
-    StageRuns stage c answer
+    (stage : Stage) (c : Command) (answer : StageAnswer) →
+    (Declares c → ⊥) → DoesAtStage stage c answer →
+    DoesOnBus stage c answer
 follows-runs stage (Node name ports speed link contender force power gap held short long word len seed packed) answer not f = absurd (not tt)
 follows-runs stage (Delay delay) answer not f = absurd (not tt)
 follows-runs stage (Times standard nanoseconds) answer not f = absurd (not tt)

@@ -17,8 +17,8 @@ use Rattle.script_lines.specs.Times.{standard_times}
 use Rattle.script_lines.specs.Line.{Reads}
 use Rattle.script_lines.proofs.Lemmas.{one_reading, in-range}
 use Rattle.script_told.specs.Bus.{is_declared}
-use Rattle.script_told.specs.Script.{Draft, Stage, fresh, declaring, running, StageAnswer, bus_of, ranges_of, first_draft, draft_with, new_node, times_of, coins_of, with_node, with_times, Declares, Delays, SaysTimes, onwards, Runs, Follows, script_lines}
-use Rattle.script_told.specs.Run.{ScriptRun, done, behind, last_run, Goes, Takes, RunsFrom, told_by}
+use Rattle.script_told.specs.Script.{Draft, Stage, fresh, declaring, running, StageAnswer, bus_of, ranges_of, first_draft, draft_with, new_node, times_of, coins_of, with_node, with_times, Declares, Delays, SaysTimes, onwards, DoesOnBus, DoesAtStage, script_lines}
+use Rattle.script_told.specs.Run.{ScriptRun, done, behind, last_run, Proceeds, TakesLine, RunsFrom, result_of}
 use Rattle.script_told.specs.OneTold.{ScriptsHaveOneRun, ScriptsTellOneThing}
 use Rattle.script_told.specs.Fitting.{AreFitting, IsFitting}
 use Rattle.script_told.proofs.told.Cables.{IsCabled}
@@ -104,7 +104,7 @@ node_of ports speed link contender force power gap hold short long word len seed
 
 module _ (trees : NoListHasTwoTrees) (keeps : ActKeepsNodes) where
   runs : (stage : Stage) (command : Command) → IsSound stage → IsInRange (ranges_of stage) command →
-      IsOneStage (Runs stage command)
+      IsOneStage (DoesOnBus stage command)
   runs stage command h i a b x y =
       let same = does trees (bus_of stage) command (cabled stage h) x.0 y.0 x.1 y.1 in
       let left = leaves keeps (ranges_of stage) (bus_of stage) command (sound-bus stage h) i x.0 x.1 in (
@@ -113,7 +113,7 @@ module _ (trees : NoListHasTwoTrees) (keeps : ActKeepsNodes) where
       )
 
   pub follows : (stage : Stage) (command : Command) → IsSound stage →
-      IsInRange (ranges_of stage) command → IsOneStage (Follows stage command)
+      IsInRange (ranges_of stage) command → IsOneStage (DoesAtStage stage command)
   follows fresh (Node name ports speed link contender force power gap held short long word len seed packed) h i =
       declares first_draft name (node_of ports speed link contender force power gap held short long word len seed) (no-nodes 4 (omega arith) (omega arith)) (node-at-power-on first_draft ports speed link contender force power gap held short long word len seed (no-nodes 4 (omega arith) (omega arith)).fitting i)
   follows (declaring draft) (Node name ports speed link contender force power gap held short long word len seed packed) h i =
@@ -133,7 +133,8 @@ module _ (trees : NoListHasTwoTrees) (keeps : ActKeepsNodes) where
 
   goes :
       (number : ℕ) (Rest : Stage → ScriptRun → Type 0) (stage : Stage) (command : Command) (r : StageAnswer) (one other : ScriptRun) →
-      IsOneFrom Rest → LeavesSound r → Goes number Rest stage command r one → Goes number Rest stage command r other → one ≡ other
+      IsOneFrom Rest → LeavesSound r → Proceeds number Rest stage command r one →
+      Proceeds number Rest stage command r other → one ≡ other
   goes number Rest stage command (Ok (next, text)) one other rest h x y =
       x.2 ∙ ap (behind (done number stage command next text ∷ [])) (rest next x.0 y.0 h x.1 y.1) ∙ sym y.2
   goes number Rest stage command (Err kind) one other rest h x y = x ∙ sym y
@@ -141,12 +142,13 @@ module _ (trees : NoListHasTwoTrees) (keeps : ActKeepsNodes) where
   takes :
       (number : ℕ) (Rest : Stage → ScriptRun → Type 0) (stage : Stage) (line : List ℕ) (reading : Result (Option Command) Kind)
       (one other : ScriptRun) → IsOneFrom Rest → IsSound stage → Reads (ranges_of stage) line reading →
-      Takes number Rest stage reading one → Takes number Rest stage reading other → one ≡ other
+      TakesLine number Rest stage reading one → TakesLine number Rest stage reading other →
+      one ≡ other
   takes number Rest stage line (Ok None) one other rest h reads x y = rest stage one other h x y
   takes number Rest stage line (Ok (Some command)) one other rest h reads x y =
       let same = follows stage command h (in-range (ranges_of stage) line command reads) x.0 y.0 x.1 y.1 in
-      let again : Goes number Rest stage command x.0 other =
-      subst (λ (r : StageAnswer). Goes number Rest stage command r other) (sym same.0) y.2 in
+      let again : Proceeds number Rest stage command x.0 other =
+      subst (λ (r : StageAnswer). Proceeds number Rest stage command r other) (sym same.0) y.2 in
       goes number Rest stage command x.0 one other rest same.1 x.2 again
   takes number Rest stage line (Err kind) one other rest h reads x y = x ∙ sym y
 
@@ -157,8 +159,8 @@ module _ (trees : NoListHasTwoTrees) (keeps : ActKeepsNodes) where
   from-each number (line ∷ lines) stage one other h x y =
       let same : y.0 ≡ x.0 = one_reading (ranges_of stage) line y.0 x.0 y.1 x.1 in
       let Rest : Stage → ScriptRun → Type 0 = RunsFrom (number + 1) lines in
-      let again : Takes number Rest stage x.0 other =
-      subst (λ (r : Result (Option Command) Kind). Takes number Rest stage r other) same y.2 in
+      let again : TakesLine number Rest stage x.0 other =
+      subst (λ (r : Result (Option Command) Kind). TakesLine number Rest stage r other) same y.2 in
       takes number Rest stage line x.0 one other (from-each (number + 1) lines) h x.1 x.2 again
 
   pub one-run : ScriptsHaveOneRun
@@ -166,4 +168,4 @@ module _ (trees : NoListHasTwoTrees) (keeps : ActKeepsNodes) where
 
   pub one-told : ScriptsTellOneThing
   one-told bytes one other x y =
-      x.2 ∙ ap told_by (one-run bytes x.0 y.0 x.1 y.1) ∙ sym y.2
+      x.2 ∙ ap result_of (one-run bytes x.0 y.0 x.1 y.1) ∙ sym y.2

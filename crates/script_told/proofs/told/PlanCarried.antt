@@ -5,7 +5,7 @@ use Rattle.cable_world.specs.World.{NodeNumber}
 use Rattle.settle.specs.Report.{quiet_turns_of}
 use Rattle.script_lines.specs.declared.kind.Kind.{Kind}
 use Rattle.script_lines.specs.declared.command.Command.TheVariants.{Plan}
-use Rattle.script_told.specs.Bus.{Bus, Reported, node_named, tree_with, values_at}
+use Rattle.script_told.specs.Bus.{Bus, ReportedTree, node_named, tree_with, values_at}
 use Rattle.script_told.specs.Step.{LineAnswer, AtNode, AtTree, AtManager, HasManager, Settled, Within, Plans, PlansAs, Does, id_of}
 use Rattle.script_told.specs.EachPlan.{IsCarriedOut}
 
@@ -22,7 +22,7 @@ module _ (bus : Bus) (name : List ℕ) (after : Bus) (text : List ℕ) where
   abbrev is-named : NodeNumber → Type 0
   is-named node = node_named bus.notes.names name ≡ Some node
 
-  in-tree : (node : NodeNumber) → is-named node → (o : Option Reported) →
+  in-tree : (node : NodeNumber) → is-named node → (o : Option ReportedTree) →
       tree_with node bus.notes ≡ o → AtTree o (Plans bus name node) done → IsSo
   in-tree node named None e x = no-fault Kind.NotSettled x
   in-tree node named (Some tree) e x = record { node = node; named = named; tree = tree; settled = e; carried = x }
@@ -44,11 +44,11 @@ module _ (bus : Bus) (name : List ℕ) (after : Bus) (text : List ℕ) where
   with-manager node named id None x = no-fault Kind.NoManager x
   with-manager node named id (Some manager) x = as-manager node named ((values_at manager bus).bus_manager_id == id) x
 
-  abbrev Asks : NodeNumber → Reported → LineAnswer → Type 0
+  abbrev Asks : NodeNumber → ReportedTree → LineAnswer → Type 0
   Asks node tree r =
       (manager : Option NodeNumber) × HasManager tree manager × AtManager manager (PlansAs bus name node (id_of tree node)) r
 
-  with-tree : (node : NodeNumber) → is-named node → (o : Option Reported) →
+  with-tree : (node : NodeNumber) → is-named node → (o : Option ReportedTree) →
       AtTree o (Asks node) done → IsSo
   with-tree node named None x = no-fault Kind.NotSettled x
   with-tree node named (Some tree) x = with-manager node named (id_of tree node) x.0 x.2

@@ -40,8 +40,8 @@ use Rattle.topology_stack.specs.Tree.{Tree, IsBusTreeOf}
 use Rattle.root_plan.specs.declared.choice.RootPlan.{RootPlan}
 use Rattle.script_text.specs.Plan.{IsPlan}
 use Rattle.script_text.specs.CommandText.{csr_text, grant_text, bid_text}
-use Rattle.script_told.specs.Bus.{Bus, Notes, Reported, node_named, tree_with, values_at, after_access, put_look}
-use Rattle.script_told.specs.Step.{LineAnswer, AtNode, Named, AtTree, Settled, AtManager, Managed, id_of, Acts, Holds, Within, Turns, Reports, Settles, Accesses, Grants, Looks, seen_by, Plans, GivesMaps, Does, end_of, config_of}
+use Rattle.script_told.specs.Bus.{Bus, Notes, ReportedTree, node_named, tree_with, values_at, after_access, put_look}
+use Rattle.script_told.specs.Step.{LineAnswer, AtNode, Named, AtTree, Settled, AtManager, Managed, id_of, Acts, HoldsWire, Within, Turns, Reports, DoesSettle, Accesses, Grants, Looks, seen_by, Plans, GivesMaps, Does, end_of, config_of}
 use Rattle.script_told.specs.SomeAnswer.{IsOfReached, IsReachedBus}
 use Rattle.script_told.specs.Script.{Draft, Stage, fresh, declaring, running, StageAnswer, bus_of, first_draft, draft_with, new_node, times_of, coins_of, with_node, onwards}
 use Rattle.script_told.specs.Bus.{bus_of_nodes}
@@ -88,13 +88,13 @@ named : (bus : Bus) (name : List ℕ) (Comes : NodeNumber → LineAnswer → Typ
     ((k : NodeNumber) → Leaves (Comes k)) → Leaves (Named bus name Comes)
 named bus name Comes some = at-node (node_named bus.notes.names name) Comes some
 
-at-tree : (o : Option Reported) (Comes : Reported → LineAnswer → Type 0) →
-    ((t : Reported) → Leaves (Comes t)) → Leaves (AtTree o Comes)
+at-tree : (o : Option ReportedTree) (Comes : ReportedTree → LineAnswer → Type 0) →
+    ((t : ReportedTree) → Leaves (Comes t)) → Leaves (AtTree o Comes)
 at-tree None Comes some r e = known (Err Kind.NotSettled) tt r e
 at-tree (Some t) Comes some r e = some t r e
 
-settled : (bus : Bus) (node : NodeNumber) (Comes : Reported → LineAnswer → Type 0) →
-    ((t : Reported) → Leaves (Comes t)) → Leaves (Settled bus node Comes)
+settled : (bus : Bus) (node : NodeNumber) (Comes : ReportedTree → LineAnswer → Type 0) →
+    ((t : ReportedTree) → Leaves (Comes t)) → Leaves (Settled bus node Comes)
 settled bus node Comes some = at-tree (tree_with node bus.notes) Comes some
 
 at-manager : (o : Option NodeNumber) (Comes : NodeNumber → LineAnswer → Type 0) →
@@ -128,7 +128,7 @@ do-act keeps bus a h is (Ok (after, text)) x = record {
 }
 do-act keeps bus a h is (Err kind) x = tt
 
-do-hold : (bus : Bus) (end : End) (n : ℕ) → IsReachedBus bus → Leaves (Holds bus end n)
+do-hold : (bus : Bus) (end : End) (n : ℕ) → IsReachedBus bus → Leaves (HoldsWire bus end n)
 do-hold bus end n h r x = by (hold_fault end bus.world) refl
   where
     by : (o : Option CableFault) → hold_fault end bus.world ≡ o → LeavesReached r
@@ -168,7 +168,7 @@ do-report bus h (Ok (after, text)) x =
     }
 do-report bus h (Err kind) x = absurd x
 
-pub do-settle : (bus : Bus) → IsReachedBus bus → Leaves (Settles bus)
+pub do-settle : (bus : Bus) → IsReachedBus bus → Leaves (DoesSettle bus)
 do-settle bus h = within bus (quiet_turns_of bus.world) (Reports bus) (do-report bus h)
 
 -- ---- questions
@@ -187,7 +187,7 @@ do-look bus node manager h = known (Ok (put_look node (Some (seen_of (values_at 
 
 -- ---- maps and plans
 
-do-maps : (bus : Bus) (tree : Reported) → IsReachedBus bus → Leaves (GivesMaps bus tree)
+do-maps : (bus : Bus) (tree : ReportedTree) → IsReachedBus bus → Leaves (GivesMaps bus tree)
 do-maps bus tree h (Ok (after, text)) x = subst IsReachedBus (sym x.after_is) (record { reached = h.reached; named = h.named; reported = h.reported })
 do-maps bus tree h (Err kind) x = absurd x
 
@@ -203,7 +203,7 @@ plan-act t bus plan planned node = record {
   says = refl;
 }
 
-do-plan : ActKeepsNodes → (bus : Bus) (name : List ℕ) (node : NodeNumber) (tree : Reported) →
+do-plan : ActKeepsNodes → (bus : Bus) (name : List ℕ) (node : NodeNumber) (tree : ReportedTree) →
     IsReachedBus bus → Leaves (Plans bus name node tree)
 do-plan keeps bus name node tree h (Ok (after, text)) x =
     let a : Act = config_of node (Some x.plan.root_id) (Some x.plan.gap) in

@@ -3,7 +3,7 @@ use Rattle.std.proofs.Common.{◌≡◌, ◌++◌, ℕ, List, refl, sym, ◌∙�
 use Rattle.std.specs.Prelude.{Result, Ok, Err}
 use Rattle.script_lines.specs.declared.kind.ScriptFault.{ScriptFault}
 use Rattle.script_told.specs.Bus.{Bus}
-use Rattle.script_told.specs.Script.{Told}
+use Rattle.script_told.specs.Script.{ScriptResult}
 use Rattle.script_told.specs.Run.{ScriptRun, IsRun, printed, unless_stopped}
 use Rattle.script_told.specs.OneTold.{ScriptsHaveOneRun}
 use Rattle.script_trace.specs.OneTelling.{RunsAreToldOnce, RunsAreTold}
@@ -21,7 +21,8 @@ one-end run bus other is also = same (sym is ∙ also)
     same e = cc
 
 same-dump :
-    RunsAreToldOnce → (bytes : List ℕ) (run : ScriptRun) (one other : Told) → IsRun bytes run →
+    RunsAreToldOnce → (bytes : List ℕ) (run : ScriptRun) (one other : ScriptResult) →
+    IsRun bytes run →
     IsWavesOf run one → IsWavesOf run other → one ≡ other
 same-dump once bytes run (Ok xs) (Ok ys) is x y =
     let bus : y.0 ≡ x.0 = one-end run y.0 x.0 y.1 x.1 in

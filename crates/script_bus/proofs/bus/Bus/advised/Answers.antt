@@ -6,7 +6,7 @@ use Rattle.settle.specs.Report.{IsReport}
 use Rattle.script_lines.specs.declared.kind.LineStop.{LineStop}
 use Rattle.script_lines.specs.declared.kind.LineStop.TheVariants.{Fault, Memory}
 use Rattle.script_told.specs.Bus.{Bus}
-use Rattle.script_told.specs.Step.{LineAnswer, Settles}
+use Rattle.script_told.specs.Step.{LineAnswer, DoesSettle}
 use Rattle.script_bus.specs.Running.{Stops}
 use Rattle.script_advice.specs.declared.advice.LoopAdvice.{LoopAdvice}
 use Rattle.script_advice.specs.Advice.{all_pulls, AreAdvices, loops_of, PullsLead, Advises, after_text, advice_text}
@@ -23,7 +23,7 @@ advises :
     (bus pulled : Bus) (advices : List LoopAdvice) (settled answer : LineAnswer) →
     IsSomeAnd bus.notes.report (IsReport bus.world) →
     IfSome bus.notes.report (λ report. AreAdvices bus.world.cabling (loops_of report.parts) advices) →
-    PullsLead bus (all_pulls advices) pulled → Settles pulled settled →
+    PullsLead bus (all_pulls advices) pulled → DoesSettle pulled settled →
     answer ≡ after_text (advice_text bus.notes.names advices) settled → Advises bus answer
 advises bus pulled advices settled answer has are pulls settles is = by bus.notes.report refl has are
   where
@@ -54,9 +54,11 @@ returns-clause-done c =
     )) c.settled_text.ensures.done
 
 pub returns-clause-stop : goal.returns-clause-stop
-returns-clause-stop c = IfErr-weaker c.settled_text.result (Stops (Settles c.in_ok-bus.bus)) (Stops (Advises c.args.self)) by c.settled_text.ensures.stop
+returns-clause-stop c = IfErr-weaker c.settled_text.result (Stops (DoesSettle c.in_ok-bus.bus))
+    (Stops (Advises c.args.self)) by c.settled_text.ensures.stop
   where
-    by : (stop : LineStop) → Stops (Settles c.in_ok-bus.bus) stop → Stops (Advises c.args.self) stop
+    by : (stop : LineStop) → Stops (DoesSettle c.in_ok-bus.bus) stop →
+        Stops (Advises c.args.self) stop
     by (Memory none) h = tt
     by (Fault kind) h =
         advises c.args.self c.in_ok-bus.bus c.in_ok-advices.advices.items (Err kind) (Err kind) c.requires c.in_ok-advices.ensures.are
