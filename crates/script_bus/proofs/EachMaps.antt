@@ -64,13 +64,13 @@ record Again (w v : CableWorld) (node set root : ℕ) (t : Tree) : Type 0 where
   tree : IsTree v set root t
   counts : resets_of v root ≡ resets_of w root
 
-abbrev Rests : CableWorld → CableWorld → Type 0
-Rests w v = (node set root : ℕ) (t : Tree) → IsReached w → IsComponent w.cabling node set → IsTree w set root t → Again w v node set root t
+abbrev KeepsTrees : CableWorld → CableWorld → Type 0
+KeepsTrees w v = (node set root : ℕ) (t : Tree) → IsReached w → IsComponent w.cabling node set → IsTree w set root t → Again w v node set root t
 
-no-turn : (w : CableWorld) → Rests w w
+no-turn : (w : CableWorld) → KeepsTrees w w
 no-turn w node set root t r c is = record { reached = r; component = c; tree = is; counts = refl }
 
-one-and-next : (w u v : CableWorld) → Rests w u → Rests u v → Rests w v
+one-and-next : (w u v : CableWorld) → KeepsTrees w u → KeepsTrees u v → KeepsTrees w v
 one-and-next w u v a b node set root t r c is =
     let x = a node set root t r c is in
     let y = b node set root t x.reached x.component x.tree in
@@ -99,7 +99,7 @@ module _ (stay : TreesStay) (names-one : IdsNameOneNode) where
       (hears w j x l.well_formed at_x) (ticks w j x l.well_formed at_x)
       (λ e. ap (λ (z : PortNode). is_resetting z.state.view.phase) is ∙ unmoved)
 
-  one-turn : (w : CableWorld) → Rests w (turn w)
+  one-turn : (w : CableWorld) → KeepsTrees w (turn w)
   one-turn w node set root t r c is =
       let after : IsTree (turn w) set root t = stay w (turn w) 1 node set root t (reached-comes w r) (turn_first still) c is in
       let reached : IsReached (turn w) = turn-reached w r in
@@ -115,12 +115,12 @@ module _ (stay : TreesStay) (names-one : IdsNameOneNode) where
             ∙ sym (ap resets_shown x.1);
       }
 
-  in-turns : (k : ℕ) (w : CableWorld) → Rests w (turns_after k w)
+  in-turns : (k : ℕ) (w : CableWorld) → KeepsTrees w (turns_after k w)
   unfolding turns_after
   in-turns zero w = no-turn w
   in-turns (suc k) w = one-and-next w (turn w) (turns_after k (turn w)) (one-turn w) (in-turns k (turn w))
 
-  in-hold : (end : End) (n : ℕ) (w : CableWorld) → hold_fault end w ≡ None → Rests w (hold end n w)
+  in-hold : (end : End) (n : ℕ) (w : CableWorld) → hold_fault end w ≡ None → KeepsTrees w (hold end n w)
   in-hold end n w none node set root t r c is = record {
     reached = hold-reached end n w none r;
     component = c;
@@ -133,16 +133,16 @@ module _ (stay : TreesStay) (names-one : IdsNameOneNode) where
 record Keeps (bus after : Bus) : Type 0 where
   report : after.notes.report ≡ bus.notes.report
   names : after.notes.names ≡ bus.notes.names
-  rests : Rests bus.world after.world
+  trees : KeepsTrees bus.world after.world
 
 no-change : (bus : Bus) → Keeps bus bus
-no-change bus = record { report = refl; names = refl; rests = no-turn bus.world }
+no-change bus = record { report = refl; names = refl; trees = no-turn bus.world }
 
 both : (a b c : Bus) → Keeps a b → Keeps b c → Keeps a c
 both a b c x y = record {
   report = y.report ∙ x.report;
   names = y.names ∙ x.names;
-  rests = one-and-next a.world b.world c.world x.rests y.rests;
+  trees = one-and-next a.world b.world c.world x.trees y.trees;
 }
 
 abbrev AnswerKeeps : Bus → LineAnswer → Type 0
@@ -191,35 +191,35 @@ module _ (stay : TreesStay) (names-one : IdsNameOneNode) (bus : Bus) where
   by-test false Yes No one other r x = other r x
 
   gives-maps : (tree : ReportedTree) → AllKeep (GivesMaps bus tree)
-  gives-maps tree (Ok (after, text)) x = record { report = ap (λ (b : Bus). b.notes.report) x.after_is; names = ap (λ (b : Bus). b.notes.names) x.after_is; rests = subst (λ (b : Bus). Rests bus.world b.world) (sym x.after_is) (no-turn bus.world) }
+  gives-maps tree (Ok (after, text)) x = record { report = ap (λ (b : Bus). b.notes.report) x.after_is; names = ap (λ (b : Bus). b.notes.names) x.after_is; trees = subst (λ (b : Bus). KeepsTrees bus.world b.world) (sym x.after_is) (no-turn bus.world) }
   gives-maps tree (Err kind) x = absurd x
 
   held : (end : End) (n : ℕ) → AllKeep (HoldsWire bus end n)
   held end n r x = by (hold_fault end bus.world) refl
     where
       by : (o : Option CableFault) → hold_fault end bus.world ≡ o → AnswerKeeps bus r
-      by None e = known (Ok (record bus { world = hold end n bus.world }, [])) (record { report = refl; names = refl; rests = in-hold stay names-one end n bus.world e }) r (rw e at x)
+      by None e = known (Ok (record bus { world = hold end n bus.world }, [])) (record { report = refl; names = refl; trees = in-hold stay names-one end n bus.world e }) r (rw e at x)
       by (Some fault) e = known (Err (kind_of fault)) tt r (rw e at x)
 
   turned : (count : ℕ) → AllKeep (Turns bus count)
   turned count =
       by-test (nat_lt 2000000 (bus.world.turns + count)) (λ r. r ≡ Err Kind.TooManyTurns)
       (λ r. r ≡ Ok (record bus { world = turns_after count bus.world }, [])) (known (Err Kind.TooManyTurns) tt)
-      (known (Ok (record bus { world = turns_after count bus.world }, [])) (record { report = refl; names = refl; rests = in-turns stay names-one count bus.world }))
+      (known (Ok (record bus { world = turns_after count bus.world }, [])) (record { report = refl; names = refl; trees = in-turns stay names-one count bus.world }))
 
   accessed : (manager : NodeNumber) (a : Access) (text : Answer → List ℕ) →
       AllKeep (Accesses bus manager a text)
-  accessed manager a text = known (Ok (after_access manager a bus, text (answer_of (values_at manager bus) a))) (record { report = refl; names = refl; rests = no-turn bus.world })
+  accessed manager a text = known (Ok (after_access manager a bus, text (answer_of (values_at manager bus) a))) (record { report = refl; names = refl; trees = no-turn bus.world })
 
   looked : (node manager : NodeNumber) → AllKeep (Looks bus node manager)
-  looked node manager = known (Ok (put_look node (Some (seen_of (values_at manager bus))) bus, [])) (record { report = refl; names = refl; rests = no-turn bus.world })
+  looked node manager = known (Ok (put_look node (Some (seen_of (values_at manager bus))) bus, [])) (record { report = refl; names = refl; trees = no-turn bus.world })
 
   granted : (node manager : NodeNumber) (a : Seen → Access) (text : Answer → List ℕ) →
       AllKeep (Grants bus node manager a text)
   granted node manager a text =
       let blind : Bus = put_look node None bus in
       let asks : Access = a (seen_by node manager bus) in
-      known (Ok (after_access manager asks blind, text (answer_of (values_at manager blind) asks))) (record { report = refl; names = refl; rests = no-turn bus.world })
+      known (Ok (after_access manager asks blind, text (answer_of (values_at manager blind) asks))) (record { report = refl; names = refl; trees = no-turn bus.world })
 
   keeps : (c : Command) → KeepsReport c → AllKeep (Does bus c)
   keeps (Node name ports speed link contender force power gap holding short long word len seed packed) h = known (Err Kind.Late) tt
@@ -364,7 +364,7 @@ same-count :
     Keeps bus after → resets_of after.world tree.root ≡ resets_of bus.world tree.root
 same-count stay components bus after h name tree s k =
     let t = tree-stands stay components bus h name tree s in
-    (k.rests s.node t.set tree.root t.stands.tree h.reached t.component t.stands.is).counts
+    (k.trees s.node t.set tree.root t.stands.tree h.reached t.component t.stands.is).counts
 
 module _ (trees : NoListHasTwoTrees) (keep-nodes : ActKeepsNodes) (stay : TreesStay) (components : ComponentsExist) (names-one : IdsNameOneNode) where
   -- `maps` was done on a bus that runs
