@@ -6,9 +6,7 @@ use Rattle.phy_packet.specs.Packet.{Shows}
 use Rattle.phy_packet.specs.declared.packet.PhyPacket.{PhyPacket}
 use Rattle.phy_packet.proofs.Lemmas.{packet_of, packet_of-quad_of}
 use Rattle.self_id.specs.declared.standard.Standard.{Standard}
-use Rattle.self_id.specs.Node.{Node}
 use Rattle.topology_stack.specs.Tree.{Tree}
-use Rattle.bus_manager.proofs.Lemmas.{one_hops}
 use Rattle.capture_reading.specs.declared.fault.CaptureFault.{CaptureFault}
 use Rattle.capture_reading.specs.OneReading.{NoCaptureHasTwoTrees, NoCaptureHasATreeAndAFault, NoCaptureHasTwoFaults}
 use Rattle.script_run.specs.Line.{kind_word, script_line}
@@ -27,7 +25,7 @@ use Rattle.script_trace.specs.OneTrace.{ScriptsHaveOneTrace, TracedScriptsAreTol
 use Rattle.script_trace.specs.waves.Waves.{IsWaves}
 use Rattle.script_trace.specs.waves.OneDump.{ScriptsHaveOneDump, DumpedScriptsAreTold}
 use Rattle.view_text.specs.Pairs.{AreShown, pairs_text}
-use Rattle.view_text.specs.Drawing.{IsDrawing, IsRoot, drawing}
+use Rattle.view_text.proofs.Lemmas.{same_drawing}
 use Rattle.bus_view.specs.declared.form.CaptureView.{CaptureView}
 use Rattle.bus_view.specs.declared.form.CaptureView.TheVariants.{Packets, Tree as Drawn, Dot, Json}
 use Rattle.bus_view.specs.declared.form.ViewForm.{ViewForm}
@@ -91,14 +89,6 @@ same_shown : (bytes : List ℕ) (at : ℕ) (below : List PhyPacket → List ℕ)
     ShowsPackets bytes at below a → ShowsPackets bytes at below b → a ≡ b
 same_shown bytes at below a b x y =
     x.text_is ∙ ap (λ (ps : List PhyPacket). pairs_text bytes ps at (below ps)) (same_packets (firsts (quads_of bytes)) x.packets y.packets x.shown y.shown) ∙ sym y.text_is
-
-one_root : (t : Tree) (m n : Node) → IsRoot t m → IsRoot t n → m ≡ n
-one_root t m n x y = cc
-
-same_drawing : (t : Tree) (a b : List ℕ) → IsDrawing t a → IsDrawing t b → a ≡ b
-same_drawing t a b x y =
-    x.text_is ∙ ap (λ (h : ℕ). drawing t h x.root.attrs.gap) (one_hops t x.hops y.hops x.are_hops y.are_hops)
-    ∙ ap (λ (n : Node). drawing t y.hops n.attrs.gap) (one_root t x.root y.root x.is_root y.is_root) ∙ sym y.text_is
 
 same_text : (view : CaptureView) (standard : Standard) (bytes : List ℕ) (r : Reading) (a b : List ℕ) →
     HasText view standard bytes r a → HasText view standard bytes r b → a ≡ b

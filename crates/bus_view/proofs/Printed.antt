@@ -11,7 +11,6 @@ use Rattle.topology_stack.specs.Text.{tree_text}
 use Rattle.topology_stack.specs.OneAnswer.{NoListHasTwoTrees}
 use Rattle.cable_world.specs.World.{NodeNumber}
 use Rattle.script_lines.specs.declared.kind.Kind.{Kind}
-use Rattle.script_lines.specs.declared.kind.ScriptFault.{ScriptFault}
 use Rattle.script_lines.specs.declared.command.Command.{Command}
 use Rattle.script_lines.specs.declared.command.Command.TheVariants.{Settle}
 use Rattle.settle.specs.declared.report.Outcome.{Outcome}
@@ -32,13 +31,10 @@ use Rattle.bus_view.specs.Captured.{IsLast}
 abbrev HasLast : ScriptRun → Type 0
 HasLast run = (bus : Bus) → run.end ≡ Ok bus → (last : Entry) × IsLast run bus last
 
-same-end : (a b : Bus) → ◌≡◌ {A = Result Bus ScriptFault} (Ok a) (Ok b) → a ≡ b
-same-end a b e = cc
-
 by-settle : (number : ℕ) (stage : Stage) (r : LineAnswer) → HasLast (last_run number stage r)
 by-settle number stage (Ok (bus, text)) other e = (
   done number stage Settle (running bus) text,
-  record { before = []; entries_are = refl; settles = refl; leaves = ap running (same-end bus other e) },
+  record { before = []; entries_are = refl; settles = refl; leaves = ap running (let same : bus ≡ other = cc in same) },
 )
 by-settle number stage (Err kind) other e = absurd cc
 

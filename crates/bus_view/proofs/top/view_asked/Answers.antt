@@ -20,15 +20,19 @@ returns-in-Some-clause-streams g c = λ no_log.
 
 pub returns-in-Some-clause-no_form : goal.returns-in-Some-clause-no_form
 returns-in-Some-clause-no_form g c =
-    let asks = (c.in-Some.ensures c.in-Some.form).0 refl in
-    (λ two. absurd (c.show_resets.ensures.shown.is_form two), λ none. absurd (none (Resets c.in-Some.form, asks)))
+    let asks = (c.in-Some.ensures c.in-Some.form).0 refl in (
+      λ two. absurd (c.show_resets.ensures.shown.is_form two),
+      λ none. absurd (none (Resets c.in-Some.form, asks)),
+    )
 
 pub returns-in-Some-clause-resets : goal.returns-in-Some-clause-resets
 returns-in-Some-clause-resets g c = λ form again.
     let asks = (c.in-Some.ensures c.in-Some.form).0 refl in
     let left = g.S.Source.left in
     let status = c.show_resets.result in
-    subst (λ (s : LogForm). ShowsAsItComes left g.S.Source.faults g.K.Sink.written g.K.Sink.faults g.K.Sink.surely_takes ((status ≡ 0) ⊎ (status ≡ 1)) (IsLogView s) (IsLogBegun s) status c.args.source.now c.show_resets.new.source c.args.sink.now c.show_resets.new.sink)
+    subst (λ (s : LogForm). ShowsAsItComes left g.S.Source.faults g.K.Sink.written g.K.Sink.faults
+    g.K.Sink.surely_takes ((status ≡ 0) ⊎ (status ≡ 1)) (IsLogView s) (IsLogBegun s) status
+    c.args.source.now c.show_resets.new.source c.args.sink.now c.show_resets.new.sink)
     (one_resets c.args.words.now c.in-Some.form form asks again) c.show_resets.ensures.shown
 
 pub returns-in-Some-clause-nosy : goal.returns-in-Some-clause-nosy
@@ -58,15 +62,19 @@ returns-in-Some-dump_form-clause-streams g c = λ no_log.
 
 pub returns-in-Some-dump_form-clause-no_form : goal.returns-in-Some-dump_form-clause-no_form
 returns-in-Some-dump_form-clause-no_form g c =
-    let asks = (c.in-Some-dump_form.ensures c.in-Some-dump_form.form).0 refl in
-    (λ two. absurd (c.show_nosy.ensures.shown.is_form two), λ none. absurd (none (Nosy c.in-Some-dump_form.form, asks)))
+    let asks = (c.in-Some-dump_form.ensures c.in-Some-dump_form.form).0 refl in (
+      λ two. absurd (c.show_nosy.ensures.shown.is_form two),
+      λ none. absurd (none (Nosy c.in-Some-dump_form.form, asks)),
+    )
 
 pub returns-in-Some-dump_form-clause-nosy : goal.returns-in-Some-dump_form-clause-nosy
 returns-in-Some-dump_form-clause-nosy g c = λ form again.
     let asks = (c.in-Some-dump_form.ensures c.in-Some-dump_form.form).0 refl in
     let left = g.S.Source.left in
     let status = c.show_nosy.result in
-    subst (λ (s : LogForm). ShowsAsItComes left g.S.Source.faults g.K.Sink.written g.K.Sink.faults g.K.Sink.surely_takes (status ≡ 0) (IsDumpView s) (IsBegun s) status c.args.source.now c.show_nosy.new.source c.args.sink.now c.show_nosy.new.sink)
+    subst (λ (s : LogForm). ShowsAsItComes left g.S.Source.faults g.K.Sink.written g.K.Sink.faults
+    g.K.Sink.surely_takes (status ≡ 0) (IsDumpView s) (IsBegun s) status c.args.source.now
+    c.show_nosy.new.source c.args.sink.now c.show_nosy.new.sink)
     (one_nosy c.args.words.now c.in-Some-dump_form.form form asks again) c.show_nosy.ensures.shown
 
 pub returns-in-Some-dump_form-clause-resets : goal.returns-in-Some-dump_form-clause-resets
@@ -82,7 +90,8 @@ returns-in-Some-dump_form-clause-unfailing g c = λ input.
 pub returns-in-Some-dump_form-clause-script : goal.returns-in-Some-dump_form-clause-script
 returns-in-Some-dump_form-clause-script g c = λ nodes seed script zero.
     let asks = (c.in-Some-dump_form.ensures c.in-Some-dump_form.form).0 refl in
-    absurd (input_apart c.args.words.now (inl (nodes, seed, script)) (c.in-Some-dump_form.form, inr asks))
+    absurd (input_apart c.args.words.now (inl (nodes, seed, script))
+    (c.in-Some-dump_form.form, inr asks))
 
 pub returns-in-Some-dump_form-clause-itself : goal.returns-in-Some-dump_form-clause-itself
 returns-in-Some-dump_form-clause-itself g c = λ about itself zero.
@@ -90,10 +99,11 @@ returns-in-Some-dump_form-clause-itself g c = λ about itself zero.
     absurd (input_apart c.args.words.now (inr (about, itself)) (c.in-Some-dump_form.form, inr asks))
 
 pub answer-requires-clause-held : goal.answer-requires-clause-held
-answer-requires-clause-held g c = λ form asks. is_held c.args.words.now form asks (λ log. elim log.1 [
-  | inl resets ↦ let e = (c.in_default.ensures log.0).1 resets in cc
-  | inr nosy ↦ let e = (c.in_default-dump_form.ensures log.0).1 nosy in cc
-])
+answer-requires-clause-held g c =
+    λ form asks. is_held c.args.words.now form asks (λ log. elim log.1 [
+      | inl resets ↦ let e = (c.in_default.ensures log.0).1 resets in cc
+      | inr nosy ↦ let e = (c.in_default-dump_form.ensures log.0).1 nosy in cc
+    ])
 
 pub answer-requires-clause-some : goal.answer-requires-clause-some
 answer-requires-clause-some g c = c.one_view.ensures.some c.args.words.now
@@ -103,27 +113,33 @@ answer-requires-clause-one g c = c.one_view.ensures.one c.args.words.now
 
 pub returns-clause-streams : goal.returns-clause-streams
 returns-clause-streams g c = λ no_log.
-    unread_as _ _ _ _ _ _ _ _ _ _ _ _ _ (form_unread c.args.words.now) (unread_form c.args.words.now) c.answer.ensures.streams
+    unread_as _ _ _ _ _ _ _ _ _ _ _ _ _ (form_unread c.args.words.now)
+    (unread_form c.args.words.now) c.answer.ensures.streams
 
 pub returns-clause-unfailing : goal.returns-clause-unfailing
-returns-clause-unfailing g c = λ none. c.answer.ensures.unfailing (unread_form c.args.words.now none)
+returns-clause-unfailing g c =
+    λ none. c.answer.ensures.unfailing (unread_form c.args.words.now none)
 
 pub returns-clause-script : goal.returns-clause-script
 returns-clause-script g c = λ nodes seed asks zero.
-    let w = unread_written _ _ _ _ _ _ _ _ _ _ _ _ c.answer.ensures.streams (Script nodes seed, asks, tt) zero in
+    let w = unread_written _ _ _ _ _ _ _ _ _ _ _ _ c.answer.ensures.streams
+    (Script nodes seed, asks, tt) zero in
     subst (Appends (g.K.Sink.written c.args.sink.now) (g.K.Sink.written c.answer.new.sink))
     (of_form c.args.words.now (Script nodes seed) asks [] 0 w.0 w.1).1 w.2
 
 pub returns-clause-itself : goal.returns-clause-itself
 returns-clause-itself g c = λ about asks zero.
-    let w = unread_written _ _ _ _ _ _ _ _ _ _ _ _ c.answer.ensures.streams (OfItself about, asks, tt) zero in
+    let w = unread_written _ _ _ _ _ _ _ _ _ _ _ _ c.answer.ensures.streams
+    (OfItself about, asks, tt) zero in
     (w.0, of_form c.args.words.now (OfItself about) asks [] 0 w.0 w.1, w.2)
 
 pub returns-clause-resets : goal.returns-clause-resets
-returns-clause-resets g c = λ form resets. absurd (let e = (c.in_default.ensures form).1 resets in cc)
+returns-clause-resets g c =
+    λ form resets. absurd (let e = (c.in_default.ensures form).1 resets in cc)
 
 pub returns-clause-nosy : goal.returns-clause-nosy
-returns-clause-nosy g c = λ form nosy. absurd (let e = (c.in_default-dump_form.ensures form).1 nosy in cc)
+returns-clause-nosy g c =
+    λ form nosy. absurd (let e = (c.in_default-dump_form.ensures form).1 nosy in cc)
 
 -- ---- lines of JSON
 
@@ -131,8 +147,10 @@ pub returns-in-Some-clause-json_lines : goal.returns-in-Some-clause-json_lines
 returns-in-Some-clause-json_lines g c = λ json which.
     let asks = (c.in-Some.ensures c.in-Some.form).0 refl in
     elim json [
-      | inl bus ↦ absurd (log_apart c.args.words.now (Capture Json bus.0) tt bus.1 (c.in-Some.form, inl asks))
-      | inr (inl run) ↦ absurd (log_apart c.args.words.now JsonRun tt run (c.in-Some.form, inl asks))
+      | inl bus ↦ absurd (log_apart c.args.words.now (Capture Json bus.0) tt bus.1
+          (c.in-Some.form, inl asks))
+      | inr (inl run) ↦ absurd (log_apart c.args.words.now JsonRun tt run
+          (c.in-Some.form, inl asks))
       | inr (inr (inl log)) ↦ c.show_resets.ensures.json log.0
           (one_resets c.args.words.now c.in-Some.form (Lines log.0) asks log.1) which
       | inr (inr (inr dump)) ↦ absurd
@@ -148,8 +166,10 @@ pub returns-in-Some-dump_form-clause-json_lines : goal.returns-in-Some-dump_form
 returns-in-Some-dump_form-clause-json_lines g c = λ json which.
     let asks = (c.in-Some-dump_form.ensures c.in-Some-dump_form.form).0 refl in
     elim json [
-      | inl bus ↦ absurd (log_apart c.args.words.now (Capture Json bus.0) tt bus.1 (c.in-Some-dump_form.form, inr asks))
-      | inr (inl run) ↦ absurd (log_apart c.args.words.now JsonRun tt run (c.in-Some-dump_form.form, inr asks))
+      | inl bus ↦ absurd (log_apart c.args.words.now (Capture Json bus.0) tt bus.1
+          (c.in-Some-dump_form.form, inr asks))
+      | inr (inl run) ↦ absurd (log_apart c.args.words.now JsonRun tt run
+          (c.in-Some-dump_form.form, inr asks))
       | inr (inr (inl log)) ↦ absurd
           (no_dump c.args.words.now (Lines log.0) c.in-Some-dump_form.form log.1 asks)
       | inr (inr (inr dump)) ↦ c.show_nosy.ensures.json dump.0
@@ -163,8 +183,10 @@ returns-in-Some-dump_form-clause-reports g c = λ run zero.
 
 pub returns-clause-json_lines : goal.returns-clause-json_lines
 returns-clause-json_lines g c = λ json which. elim json [
-  | inl bus ↦ let told = c.answer.ensures.tells which (Capture Json bus.0) bus.1 in record { text = told.2; lines = one_line told.2 told.3; wrote = told.4 }
-  | inr (inl run) ↦ let told = c.answer.ensures.tells which JsonRun run in record { text = told.2; lines = told.3.lines; wrote = told.4 }
+  | inl bus ↦ let told = c.answer.ensures.tells which (Capture Json bus.0) bus.1 in
+      record { text = told.2; lines = one_line told.2 told.3; wrote = told.4 }
+  | inr (inl run) ↦ let told = c.answer.ensures.tells which JsonRun run in
+      record { text = told.2; lines = told.3.lines; wrote = told.4 }
   | inr (inr (inl log)) ↦ absurd (let e = (c.in_default.ensures (Lines log.0)).1 log.1 in cc)
   | inr (inr (inr dump)) ↦ absurd
       (let e = (c.in_default-dump_form.ensures (Lines dump.0)).1 dump.1 in cc)
