@@ -6,7 +6,7 @@ use Rattle.script_lines.specs.declared.kind.Kind.{Kind}
 use Rattle.script_lines.specs.declared.kind.LineStop.{LineStop}
 use Rattle.script_lines.specs.declared.kind.LineStop.TheVariants.{Fault, Memory}
 use Rattle.script_bus.specs.declared.bus.Notes as kept
-use Rattle.script_bus.specs.declared.bus.Reported as shown
+use Rattle.script_bus.specs.declared.bus.ReportedTree as shown
 use Rattle.script_text.specs.ReportText.{IsNamedReport}
 use Rattle.script_told.specs.Bus.{Notes, Bus, ReportedTree, node_named, tree_with}
 use Rattle.script_bus.specs.codings.Standing.{StandsSince}
@@ -26,7 +26,7 @@ notes_now notes = record {
 abbrev pub bus_now : CableWorld → kept.Notes → Bus
 bus_now world notes = record { world = world; notes = notes_now notes }
 
-abbrev pub reported : shown.Reported → ReportedTree
+abbrev pub reported : shown.ReportedTree → ReportedTree
 reported tree = record { root = tree.root; list = tree.list.now; order = tree.order.now }
 
 -- what holds of a bus between two lines
