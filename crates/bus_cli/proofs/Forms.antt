@@ -1,6 +1,7 @@
 -- Words are those of one form at most.
-use Rattle.std.proofs.Common.{cond, Option, Some, None, ◌⊎◌, inl, inr, Bool, true, false, ◌≡◌, ◌≤◌, ℕ, List, [], ◌∷◌, refl, sym, ap, subst, ◌∙◌, arith}
+use Rattle.std.proofs.Common.{cond, Option, Some, None, ◌⊎◌, inl, inr, Bool, true, false, eqb, ◌≡◌, ◌≤◌, ℕ, List, [], ◌∷◌, refl, sym, ap, subst, ◌∙◌, arith}
 use Rattle.std.specs.Prelude.{String, map, string_bytes, codes, nat_lt}
+use Rattle.std.proofs.lemmas.Bool.{eqb-true, eq-eqb}
 use Rattle.std.proofs.lemmas.Bool.Decides.{nat_tests}
 use Rattle.std.specs.Global.{Global}
 use Rattle.about.specs.declared.asked.About.TheVariants.{Help, Version}
@@ -9,9 +10,15 @@ use Rattle.bus_cli.specs.declared.form.Form.{Form}
 use Rattle.bus_cli.specs.declared.form.Form.TheVariants.{Capture, Rom, Run, Advice, Make, OfItself}
 use Rattle.bus_cli.specs.declared.form.CaptureForm.TheVariants.{Read, Read95, Maps}
 use Rattle.bus_cli.specs.Form.{AreWordsOf, AreMakeWords, Asks, IsForm}
-use Rattle.top_call.proofs.Lemmas.{same, same-true, same-is}
+use Rattle.top_call.proofs.Lemmas.{both_true}
 
 -- ---- the form of words, found by trying them all
+
+same : List ℕ → List ℕ → Bool
+same [] [] = true
+same [] (y ∷ ys) = false
+same (x ∷ xs) [] = false
+same (x ∷ xs) (y ∷ ys) = cond (eqb x y) (same xs ys) false
 
 abbrev of_word : List ℕ → Option Form
 of_word word =
@@ -34,6 +41,16 @@ form_of [] = None
 form_of (word ∷ []) = of_word word
 form_of (word ∷ next ∷ []) = None
 form_of (word ∷ nodes ∷ seed ∷ words) = of_make (number_of nodes) (number_of seed)
+
+same-true : (xs ys : List ℕ) → same xs ys ≡ true → xs ≡ ys
+unfolding same
+same-true [] [] e = refl
+same-true [] (y ∷ ys) e = absurd cc
+same-true (x ∷ xs) [] e = absurd cc
+same-true (x ∷ xs) (y ∷ ys) e =
+    let p = both_true _ _ e in
+    let head : x ≡ y = eqb-true x y p.0 in
+    rw (head, same-true xs ys p.1) refl
 
 from_numbers : (a b : Option ℕ) (nodes seed : ℕ) → a ≡ Some nodes → b ≡ Some seed →
     of_make a b ≡ Some (Make nodes seed)
@@ -62,6 +79,14 @@ same_form a b x e f = cc
 pub one_form : (words : List (String Global)) (a b : Form) → Asks words a → Asks words b → a ≡ b
 one_form words a b x y =
     same_form a b (form_of (map string_bytes words)) (is_found a (map string_bytes words) x) (is_found b (map string_bytes words) y)
+
+same-itself : (zs : List ℕ) → same zs zs ≡ true
+unfolding same
+same-itself [] = refl
+same-itself (z ∷ zs) = rw (eq-eqb z z refl, same-itself zs) refl
+
+same-is : (xs ys : List ℕ) → xs ≡ ys → same xs ys ≡ true
+same-is xs ys e = subst (λ (zs : List ℕ). same xs zs ≡ true) e (same-itself xs)
 
 -- ---- the word of each form
 

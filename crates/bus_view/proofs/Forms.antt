@@ -1,5 +1,5 @@
 -- Words are those of one form at most.
-use Rattle.std.proofs.Common.{◌≡◌, ◌≤◌, ◌⊎◌, inl, inr, ℕ, Bool, true, false, cond, Option, Some, None, List, [], ◌∷◌, refl, ap, subst, ◌∙◌, arith}
+use Rattle.std.proofs.Common.{◌≡◌, ◌≤◌, ◌⊎◌, inl, inr, ℕ, Bool, true, false, cond, eqb, Option, Some, None, List, [], ◌∷◌, refl, ap, subst, ◌∙◌, arith}
 use Rattle.std.specs.Prelude.{String, map, string_bytes, codes, nat_lt}
 use Rattle.std.specs.Global.{Global}
 use Rattle.about.specs.declared.asked.About.TheVariants.{Help, Version}
@@ -17,10 +17,27 @@ use Rattle.script_lines.specs.Number.{number_of}
 use Rattle.bus_view.specs.Form.{standard_words, AreWordsOf, Asks, AsksLog, AsksNoInput, IsForm}
 use Rattle.bus_view.specs.codings.Reading.{IsUnread, IsHeld}
 use Rattle.top_call.specs.Asked.{AsksUnread}
+use Rattle.std.proofs.lemmas.Bool.{eqb-true}
 use Rattle.std.proofs.lemmas.Bool.Decides.{nat_tests}
-use Rattle.top_call.proofs.Lemmas.{same, same-true}
+use Rattle.top_call.proofs.Lemmas.{both_true}
 
 -- ---- the form of words, found by trying them all
+
+same : List ℕ → List ℕ → Bool
+same [] [] = true
+same [] (y ∷ ys) = false
+same (x ∷ xs) [] = false
+same (x ∷ xs) (y ∷ ys) = cond (eqb x y) (same xs ys) false
+
+same-true : (xs ys : List ℕ) → same xs ys ≡ true → xs ≡ ys
+unfolding same
+same-true [] [] e = refl
+same-true [] (y ∷ ys) e = absurd cc
+same-true (x ∷ xs) [] e = absurd cc
+same-true (x ∷ xs) (y ∷ ys) e =
+    let p = both_true _ _ e in
+    let head : x ≡ y = eqb-true x y p.0 in
+    rw (head, same-true xs ys p.1) refl
 
 -- 1 to 63 nodes, and a seed
 abbrev ranged : Bool → Bool → ℕ → ℕ → Option ViewForm

@@ -1,4 +1,4 @@
 -- What crates above use of the proofs of this one.
 pub use Rattle.top_call.proofs.Answering.{each_answered, none_twice, of_answer, of_asked, some_left, unread_as, unread_written}
--- A test of two words.
-pub use Rattle.top_call.proofs.Words.{same, same-true, same-is}
+-- Two tests, one behind the other.
+pub use Rattle.top_call.proofs.Words.{both_true}
