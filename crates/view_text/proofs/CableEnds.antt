@@ -13,7 +13,7 @@ use Rattle.speed_map.specs.Path.{node_speed, path_speed}
 use Rattle.speed_map.proofs.Lemmas.{speed_is, length-ends_from, length-ends_below}
 use Rattle.view_text.specs.declared.cable.Cable.{Cable}
 use Rattle.view_text.specs.Cable.{first_up, up_of, speed_of, cable_to, cable_at, cables_of, cables_from, cables}
-use Rattle.view_text.specs.codings.Parts.{Has, Stands}
+use Rattle.view_text.specs.codings.Parts.{Has, HasPart}
 use Rattle.view_text.specs.CableEnds.{IsOfTree, CablesAreOfTheTree, EachDownSlotHasItsCable}
 use Rattle.topology_stack.proofs.Lemmas.{length-walk, some_node}
 use Rattle.quad_lanes.proofs.Lemmas.{has-left, has-right, has-head, has-itself, slice_get-left, slice_get-right}
@@ -75,27 +75,27 @@ module _ (t : Tree) where
     pub nodes : Has (walk t) first (walk_below s)
     pub ends_too : Has (ends t) first (ends_below first id s)
 
-  pub below-of : (first parent : ℕ) (a : Label) (s : Slots) → Stands t first parent (branch a s) →
+  pub below-of : (first parent : ℕ) (a : Label) (s : Slots) → HasPart t first parent (branch a s) →
       StandBelow first (first + length (walk_below s)) s
   below-of first parent a s h = record {
     nodes = has-left (walk t) first (walk_below s) (node_of a s ∷ []) h.nodes;
     ends_too = has-left (ends t) first (ends_below first (first + length (walk_below s)) s) (slot_ends first parent s ∷ []) h.ends_too;
   }
 
-  pub own-node : (first parent : ℕ) (a : Label) (s : Slots) → Stands t first parent (branch a s) →
+  pub own-node : (first parent : ℕ) (a : Label) (s : Slots) → HasPart t first parent (branch a s) →
       slice_get (walk t) (first + length (walk_below s)) ≡ Some (node_of a s)
   own-node first parent a s h =
       has-head (walk t) (first + length (walk_below s)) (node_of a s) []
       (has-right (walk t) first (length (walk_below s)) (walk_below s) (node_of a s ∷ []) refl h.nodes)
 
-  pub own-ends : (first parent : ℕ) (a : Label) (s : Slots) → Stands t first parent (branch a s) →
+  pub own-ends : (first parent : ℕ) (a : Label) (s : Slots) → HasPart t first parent (branch a s) →
       slice_get (ends t) (first + length (walk_below s)) ≡ Some (slot_ends first parent s)
   own-ends first parent a s h =
       has-head (ends t) (first + length (walk_below s)) (slot_ends first parent s) []
       (has-right (ends t) first (length (walk_below s)) (ends_below first (first + length (walk_below s)) s) (slot_ends first parent s ∷ []) (length-ends_below first (first + length (walk_below s)) s) h.ends_too)
 
   pub first-of : (first id : ℕ) (u : Tree) (s : Slots) → StandBelow first id (down u s) →
-      Stands t first id u
+      HasPart t first id u
   first-of first id u s h = record {
     nodes = has-left (walk t) first (walk u) (walk_below s) h.nodes;
     ends_too = has-left (ends t) first (ends_from first id u) (ends_below (first + length (walk u)) id s) h.ends_too;
@@ -109,7 +109,7 @@ module _ (t : Tree) where
   }
 
   -- the outermost node of a part leads back to its parent
-  leads-back : (first id : ℕ) (u : Tree) → IsPart u → Stands t first id u →
+  leads-back : (first id : ℕ) (u : Tree) → IsPart u → HasPart t first id u →
       Far t (first + length (walk u) - 1) (up_of (slice_get (walk t) (first + length (walk u) - 1))) (Some id)
   leads-back first id (branch a s) part h =
       let top : first + length (walk (branch a s)) - 1 ≡ first + length (walk_below s) = omega (arith, length-walk a s) in
@@ -149,7 +149,7 @@ module _ (t : Tree) where
       record { child = d.child; end = d.end; lower = d.lower; back = d.back }
 
   mutual
-    tree-down : (u : Tree) (first parent : ℕ) → ArePartsOf u → Stands t first parent u → (id : ℕ) → first ≤ id → id < first + length (walk u) → AllDown id
+    tree-down : (u : Tree) (first parent : ℕ) → ArePartsOf u → HasPart t first parent u → (id : ℕ) → first ≤ id → id < first + length (walk u) → AllDown id
     tree-down (branch a s) first parent parts h id low high n es slot at_n at_e e = elim (cases_lt id (first + length (walk_below s))) [
       | inl less ↦ slots-down s first (first + length (walk_below s)) (below-of first parent a s h) parts id low less n es slot at_n at_e e
       | inr more ↦

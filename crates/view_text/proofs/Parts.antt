@@ -11,7 +11,7 @@ use Rattle.topology_stack.specs.Far.{slot_ends, ends}
 use Rattle.view_text.specs.declared.cable.Cable.{Cable}
 use Rattle.view_text.specs.Cable.{up_of, speed_of, cable_to}
 use Rattle.view_text.specs.Drawing.{node_words, cable_text, cable_of, goes_on, corner, bar, outermost, tree_lines, slot_lines}
-use Rattle.view_text.specs.codings.Parts.{Stands, next, below, rest, skipped, first_child, IsChildAt, AppendsPart}
+use Rattle.view_text.specs.codings.Parts.{HasPart, next, below, rest, skipped, first_child, IsChildAt, AppendsPart}
 use Rattle.view_text.proofs.CableEnds.{Ends, StandBelow, below-of, own-node, own-ends, first-of, rest-of, LeadsDown, all-down}
 use Rattle.topology_stack.proofs.Lemmas.{length-walk, some_node}
 
@@ -106,7 +106,7 @@ child-none (down t s) from p e other = absurd (other (sym (same_Some Down p e)))
 
 own-status :
     (t : Tree) (id slot from parent : ℕ) (n : Node) (p : PortStatus) (a : Label) (s : Slots) →
-    slice_get (walk t) id ≡ Some n → slice_get n.ports slot ≡ Some p → Stands t from parent (branch a s) →
+    slice_get (walk t) id ≡ Some n → slice_get n.ports slot ≡ Some p → HasPart t from parent (branch a s) →
     id ≡ from + length (walk_below s) → slice_get (statuses (rest slot s)) 0 ≡ Some p
 own-status t id slot from parent n p a s at_n d h place =
     let node : n ≡ node_of a s = same_Some n (node_of a s) (sym at_n ∙ ap (slice_get (walk t)) place ∙ own-node t from parent a s h) in
@@ -170,7 +170,7 @@ no-lines margin root irm n slot from (up s) e =
     let z : from ≡ from + 0 = omega arith in ap (λ (f : ℕ). slot_lines margin root irm n (slot + 1) f s) z
 no-lines margin root irm n slot from (down t s) e = absurd cc
 
-top-node : (t : Tree) (first parent child : ℕ) (u : Tree) → Stands t first parent u →
+top-node : (t : Tree) (first parent child : ℕ) (u : Tree) → HasPart t first parent u →
     child + 1 ≡ first + length (walk u) → slice_get (walk t) child ≡ Some (outermost u)
 top-node t first parent child (branch a s) h e =
     let at : child ≡ first + length (walk_below s) = omega (arith, e, length-walk a s) in
@@ -179,7 +179,7 @@ top-node t first parent child (branch a s) h e =
 -- what is written so far, and then the lines of the slots from one on, are those of the part
 abbrev pub LinesFrom : Tree → List ℕ → Option ℕ → ℕ → ℕ → List ℕ → List ℕ → Type 0
 LinesFrom t margin irm id slot entry now =
-    (from parent : ℕ) (a : Label) (s : Slots) → Stands t from parent (branch a s) → id ≡ from + length (walk_below s) →
+    (from parent : ℕ) (a : Label) (s : Slots) → HasPart t from parent (branch a s) → id ≡ from + length (walk_below s) →
     now ++ slot_lines margin (length (walk t) - 1) irm (node_of a s) slot (from + skipped slot s) (rest slot s)
     ≡ entry ++ tree_lines margin (length (walk t) - 1) irm from (branch a s)
 
@@ -244,7 +244,7 @@ lines_child t margin irm id slot child on n c entry before branched deeper after
     let u : Tree = b.tree in
     let v : Slots = next x in
     let node : n ≡ node_of a s = same_Some n (node_of a s) (sym at_n ∙ ap (slice_get (walk t)) place ∙ own-node t from parent a s h) in
-    let stands : Stands t first me u = first-of t first me u v (subst (λ (y : Slots). StandBelow t first me y) b.is (rest-stands t slot s from me (below-of t from parent a s h))) in
+    let stands : HasPart t first me u = first-of t first me u v (subst (λ (y : Slots). StandBelow t first me y) b.is (rest-stands t slot s from me (below-of t from parent a s h))) in
     let more : slot + 1 ≡ suc slot = omega arith in
     let on_is : on ≡ goes_on v = goes ∙ ap (λ (m : Node). nat_lt 0 (downs (drop (slot + 1) m.ports))) node
     ∙ ap (λ (k : ℕ). nat_lt 0 (downs (drop k (statuses s)))) more ∙ ap (λ (ps : List PortStatus). nat_lt 0 (downs ps)) (sym (rest-statuses (suc slot) s)) in
@@ -281,7 +281,7 @@ pub lines_end :
     LinesFrom t margin irm id slot entry now → AppendsPart t margin irm id entry now
 lines_end t margin irm id slot n entry now at_n long inv = λ from parent part h place. of part from parent h place
   where
-    of : (part : Tree) (from parent : ℕ) → Stands t from parent part → id + 1 ≡ from + length (walk part) →
+    of : (part : Tree) (from parent : ℕ) → HasPart t from parent part → id + 1 ≡ from + length (walk part) →
         now ≡ entry ++ tree_lines margin (length (walk t) - 1) irm from part
     of (branch a s) from parent h place =
         let at : id ≡ from + length (walk_below s) = omega (arith, place, length-walk a s) in

@@ -14,7 +14,7 @@ Has {A} whole first part =
     (i : ℕ) (x : A) → slice_get part i ≡ Some x → slice_get whole (first + i) ≡ Some x
 
 -- so does a tree below a parent, whose IDs begin at `first`, with its nodes and the ends of their slots
-pub record Stands (t : Tree) (first parent : ℕ) (part : Tree) : Type 0 where
+pub record HasPart (t : Tree) (first parent : ℕ) (part : Tree) : Type 0 where
   pub nodes : Has (walk t) first (walk part)
   pub ends_too : Has (ends t) first (ends_from first parent part)
 
@@ -56,13 +56,13 @@ first_child from (down t s) = Some (from + length (walk t) - 1)
 
 abbrev pub IsChildAt : Tree → ℕ → ℕ → Option ℕ → Type 0
 IsChildAt t id slot child =
-    (from parent : ℕ) (a : Label) (s : Slots) → Stands t from parent (branch a s) →
+    (from parent : ℕ) (a : Label) (s : Slots) → HasPart t from parent (branch a s) →
     id ≡ from + length (walk_below s) → child ≡ first_child (from + skipped slot s) (rest slot s)
 
 -- the lines of the part whose outermost node has this ID are appended
 abbrev pub AppendsPart : Tree → List ℕ → Option ℕ → ℕ → List ℕ → List ℕ → Type 0
 AppendsPart t margin irm id old new =
-    (from parent : ℕ) (part : Tree) → Stands t from parent part →
+    (from parent : ℕ) (part : Tree) → HasPart t from parent part →
     id + 1 ≡ from + length (walk part) → new ≡ old ++ tree_lines margin (length (walk t) - 1) irm from part
 
 -- ---- the words of a node
