@@ -14,7 +14,7 @@ use Rattle.reset_log.specs.Log.{onto_first, parted, open_lines, lines_of, AreSho
 use Rattle.reset_log.specs.Cause.{StoppedWriting}
 use Rattle.reset_log.specs.Answered.{IsExact, IsComplete}
 use Rattle.reset_log.specs.Wrote.{Wrote, WroteFront, WroteFrontOf}
-use Rattle.reset_log.specs.codings.Going.{Holds, Stands, ShowsLine, Begun, BreaksOff, BreaksText, Broke, ShowsLines, ShowsAll, Reads}
+use Rattle.reset_log.specs.codings.Going.{HasShown, HasWritten, ShowsLine, Begun, BreaksOff, BreaksText, Broke, ShowsLines, ShowsAll, ReadsLog}
 use Rattle.reset_log.specs.Shown.{totals_text}
 use Rattle.reset_log.proofs.InOrder.{one_more, told_once, told_first}
 use Rattle.reset_log.proofs.Wrote.{wrote_then, front_then, front_more, front_whole}
@@ -72,7 +72,7 @@ begun_more form xs ys text b =
     begun_among form (parted xs).lines h.0 (parted (xs ++ ys)).lines text b h.1
 
 -- all whole lines
-pub begun_all : (r : LogReader) (done text : List ℕ) → Holds r done text →
+pub begun_all : (r : LogReader) (done text : List ℕ) → HasShown r done text →
     Begun r.form (parted done).lines text
 begun_all r done text h = record {
   first = (parted done).lines;
@@ -85,7 +85,7 @@ begun_all r done text h = record {
 
 -- of bytes that were taken so far
 pub begun_so_far : (form : LogForm) (r : LogReader) (done bytes took rest text out : List ℕ) →
-    Holds r (done ++ took) (text ++ out) → bytes ≡ took ++ rest → r.form ≡ form →
+    HasShown r (done ++ took) (text ++ out) → bytes ≡ took ++ rest → r.form ≡ form →
     Begun form (parted (done ++ bytes)).lines (text ++ out)
 begun_so_far form r done bytes took rest text out h e same =
     subst (λ (s : LogForm). Begun s (parted (done ++ bytes)).lines (text ++ out)) same
@@ -95,8 +95,8 @@ begun_so_far form r done bytes took rest text out h e same =
 
 -- more was gathered and written
 pub stands_on : {K : Type 0} {w : K → Option (List ℕ)} {f : K → ℕ} {t : K → ℕ → Type 0} (old new : LogReader) (done piece out : List ℕ) (start was is : K) →
-    (st : Stands w f t old done start was) → Holds new (done ++ piece) (st.text ++ out) →
-    Wrote w f t was is out → Stands w f t new (done ++ piece) start is
+    (st : HasWritten w f t old done start was) → HasShown new (done ++ piece) (st.text ++ out) →
+    Wrote w f t was is out → HasWritten w f t new (done ++ piece) start is
 stands_on old new done piece out start was is st h wrote = record {
   text = st.text ++ out;
   holds = h;
@@ -104,9 +104,9 @@ stands_on old new done piece out start was is st h wrote = record {
 }
 
 -- nothing was gathered yet
-pub holds_none : (r : LogReader) (done text out : List ℕ) → out ≡ [] → Holds r done text →
-    Holds r done (text ++ out)
-holds_none r done text out e h = subst (λ (l : List ℕ). Holds r done l) (sym (ap (λ (l : List ℕ). text ++ l) e ∙ append-nil text)) h
+pub holds_none : (r : LogReader) (done text out : List ℕ) → out ≡ [] → HasShown r done text →
+    HasShown r done (text ++ out)
+holds_none r done text out e h = subst (λ (l : List ℕ). HasShown r done l) (sym (ap (λ (l : List ℕ). text ++ l) e ∙ append-nil text)) h
 
 broke_among : {K : Type 0} {w : K → Option (List ℕ)} {f : K → ℕ} {t : K → ℕ → Type 0} (form : LogForm) (lines more all : List (List ℕ)) (old new : K) →
     Broke w f t form lines old new → all ≡ lines ++ more → Broke w f t form all old new
@@ -134,7 +134,7 @@ broke_log form xs ys old new b =
 
 -- the whole lines were shown
 stood : {K : Type 0} {w : K → Option (List ℕ)} {f : K → ℕ} {t : K → ℕ → Type 0} (r : LogReader) (done : List ℕ) (start was : K) →
-    Stands w f t r done start was → Broke w f t r.form (parted done).lines start was
+    HasWritten w f t r done start was → Broke w f t r.form (parted done).lines start was
 stood r done start was st = record {
   text = st.text;
   begun = begun_all r done st.text st.holds;
@@ -178,7 +178,7 @@ part_more form lines line text bad known next more here start was is shown one w
     part
 
 broke_off : {K : Type 0} {w : K → Option (List ℕ)} {f : K → ℕ} {t : K → ℕ → Type 0} (old : LogReader) (done : List ℕ) (start was is : K) →
-    Stands w f t old done start was → BreaksOff w f t old was is →
+    HasWritten w f t old done start was → BreaksOff w f t old was is →
     Broke w f t old.form ((parted done).lines ++ (parted done).open_line ∷ []) start is
 broke_off {K = K} {w = w} {f = f} {t = t} old done start was is st (inl e) =
     subst (λ (o : K). Broke w f t old.form ((parted done).lines ++ (parted done).open_line ∷ []) start o) (sym e)
@@ -202,7 +202,8 @@ broke_line {w = w} {f = f} {t = t} old new gathered was is sh part = inr (record
 
 -- at the end
 pub broke_last : {K : Type 0} {w : K → Option (List ℕ)} {f : K → ℕ} {t : K → ℕ → Type 0} (old : LogReader) (done : List ℕ) (start was is : K) →
-    Stands w f t old done start was → BreaksOff w f t old was is → (length old.line.items ≡ 0 → ⊥) →
+    HasWritten w f t old done start was → BreaksOff w f t old was is →
+    (length old.line.items ≡ 0 → ⊥) →
     Broke w f t old.form (lines_of done) start is
 broke_last {w = w} {f = f} {t = t} old done start was is st off some =
     subst (λ (ls : List (List ℕ)). Broke w f t old.form ls start is)
@@ -269,7 +270,7 @@ on_err (Err x) P p = p
 
 -- no more was read
 pub front_left : {K : Type 0} {w : K → Option (List ℕ)} {f : K → ℕ} {t : K → ℕ → Type 0} (r : LogReader) (form : LogForm) (first now : Option (List ℕ)) (was is : K) (a b : ℕ) →
-    Reads w f t r form first now was is a b →
+    ReadsLog w f t r form first now was is a b →
     IfSome first (λ log. WroteFrontOf w f t (IsLogShown form (lines_of log)) was is)
 front_left {w = w} {f = f} {t = t} r form first now was is a b h =
     log_left first now h.done (λ log. WroteFrontOf w f t (IsLogShown form (lines_of log)) was is) h.came h.told
@@ -280,9 +281,9 @@ front_left {w = w} {f = f} {t = t} r form first now was is a b h =
 
 -- a piece wasn't shown whole
 pub front_piece : {K : Type 0} {w : K → Option (List ℕ)} {f : K → ℕ} {t : K → ℕ → Type 0} (r : LogReader) (form : LogForm) (first now next : Option (List ℕ)) (was is will : K) (a b : ℕ) (piece : List ℕ) →
-    Reads w f t r form first now was is a b → Consumes now next piece → StayTold now next →
+    ReadsLog w f t r form first now was is a b → Consumes now next piece → StayTold now next →
     length piece ≤ 9223372036854775807 - r.taken →
-    ((done : List ℕ) (start : K) → length done + length piece ≤ 9223372036854775807 → Stands w f t r done start is → Broke w f t r.form (parted (done ++ piece)).lines start will) →
+    ((done : List ℕ) (start : K) → length done + length piece ≤ 9223372036854775807 → HasWritten w f t r done start is → Broke w f t r.form (parted (done ++ piece)).lines start will) →
     IfSome first (λ log. WroteFrontOf w f t (IsLogShown form (lines_of log)) was will)
 front_piece {w = w} {f = f} {t = t} r form first now next was is will a b piece h came told fits part =
     let room : length h.done + length piece ≤ 9223372036854775807 = omega (arith, h.stands.holds.taken_is, fits, h.small) in
@@ -295,9 +296,9 @@ front_piece {w = w} {f = f} {t = t} r form first now next was is will a b piece 
 
 -- all was read: what is shown of it was written, or its front
 at_end : {K : Type 0} {w : K → Option (List ℕ)} {f : K → ℕ} {t : K → ℕ → Type 0} (r : LogReader) (form : LogForm) (first now : Option (List ℕ)) (was is will : K) (a b : ℕ) (result : Result Bool LogStop) →
-    (h : Reads w f t r form first now was is a b) →
-    IfOk result (λ bad. (done : List ℕ) (start : K) → Stands w f t r done start is → ShowsAll w f t r.form (lines_of done) bad start will) →
-    OnErr result ((done : List ℕ) (start : K) → Stands w f t r done start is → WroteFrontOf w f t (IsLogShown r.form (lines_of done)) start will) →
+    (h : ReadsLog w f t r form first now was is a b) →
+    IfOk result (λ bad. (done : List ℕ) (start : K) → HasWritten w f t r done start is → ShowsAll w f t r.form (lines_of done) bad start will) →
+    OnErr result ((done : List ℕ) (start : K) → HasWritten w f t r done start is → WroteFrontOf w f t (IsLogShown r.form (lines_of done)) start will) →
     WroteFrontOf w f t (IsLogShown form (lines_of h.done)) was will
 at_end {w = w} {f = f} {t = t} r form first now was is will a b (Ok bad) h ok part =
     front_all form (lines_of h.done) bad was will
@@ -306,9 +307,9 @@ at_end {w = w} {f = f} {t = t} r form first now was is will a b (Err stop) h ok 
     subst (λ (s : LogForm). WroteFrontOf w f t (IsLogShown s (lines_of h.done)) was will) h.same (part h.done was h.stands)
 
 pub front_end : {K : Type 0} {w : K → Option (List ℕ)} {f : K → ℕ} {t : K → ℕ → Type 0} (r : LogReader) (form : LogForm) (first now next : Option (List ℕ)) (was is will : K) (a b : ℕ) (result : Result Bool LogStop) →
-    Reads w f t r form first now was is a b → Consumes now next [] → IsAtEnd next →
-    IfOk result (λ bad. (done : List ℕ) (start : K) → Stands w f t r done start is → ShowsAll w f t r.form (lines_of done) bad start will) →
-    OnErr result ((done : List ℕ) (start : K) → Stands w f t r done start is → WroteFrontOf w f t (IsLogShown r.form (lines_of done)) start will) →
+    ReadsLog w f t r form first now was is a b → Consumes now next [] → IsAtEnd next →
+    IfOk result (λ bad. (done : List ℕ) (start : K) → HasWritten w f t r done start is → ShowsAll w f t r.form (lines_of done) bad start will) →
+    OnErr result ((done : List ℕ) (start : K) → HasWritten w f t r done start is → WroteFrontOf w f t (IsLogShown r.form (lines_of done)) start will) →
     IfSome first (λ log. WroteFrontOf w f t (IsLogShown form (lines_of log)) was will)
 front_end {w = w} {f = f} {t = t} r form first now next was is will a b result h none end ok part =
     all_came first now next h.done (λ log. WroteFrontOf w f t (IsLogShown form (lines_of log)) was will) h.came h.told none end
@@ -316,8 +317,8 @@ front_end {w = w} {f = f} {t = t} r form first now next was is will a b result h
 
 -- the text that is answered
 given : {K : Type 0} {w : K → Option (List ℕ)} {f : K → ℕ} {t : K → ℕ → Type 0} (r : LogReader) (form : LogForm) (first now : Option (List ℕ)) (was is will : K) (a b : ℕ) (result : Result Bool LogStop) →
-    (h : Reads w f t r form first now was is a b) →
-    IfOk result (λ bad. (done : List ℕ) (start : K) → Stands w f t r done start is → ShowsAll w f t r.form (lines_of done) bad start will) →
+    (h : ReadsLog w f t r form first now was is a b) →
+    IfOk result (λ bad. (done : List ℕ) (start : K) → HasWritten w f t r done start is → ShowsAll w f t r.form (lines_of done) bad start will) →
     IfOk result (λ bad. (text : List ℕ) × IsLogShown form (lines_of h.done) text bad × Appends (w was) (w will) text)
 given {w = w} {f = f} {t = t} r form first now was is will a b (Ok bad) h ok =
     let all : ShowsAll w f t form (lines_of h.done) bad was will = subst (λ (s : LogForm). ShowsAll w f t s (lines_of h.done) bad was will) h.same (ok h.done was h.stands) in
@@ -325,8 +326,8 @@ given {w = w} {f = f} {t = t} r form first now was is will a b (Ok bad) h ok =
 given r form first now was is will a b (Err stop) h ok = tt
 
 pub shown_end : {K : Type 0} {w : K → Option (List ℕ)} {f : K → ℕ} {t : K → ℕ → Type 0} (r : LogReader) (form : LogForm) (first now next : Option (List ℕ)) (was is will : K) (a b : ℕ) (result : Result Bool LogStop) →
-    Reads w f t r form first now was is a b → Consumes now next [] → IsAtEnd next →
-    IfOk result (λ bad. (done : List ℕ) (start : K) → Stands w f t r done start is → ShowsAll w f t r.form (lines_of done) bad start will) →
+    ReadsLog w f t r form first now was is a b → Consumes now next [] → IsAtEnd next →
+    IfOk result (λ bad. (done : List ℕ) (start : K) → HasWritten w f t r done start is → ShowsAll w f t r.form (lines_of done) bad start will) →
     IfOk result (λ bad. IfSome first (λ log. AreWritten form (w was) (w will) (lines_of log) bad))
 shown_end {w = w} r form first now next was is will a b (Ok bad) h none end ok =
     let all = given r form first now was is will a b (Ok bad) h ok in
@@ -335,8 +336,8 @@ shown_end {w = w} r form first now next was is will a b (Ok bad) h none end ok =
 shown_end r form first now next was is will a b (Err stop) h none end ok = tt
 
 pub exact_end : {K : Type 0} {w : K → Option (List ℕ)} {f : K → ℕ} {t : K → ℕ → Type 0} (r : LogReader) (form : LogForm) (first now next : Option (List ℕ)) (was is will : K) (a b : ℕ) (result : Result Bool LogStop) →
-    Reads w f t r form first now was is a b → Consumes now next [] → IsAtEnd next →
-    IfOk result (λ bad. (done : List ℕ) (start : K) → Stands w f t r done start is → ShowsAll w f t r.form (lines_of done) bad start will) →
+    ReadsLog w f t r form first now was is a b → Consumes now next [] → IsAtEnd next →
+    IfOk result (λ bad. (done : List ℕ) (start : K) → HasWritten w f t r done start is → ShowsAll w f t r.form (lines_of done) bad start will) →
     IfSome first (λ log. IsExact (IsLogShown form (lines_of log)) result)
 exact_end {w = w} r form first now next was is will a b result h none end ok =
     all_came first now next h.done (λ log. IsExact (IsLogShown form (lines_of log)) result) h.came h.told none end
@@ -344,8 +345,8 @@ exact_end {w = w} r form first now next was is will a b result h none end ok =
     (given r form first now was is will a b result h ok))
 
 pub complete_end : {K : Type 0} {w : K → Option (List ℕ)} {f : K → ℕ} {t : K → ℕ → Type 0} (r : LogReader) (form : LogForm) (first now next : Option (List ℕ)) (was is will : K) (a b : ℕ) (result : Result Bool LogStop) →
-    Reads w f t r form first now was is a b → Consumes now next [] → IsAtEnd next →
-    IfOk result (λ bad. (done : List ℕ) (start : K) → Stands w f t r done start is → ShowsAll w f t r.form (lines_of done) bad start will) →
+    ReadsLog w f t r form first now was is a b → Consumes now next [] → IsAtEnd next →
+    IfOk result (λ bad. (done : List ℕ) (start : K) → HasWritten w f t r done start is → ShowsAll w f t r.form (lines_of done) bad start will) →
     IfErr result (StoppedWriting (f is) (f will)) → (Rose (f was) (f will) → ⊥) →
     IfSome first (λ log. length log ≤ 9223372036854775807 → IsComplete (IsLogShown form (lines_of log)) result (w was) (w will))
 complete_end {w = w} {f = f} r form first now next was is will a b result h none end ok stops sound =

@@ -32,7 +32,7 @@ use Rattle.reset_log.specs.Hear.{AreQuads, IsHeard, IsUnheard}
 use Rattle.reset_log.specs.Texts.{head, numbers, changes, initiators, refused}
 use Rattle.reset_log.specs.Sentence.{packet_count, IsBefore, sentence, IsRefusalShown}
 use Rattle.topology_stack.specs.Tree.{walk}
-use Rattle.reset_log.specs.Shown.{IsBody, the_same, drawn, IsTreeShown, IsListShown, is_refused, is_heard, IsJudged, totals_text, IsResetShown, is_passed_over, is_unjudged, is_judged, IsPendingShown, IsBegunShown, IsLastShown, IsPacketShown, IsShown, IsLineShown}
+use Rattle.reset_log.specs.Shown.{IsBody, the_same, drawn, IsTreeShown, IsListShown, is_refused, is_heard, IsJudged, totals_text, IsResetShown, is_passed_over, is_unjudged, is_judged, IsPendingShown, IsBegunShown, IsLastShown, IsPacketShown, IsLogLineShown, IsLineShown}
 use Rattle.reset_log.specs.Log.{lines_of, IsLogShown}
 use Rattle.reset_log.specs.OneText.{NoLogHasTwoTexts}
 use Rattle.reset_log.proofs.InOrder.{AreSame, told_once}
@@ -222,7 +222,7 @@ same_packet form None ks a b c d p q x y = (x.0 ∙ sym y.0, x.1 ∙ sym y.1, x.
 same_packet form (Some w) ks a b c d p q x y = same_last form (w.left == 0) w ks a b c d p q x y
 
 same_shown : (form : LogForm) (n : ℕ) (ks : Noted) (line : LogLine) (a b : List ℕ) (c d : Bool) (p q : Noted) →
-    IsShown form n ks line a c p → IsShown form n ks line b d q → AreSame a b c d p q
+    IsLogLineShown form n ks line a c p → IsLogLineShown form n ks line b d q → AreSame a b c d p q
 same_shown form n ks Other a b c d p q x y = (x.0 ∙ sym y.0, x.1 ∙ sym y.1, x.2 ∙ sym y.2)
 same_shown form n ks Lost a b c d p q x y = (x.0 ∙ sym y.0, x.1 ∙ sym y.1, x.2 ∙ sym y.2)
 same_shown form n ks (Said words) a b c d p q x y = (x.0 ∙ sym y.0, x.1 ∙ sym y.1, x.2 ∙ sym y.2)

@@ -12,7 +12,7 @@ use Rattle.reset_log.specs.Notes.{noted}
 use Rattle.reset_log.specs.Noted.{nothing}
 use Rattle.reset_log.specs.Shown.{totals_text}
 use Rattle.reset_log.specs.Wrote.{Wrote}
-use Rattle.reset_log.specs.codings.Going.{IsNew, Stands, ShowsLine, ShowsLines, ShowsAll, Reads}
+use Rattle.reset_log.specs.codings.Going.{IsNew, HasWritten, ShowsLine, ShowsLines, ShowsAll, ReadsLog}
 use Rattle.reset_log.proofs.InOrder.{one_more}
 use Rattle.reset_log.proofs.Standing.{by_front, none_kept}
 use Rattle.reset_log.proofs.Wrote.{wrote_nothing, wrote_then}
@@ -36,7 +36,7 @@ front_of_none (suc n) [] e = refl
 front_of_none (suc n) (x ∷ xs) e = absurd cc
 
 pub ended : {K : Type 0} {w : K → Option (List ℕ)} {f : K → ℕ} {t : K → ℕ → Type 0} (old : LogReader) (done : List ℕ) (start was : K) →
-    Stands w f t old done start was → length old.line.items ≡ 0 →
+    HasWritten w f t old done start was → length old.line.items ≡ 0 →
     ShowsLines w f t old old.form (lines_of done) start was
 ended old done start was st e =
     let none : old.line.items ≡ [] = no_items old.line.items e in
@@ -53,7 +53,7 @@ ended old done start was st e =
     no_items (x ∷ xs) h = absurd (omega (arith, h))
 
 pub ended_line : {K : Type 0} {w : K → Option (List ℕ)} {f : K → ℕ} {t : K → ℕ → Type 0} (old new : LogReader) (done gathered : List ℕ) (start was is : K) →
-    Stands w f t old done start was → (sh : ShowsLine old new [] gathered) → Wrote w f t was is gathered →
+    HasWritten w f t old done start was → (sh : ShowsLine old new [] gathered) → Wrote w f t was is gathered →
     (length old.line.items ≡ 0 → ⊥) → ShowsLines w f t new old.form (lines_of done) start is
 ended_line {w = w} {f = f} {t = t} old new done gathered start was is st sh wrote some =
     let opened : (parted done).open_line ≡ [] → ⊥ = λ e. some (ap (λ (l : List ℕ). length l) (st.holds.line_is ∙ front_of_none 65536 (parted done).open_line e)) in
@@ -94,7 +94,7 @@ nothing_came None = tt
 nothing_came (Some xs) = refl
 
 pub at_start : {K : Type 0} {w : K → Option (List ℕ)} {f : K → ℕ} {t : K → ℕ → Type 0} (r : LogReader) (a : K) →
-    IsNew r → Stands w f t r [] a a
+    IsNew r → HasWritten w f t r [] a a
 unfolding parted
 at_start r a new = record {
   text = [];
@@ -108,7 +108,7 @@ at_start r a new = record {
 }
 
 pub at_first : {K : Type 0} {w : K → Option (List ℕ)} {f : K → ℕ} {t : K → ℕ → Type 0} (r : LogReader) (form : LogForm) (first : Option (List ℕ)) (was : K) (a : ℕ) →
-    IsNew r → r.form ≡ form → Reads w f t r form first first was was a a
+    IsNew r → r.form ≡ form → ReadsLog w f t r form first first was was a a
 at_first r form first was a new same = record {
   done = [];
   came = nothing_came first;
@@ -128,10 +128,10 @@ consumes_then (Some x) (Some y) None xs ys told p q = absurd q
 consumes_then (Some x) (Some y) (Some z) xs ys told p q = p ∙ ap (λ (w : List ℕ). xs ++ w) q ∙ sym (append_assoc xs ys z)
 
 pub reads_on : {K : Type 0} {w : K → Option (List ℕ)} {f : K → ℕ} {t : K → ℕ → Type 0} (r s : LogReader) (form : LogForm) (first now next : Option (List ℕ)) (was is will : K) (a b c : ℕ) (piece : List ℕ) →
-    Reads w f t r form first now was is a b → Consumes now next piece → StayTold now next →
+    ReadsLog w f t r form first now was is a b → Consumes now next piece → StayTold now next →
     length piece ≤ 9223372036854775807 - r.taken →
-    ((done : List ℕ) (start : K) → length done + length piece ≤ 9223372036854775807 → Stands w f t r done start is → Stands w f t s (done ++ piece) start will) →
-    s.form ≡ r.form → b ≤ c → f is ≤ f will → Reads w f t s form first next was will a c
+    ((done : List ℕ) (start : K) → length done + length piece ≤ 9223372036854775807 → HasWritten w f t r done start is → HasWritten w f t s (done ++ piece) start will) →
+    s.form ≡ r.form → b ≤ c → f is ≤ f will → ReadsLog w f t s form first next was will a c
 reads_on r s form first now next was is will a b c piece h came told fits taken same later wrote =
     let size = h.stands.holds.taken_is in
     let room : length h.done + length piece ≤ 9223372036854775807 = omega (arith, size, fits, h.small) in
@@ -148,9 +148,9 @@ reads_on r s form first now next was is will a b c piece h came told fits taken 
 
 -- each piece leaves less room
 pub less_room : {K : Type 0} {w : K → Option (List ℕ)} {f : K → ℕ} {t : K → ℕ → Type 0} (r s : LogReader) (form : LogForm) (first now : Option (List ℕ)) (was is will : K) (a b : ℕ) (piece : List ℕ) →
-    Reads w f t r form first now was is a b → 0 < length piece →
+    ReadsLog w f t r form first now was is a b → 0 < length piece →
     length piece ≤ 9223372036854775807 - r.taken →
-    ((done : List ℕ) (start : K) → length done + length piece ≤ 9223372036854775807 → Stands w f t r done start is → Stands w f t s (done ++ piece) start will) →
+    ((done : List ℕ) (start : K) → length done + length piece ≤ 9223372036854775807 → HasWritten w f t r done start is → HasWritten w f t s (done ++ piece) start will) →
     9223372036854775807 - s.taken < 9223372036854775807 - r.taken
 less_room r s form first now was is will a b piece h some fits taken =
     let room : length h.done + length piece ≤ 9223372036854775807 = omega (arith, h.stands.holds.taken_is, fits, h.small) in

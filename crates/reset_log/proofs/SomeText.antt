@@ -41,7 +41,7 @@ use Rattle.reset_log.specs.declared.notes.Pending.{Pending}
 use Rattle.reset_log.specs.Hear.{IsHeard, IsUnheard}
 use Rattle.reset_log.specs.Texts.{head, numbers, changes, node_changes, initiators, refused}
 use Rattle.reset_log.specs.Sentence.{packet_count, quad_at, IsBefore, sentence}
-use Rattle.reset_log.specs.Shown.{IsJudged, unjudged_text, garbled_text, lost_text, told_text, totals_text, IsBody, the_same, drawn, IsListShown, is_refused, is_heard, IsResetShown, is_passed_over, is_unjudged, is_judged, IsPendingShown, IsBegunShown, IsLastShown, IsPacketShown, IsShown, IsLineShown}
+use Rattle.reset_log.specs.Shown.{IsJudged, unjudged_text, garbled_text, lost_text, told_text, totals_text, IsBody, the_same, drawn, IsListShown, is_refused, is_heard, IsResetShown, is_passed_over, is_unjudged, is_judged, IsPendingShown, IsBegunShown, IsLastShown, IsPacketShown, IsLogLineShown, IsLineShown}
 use Rattle.reset_log.specs.Log.{lines_of}
 use Rattle.reset_log.specs.OneText.{EachLogHasAText}
 use Rattle.reset_log.proofs.InOrder.{told_some_in}
@@ -398,7 +398,7 @@ some_taken form (Some p) ks fit fine = some_last form (p.left == 0) p ks fit
 
 some_shown : (form : LogForm) (n : ℕ) (ks : Noted) (line : LogLine) →
     ((r : Reset) → line ≡ OfReset r → Fit r.list) →
-    ((card quad : ℕ) → line ≡ Packet card quad → quad < 2 ^ 32) → IsFine ks → SomeStep (IsShown form n ks line)
+    ((card quad : ℕ) → line ≡ Packet card quad → quad < 2 ^ 32) → IsFine ks → SomeStep (IsLogLineShown form n ks line)
 some_shown form n ks Other f g fine = ([], false, ks, (refl, refl, refl), fine)
 some_shown form n ks Lost f g fine = (lost_text form n, false, behind_loss ks, (refl, refl, refl), fine)
 some_shown form n ks (Said words) f g fine = (told_text form n words, false, ks, (refl, refl, refl), fine)

@@ -7,9 +7,9 @@ use Rattle.reset_log.specs.Notes.{noted}
 use Rattle.reset_log.specs.declared.line.LogLine.{LogLine}
 use Rattle.reset_log.specs.declared.log.LogReader.{LogReader}
 use Rattle.reset_log.specs.Line.{line_of}
-use Rattle.reset_log.specs.Shown.{IsShown, IsLineShown}
+use Rattle.reset_log.specs.Shown.{IsLogLineShown, IsLineShown}
 use Rattle.reset_log.specs.Log.{Parted, parted, AreShown}
-use Rattle.reset_log.specs.codings.Going.{Holds, ShowsLine, ShowsWhole, KeepsBytes, IsOneLine}
+use Rattle.reset_log.specs.codings.Going.{HasShown, ShowsLine, ShowsWhole, KeepsBytes, IsOneLine}
 use Rattle.reset_log.proofs.Going.{ends_line, goes_on, few_lines, same_line}
 use Rattle.reset_log.proofs.InOrder.{one_more}
 
@@ -27,9 +27,9 @@ pub by_front : (form : LogForm) (n m : ℕ) (ks js next : Noted) (kept line text
     IsLineShown form m ks line text bad next
 by_front form n m ks js next kept line text bad e f is shown =
     let same : line_of kept ≡ line_of line = ap line_of is ∙ same_line line in
-    subst (λ (l : LogLine). IsShown form m ks l text bad next) same
-    (subst (λ (j : Noted). IsShown form m j (line_of kept) text bad next) f
-    (subst (λ (k : ℕ). IsShown form k js (line_of kept) text bad next) e shown))
+    subst (λ (l : LogLine). IsLogLineShown form m ks l text bad next) same
+    (subst (λ (j : Noted). IsLogLineShown form m j (line_of kept) text bad next) f
+    (subst (λ (k : ℕ). IsLogLineShown form k js (line_of kept) text bad next) e shown))
 
 all_same : (s r : LogForm) (ks js : Noted) (a b : Bool) (lines : List (List ℕ)) (text : List ℕ) →
     r ≡ s → js ≡ ks → b ≡ a → AreShown s 1 nothing lines text a ks → AreShown r 1 nothing lines text b js
@@ -40,8 +40,8 @@ all_same s r ks js a b lines text e f g shown =
 
 -- behind bytes of a line
 pub after_bytes : (old new : LogReader) (done bytes text : List ℕ) → IsOneLine bytes →
-    length done + length bytes ≤ 9223372036854775807 → Holds old done text → KeepsBytes old new bytes →
-    Holds new (done ++ bytes) text
+    length done + length bytes ≤ 9223372036854775807 → HasShown old done text → KeepsBytes old new bytes →
+    HasShown new (done ++ bytes) text
 after_bytes old new done bytes text one few h k =
     let on = goes_on done bytes one in
     record {
@@ -55,9 +55,9 @@ after_bytes old new done bytes text one few h k =
 
 -- behind a line feed
 pub after_line : (old mid new : LogReader) (done text was is : List ℕ) →
-    length done < 9223372036854775807 → Holds old done (text ++ was) → ShowsLine mid new was is →
+    length done < 9223372036854775807 → HasShown old done (text ++ was) → ShowsLine mid new was is →
     mid.form ≡ old.form → noted mid.notes ≡ noted old.notes → mid.line.items ≡ old.line.items → mid.number ≡ old.number → mid.bad ≡ old.bad → mid.taken ≡ old.taken + 1 →
-    Holds new (done ++ 10 ∷ []) (text ++ is)
+    HasShown new (done ++ 10 ∷ []) (text ++ is)
 after_line old mid new done text was is few h sh es ec el en eb et =
     let lines = few_lines done in
     let small : mid.number < 2 ^ 63 = omega (arith, lines, few, en, h.number_is) in
@@ -91,8 +91,8 @@ opened lines rest = record { lines = lines; open_line = rest }
 -- behind a line that came whole, and its line feed
 pub after_whole : (old new : LogReader) (done bytes text was is : List ℕ) → IsOneLine bytes →
     length done + length bytes < 9223372036854775807 → length bytes ≤ 65536 → old.line.items ≡ [] →
-    Holds old done (text ++ was) → ShowsWhole old new bytes was is →
-    Holds new (done ++ (bytes ++ 10 ∷ [])) (text ++ is)
+    HasShown old done (text ++ was) → ShowsWhole old new bytes was is →
+    HasShown new (done ++ (bytes ++ 10 ∷ [])) (text ++ is)
 after_whole old new done bytes text was is one few fits empty h sh =
     let size = length-append done bytes in
     let lines = few_lines done in
@@ -110,7 +110,7 @@ after_whole old new done bytes text was is one few fits empty h sh =
     let end = ends_line (done ++ bytes) in
     let count : length (parted ((done ++ bytes) ++ 10 ∷ [])).lines ≡ length (parted (done ++ bytes)).lines + 1 =
     ap (λ (p : Parted). length p.lines) end ∙ length-append (parted (done ++ bytes)).lines ((parted (done ++ bytes)).open_line ∷ []) in
-    subst (λ (l : List ℕ). Holds new l (text ++ is)) (append_assoc done bytes (10 ∷ []))
+    subst (λ (l : List ℕ). HasShown new l (text ++ is)) (append_assoc done bytes (10 ∷ []))
     (record {
       shown =
           subst (λ (l : List ℕ). AreShown new.form 1 nothing (parted ((done ++ bytes) ++ 10 ∷ [])).lines l new.bad (noted new.notes)) (sym gathered)

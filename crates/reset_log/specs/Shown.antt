@@ -134,21 +134,21 @@ IsPacketShown form (Some p) n text bad next =
     IsLastShown form (p.left == 0) p n text bad next
 
 -- what is shown of what a line is
-abbrev pub IsShown : LogForm → ℕ → Noted → LogLine → List ℕ → Bool → Noted → Type 0
-IsShown form number n Other text bad next = (text ≡ []) × (bad ≡ false) × (next ≡ n)
-IsShown form number n Lost text bad next =
+abbrev pub IsLogLineShown : LogForm → ℕ → Noted → LogLine → List ℕ → Bool → Noted → Type 0
+IsLogLineShown form number n Other text bad next = (text ≡ []) × (bad ≡ false) × (next ≡ n)
+IsLogLineShown form number n Lost text bad next =
     (text ≡ lost_text form number) × (bad ≡ false) × (next ≡ behind_loss n)
-IsShown form number n (Said words) text bad next =
+IsLogLineShown form number n (Said words) text bad next =
     (text ≡ told_text form number words) × (bad ≡ false) × (next ≡ n)
-IsShown form number n Garbled text bad next =
+IsLogLineShown form number n Garbled text bad next =
     (text ≡ garbled_text form number) × (bad ≡ true) × (next ≡ n)
-IsShown form number n (Begins b) text bad next =
+IsLogLineShown form number n (Begins b) text bad next =
     IsBegunShown form number n b text bad next
-IsShown form number n (Packet card quad) text bad next =
+IsLogLineShown form number n (Packet card quad) text bad next =
     IsPacketShown form (taken_by n.pending card quad) n text bad next
-IsShown form number n (OfReset r) text bad next =
+IsLogLineShown form number n (OfReset r) text bad next =
     IsResetShown form number (last_of r.card n.cards) n r text bad next
 
 abbrev pub IsLineShown : LogForm → ℕ → Noted → List ℕ → List ℕ → Bool → Noted → Type 0
 IsLineShown form number n line text bad next =
-    IsShown form number n (line_of line) text bad next
+    IsLogLineShown form number n (line_of line) text bad next

@@ -6,7 +6,7 @@ ghost use Rattle.io_edges.specs.Faults.{Rose};
 ghost use Rattle.io_edges.specs.Told.{IfTold, TookOver};
 ghost use Rattle.self_id.specs.declared.standard.Standard.{Standard};
 ghost use Rattle.reset_log.specs.declared.form.LogForm.{LogForm};
-ghost use Rattle.reset_log.specs.codings.Going.{IsNew, Holds, Stands, ShowsLine, ShowsWhole, CountsWhole, KeepsBytes, IsOneLine, Begun, BreaksText, Broke, ShowsLines, ShowsAll};
+ghost use Rattle.reset_log.specs.codings.Going.{IsNew, HasShown, HasWritten, ShowsLine, ShowsWhole, CountsWhole, KeepsBytes, IsOneLine, Begun, BreaksText, Broke, ShowsLines, ShowsAll};
 ghost use Rattle.reset_log.specs.codings.InJson.{IfJson};
 ghost use Rattle.reset_log.specs.codings.Marks.{has_mark};
 ghost use Rattle.reset_log.specs.declared.line.LogLine.{LogLine};
@@ -175,8 +175,8 @@ impl LogReader {
         requires unmarked { quiet ≡ true → has_mark bytes.now ≡ false }
         ensures ok { OnOk result ((done text : List ℕ) → IsOneLine bytes.now →
             length done + length bytes.now < 9223372036854775807 →
-            Holds self.old done (text ++ out.old.items) →
-            Holds self.new (done ++ (bytes.now ++ 10 ∷ [])) (text ++ out.new.items)) }
+            HasShown self.old done (text ++ out.old.items) →
+            HasShown self.new (done ++ (bytes.now ++ 10 ∷ [])) (text ++ out.new.items)) }
         ensures part { OnErr result (out.new.items ≡ out.old.items) }
         ensures json { IfJson self.old.form (GathersJsonLines out.old.items out.new.items) }
         ensures same { OnOk result (self.new.form ≡ self.old.form) }
@@ -199,11 +199,11 @@ impl LogReader {
     fn gather(&mut self, alloc: Global, bytes: &[u8], out: &mut Vec<u8>) -> Result<(), AllocError>
         ensures ok { OnOk result ((done text : List ℕ) →
             length done + length bytes.now ≤ 9223372036854775807 →
-            Holds self.old done (text ++ out.old.items) →
-            Holds self.new (done ++ bytes.now) (text ++ out.new.items)) }
+            HasShown self.old done (text ++ out.old.items) →
+            HasShown self.new (done ++ bytes.now) (text ++ out.new.items)) }
         ensures begun { (done text : List ℕ) →
             length done + length bytes.now ≤ 9223372036854775807 →
-            Holds self.old done (text ++ out.old.items) →
+            HasShown self.old done (text ++ out.old.items) →
             Begun self.old.form (parted (done ++ bytes.now)).lines (text ++ out.new.items) }
         ensures json { IfJson self.old.form (GathersJsonLines out.old.items out.new.items) }
         ensures same { OnOk result (self.new.form ≡ self.old.form) }
@@ -223,11 +223,12 @@ impl LogReader {
     fn take<K: Sink>(&mut self, alloc: Global, bytes: &[u8], sink: &mut K) -> Result<(), LogStop>
         ensures ok { OnOk result ((done : List ℕ) (start : K) →
             length done + length bytes.now ≤ 9223372036854775807 →
-            Stands K.written K.faults K.surely_takes self.old done start sink.old →
-            Stands K.written K.faults K.surely_takes self.new (done ++ bytes.now) start sink.new) }
+            HasWritten K.written K.faults K.surely_takes self.old done start sink.old →
+            HasWritten K.written K.faults K.surely_takes
+            self.new (done ++ bytes.now) start sink.new) }
         ensures part { OnErr result ((done : List ℕ) (start : K) →
             length done + length bytes.now ≤ 9223372036854775807 →
-            Stands K.written K.faults K.surely_takes self.old done start sink.old →
+            HasWritten K.written K.faults K.surely_takes self.old done start sink.old →
             Broke K.written K.faults K.surely_takes
             self.old.form (parted (done ++ bytes.now)).lines start sink.new) }
         ensures json { OnOk result (IfJson self.old.form
@@ -246,11 +247,11 @@ impl LogReader {
     /// Shows the last line where no line feed ended it.
     fn show_last<K: Sink>(&mut self, alloc: Global, sink: &mut K) -> Result<(), LogStop>
         ensures ok { OnOk result ((done : List ℕ) (start : K) →
-            Stands K.written K.faults K.surely_takes self.old done start sink.old →
+            HasWritten K.written K.faults K.surely_takes self.old done start sink.old →
             ShowsLines K.written K.faults K.surely_takes
             self.new self.old.form (lines_of done) start sink.new) }
         ensures part { OnErr result ((done : List ℕ) (start : K) →
-            Stands K.written K.faults K.surely_takes self.old done start sink.old →
+            HasWritten K.written K.faults K.surely_takes self.old done start sink.old →
             Broke K.written K.faults K.surely_takes
             self.old.form (lines_of done) start sink.new) }
         ensures json { OnOk result (IfJson self.old.form
@@ -287,11 +288,11 @@ impl LogReader {
     /// line was at fault.
     fn finish<K: Sink>(&mut self, alloc: Global, sink: &mut K) -> Result<bool, LogStop>
         ensures ok { IfOk result (λ bad. (done : List ℕ) (start : K) →
-            Stands K.written K.faults K.surely_takes self.old done start sink.old →
+            HasWritten K.written K.faults K.surely_takes self.old done start sink.old →
             ShowsAll K.written K.faults K.surely_takes
             self.old.form (lines_of done) bad start sink.new) }
         ensures part { OnErr result ((done : List ℕ) (start : K) →
-            Stands K.written K.faults K.surely_takes self.old done start sink.old →
+            HasWritten K.written K.faults K.surely_takes self.old done start sink.old →
             WroteFrontOf K.written K.faults K.surely_takes
             (IsLogShown self.old.form (lines_of done)) start sink.new) }
         ensures json { OnOk result (IfJson self.old.form

@@ -19,18 +19,18 @@ pub record IsNew (r : LogReader) : Type 0 where
   pub bad_is : r.bad ≡ false
 
 -- it was given these bytes, and this is what is shown of their whole lines
-pub record Holds (r : LogReader) (done text : List ℕ) : Type 0 where
+pub record HasShown (r : LogReader) (done text : List ℕ) : Type 0 where
   pub shown : AreShown r.form 1 nothing (parted done).lines text r.bad (noted r.notes)
   pub line_is : r.line.items ≡ take 65536 (parted done).open_line
   pub number_is : r.number ≡ length (parted done).lines + 1
   pub taken_is : r.taken ≡ length done
 
 -- the same, and what is shown of them was written
-pub record Stands {K : Type 0} (written : K → Option (List ℕ)) (faults : K → ℕ)
+pub record HasWritten {K : Type 0} (written : K → Option (List ℕ)) (faults : K → ℕ)
     (surely_takes : K → ℕ → Type 0) (r : LogReader) (done : List ℕ) (old new : K) : Type 0
   where
     pub text : List ℕ
-    pub holds : Holds r done text
+    pub holds : HasShown r done text
     pub wrote : Wrote written faults surely_takes old new text
 
 -- what is shown of the line that was kept stands behind what was gathered
@@ -142,14 +142,14 @@ pub record ShowsAll {K : Type 0} (written : K → Option (List ℕ)) (faults : K
 
 -- what was read so far, and what was written of it; and the counts of faults of the source and of the
 -- sink, before and now
-pub record Reads {K : Type 0} (written : K → Option (List ℕ)) (faults : K → ℕ)
+pub record ReadsLog {K : Type 0} (written : K → Option (List ℕ)) (faults : K → ℕ)
     (surely_takes : K → ℕ → Type 0) (r : LogReader) (form : LogForm)
     (first now : Option (List ℕ)) (was is : K) (reads reading : ℕ) : Type 0
   where
     pub done : List ℕ
     pub came : Consumes first now done
     pub told : StayTold first now
-    pub stands : Stands written faults surely_takes r done was is
+    pub stands : HasWritten written faults surely_takes r done was is
     pub small : length done ≤ 9223372036854775807
     pub same : r.form ≡ form
     pub later : reads ≤ reading

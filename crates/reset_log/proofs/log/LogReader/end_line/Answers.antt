@@ -1,5 +1,5 @@
 use Rattle.std.proofs.Common.{◌≡◌, ◌+◌, ◌++◌, ◌∷◌, [], ℕ, List, refl, subst, append_assoc, length-append, arith}
-use Rattle.reset_log.specs.codings.Going.{Holds}
+use Rattle.reset_log.specs.codings.Going.{HasShown}
 use Rattle.reset_log.proofs.Standing.{after_bytes, after_line, after_whole}
 use Rattle.reset_log.proofs.InJson.{gathered_none}
 use Rattle.reset_log.proofs.log.LogReader.end_line.Goals as goal
@@ -9,7 +9,7 @@ returns-clause-ok c = λ done text one few h.
     let size = length-append done c.args.bytes.now in
     let mid = after_bytes c.args.self.now c.keep.new.self done c.args.bytes.now (text ++ c.args.out.now.items) one (omega (arith, few)) h c.in_ok-keep.ensures in
     let more : c.saturating_add-self.result ≡ c.keep.new.self.taken + 1 = omega (arith, c.saturating_add-self.ensures, mid.taken_is, few, size) in
-    subst (λ (l : List ℕ). Holds c.show.new.self l (text ++ c.show.new.out.items)) (append_assoc done c.args.bytes.now (10 ∷ []))
+    subst (λ (l : List ℕ). HasShown c.show.new.self l (text ++ c.show.new.out.items)) (append_assoc done c.args.bytes.now (10 ∷ []))
     (after_line c.keep.new.self _ c.show.new.self (done ++ c.args.bytes.now) text c.args.out.now.items c.show.new.out.items (omega (arith, few, size)) mid c.in_ok-show.ensures.ok refl refl refl refl refl more)
 
 pub returns-then-is_whole-clause-ok : goal.returns-then-is_whole-clause-ok

@@ -1,5 +1,5 @@
 use Rattle.std.proofs.Common.{◌∙◌, ◌++◌, ◌∷◌, [], ℕ, List, refl, sym, ap, subst, append_assoc, append-nil}
-use Rattle.reset_log.specs.codings.Going.{Holds}
+use Rattle.reset_log.specs.codings.Going.{HasShown}
 use Rattle.reset_log.proofs.Standing.{after_bytes}
 use Rattle.reset_log.proofs.Fronts.{begun_so_far}
 use Rattle.reset_log.proofs.Going.{took_on, few_on, few_left, few_next}
@@ -12,7 +12,8 @@ pub loop-line-init : goal.loop-line-init
 loop-line-init c = (
   [],
   refl,
-  λ done text few h. subst (λ (l : List ℕ). Holds c.args.self.now l (text ++ c.args.out.now.items))
+  λ done text few h.
+      subst (λ (l : List ℕ). HasShown c.args.self.now l (text ++ c.args.out.now.items))
       (sym (append-nil done)) h,
   refl,
   gathered_none c.args.self.now.form c.args.out.now.items _ refl,
@@ -27,7 +28,7 @@ loop-line-preserved c =
       so.0 ++ (c.in-Some.line.now ++ 10 ∷ []),
       next,
       λ done text few h.
-          subst (λ (l : List ℕ). Holds c.end_line.new.self l (text ++ c.end_line.new.out.items))
+          subst (λ (l : List ℕ). HasShown c.end_line.new.self l (text ++ c.end_line.new.out.items))
           (append_assoc done so.0 (c.in-Some.line.now ++ 10 ∷ []))
           (c.in_ok-end_line.ensures.ok (done ++ so.0) text c.in-Some.ensures.first
           (few_next done c.args.bytes.now so.0 c.loop-line.rest.now c.in-Some.line.now
@@ -48,7 +49,7 @@ loop-line-smaller c =
 pub returns-clause-ok : goal.returns-clause-ok
 returns-clause-ok c = λ done text few h.
     let so = c.loop-line.invariant in
-    subst (λ (l : List ℕ). Holds c.keep.new.self l (text ++ c.loop-line.out.items))
+    subst (λ (l : List ℕ). HasShown c.keep.new.self l (text ++ c.loop-line.out.items))
     (append_assoc done so.0 c.loop-line.rest.now ∙ ap (λ (l : List ℕ). done ++ l) (sym so.1))
     (after_bytes c.loop-line.self c.keep.new.self (done ++ so.0) c.loop-line.rest.now
     (text ++ c.loop-line.out.items) c.in_default.ensures.whole
