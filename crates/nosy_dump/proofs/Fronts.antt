@@ -22,7 +22,7 @@ use Rattle.nosy_dump.specs.Resets.{resets_from}
 use Rattle.nosy_dump.specs.Noted.{Noted, nothing}
 use Rattle.nosy_dump.specs.Notes.{noted}
 use Rattle.nosy_dump.specs.Dump.{last_text, IsResetShown, IsDumpShown, IsWritten}
-use Rattle.nosy_dump.specs.codings.Going.{AreResets, Knows, HasBadLength, ShowsBy, Stays, Goes, Opens, Leads, Writes, Reads}
+use Rattle.nosy_dump.specs.codings.Going.{AreResets, Knows, HasBadLength, ShowsBy, Stays, Goes, Opens, Leads, Writes, ReadsDump}
 use Rattle.nosy_dump.proofs.Records.{resets_other, resets_reset, resets_packet, fresh, last_with}
 use Rattle.nosy_dump.proofs.OneText.{front_records, one_parting, same_reset, one_text}
 use Rattle.nosy_dump.proofs.Going.{shown_now, holds_written, front_ends}
@@ -292,7 +292,7 @@ front_of r done left old new all = λ text bad is.
 -- no more was read
 pub front_left : {K : Type 0} {w : K → Option (List ℕ)} {f : K → ℕ} {t : K → ℕ → Type 0}
     (r : DumpReader) (form : LogForm) (first now : Option (List ℕ)) (was is : K) (a b : ℕ) →
-    Reads w f t r form first now was is a b →
+    ReadsDump w f t r form first now was is a b →
     IfSome first (λ dump. WroteFrontOf w f t (IsDumpShown form dump) was is)
 front_left {w = w} {f = f} {t = t} r form first now was is a b h =
     log_left first now h.done (λ dump. WroteFrontOf w f t (IsDumpShown form dump) was is) h.came
@@ -305,7 +305,7 @@ front_left {w = w} {f = f} {t = t} r form first now was is a b h =
 pub front_piece : {K : Type 0} {w : K → Option (List ℕ)} {f : K → ℕ} {t : K → ℕ → Type 0}
     (r : DumpReader) (form : LogForm) (first now next : Option (List ℕ)) (was is will : K) (a b : ℕ)
     (piece : List ℕ) →
-    Reads w f t r form first now was is a b → Consumes now next piece → StayTold now next →
+    ReadsDump w f t r form first now was is a b → Consumes now next piece → StayTold now next →
     length piece ≤ 9223372036854775807 - r.taken →
     ((done left : List ℕ) (start : K) → length done + length piece ≤ 9223372036854775807 →
     Writes w f t (Knows IsOpen r done) start is →
@@ -332,7 +332,7 @@ ends_so form dump old new (Err stop) ok part = part
 pub front_end : {K : Type 0} {w : K → Option (List ℕ)} {f : K → ℕ} {t : K → ℕ → Type 0}
     (r : DumpReader) (form : LogForm) (first now next : Option (List ℕ)) (was is will : K) (a b : ℕ)
     (fault : Option DumpFault) (result : Result Bool LogStop) →
-    Reads w f t r form first now was is a b → Consumes now next [] → IsAtEnd next →
+    ReadsDump w f t r form first now was is a b → Consumes now next [] → IsAtEnd next →
     (IsOpen r.part.items → EndsSo (r.part.items ++ []) fault) →
     IfOk result (λ bad. (done more : List ℕ) (start : K) → length done ≤ 9223372036854775807 →
     Writes w f t (Knows (λ bytes. EndsSo (bytes ++ more) fault) r done) start is →
@@ -357,7 +357,7 @@ front_end {w = w} {f = f} {t = t} r form first now next was is will a b fault re
 pub front_cut : {K : Type 0} {w : K → Option (List ℕ)} {f : K → ℕ} {t : K → ℕ → Type 0}
     (r s : DumpReader) (form : LogForm) (first now next : Option (List ℕ)) (was is mid will : K)
     (a b : ℕ) (piece : List ℕ) (size : ℕ) (result : Result Bool LogStop) →
-    Reads w f t r form first now was is a b → Consumes now next piece → StayTold now next →
+    ReadsDump w f t r form first now was is a b → Consumes now next piece → StayTold now next →
     length piece ≤ 9223372036854775807 - r.taken →
     ((done : List ℕ) (start : K) → length done + length piece ≤ 9223372036854775807 →
     Writes w f t (Knows IsOpen r done) start is →

@@ -10,13 +10,13 @@ use Rattle.nosy_dump.specs.declared.record.DumpFault.{DumpFault}
 use Rattle.nosy_dump.specs.declared.record.DumpFault.TheVariants.{BadLength}
 use Rattle.nosy_dump.specs.Record.{IsOpen, EndsSo}
 use Rattle.nosy_dump.specs.Dump.{IsDumpShown, IsBegunWritten}
-use Rattle.nosy_dump.specs.codings.Going.{IsNew, Knows, Goes, Writes, WritesAsJson, Reads}
+use Rattle.nosy_dump.specs.codings.Going.{IsNew, Knows, Goes, Writes, WritesAsJson, ReadsDump}
 use Rattle.nosy_dump.proofs.AsJson.{write_none, write_both}
 use Rattle.nosy_dump.proofs.Going.{at_start, holds_written, front_ends, begun}
 
 pub at_first : {K : Type 0} {w : K → Option (List ℕ)} {f : K → ℕ} {t : K → ℕ → Type 0}
     (r : DumpReader) (form : LogForm) (first : Option (List ℕ)) (was : K) (a : ℕ) →
-    IsNew r → r.form ≡ form → Reads w f t r form first first was was a a
+    IsNew r → r.form ≡ form → ReadsDump w f t r form first first was was a a
 at_first r form first was a new same = record {
   done = [];
   came = nothing_came first;
@@ -32,20 +32,21 @@ at_first r form first was a new same = record {
 -- there is room for a piece
 pub room : {K : Type 0} {w : K → Option (List ℕ)} {f : K → ℕ} {t : K → ℕ → Type 0} (r : DumpReader)
     (form : LogForm) (first now : Option (List ℕ)) (was is : K) (a b : ℕ) (piece : List ℕ) →
-    (h : Reads w f t r form first now was is a b) → length piece ≤ 9223372036854775807 - r.taken →
+    (h : ReadsDump w f t r form first now was is a b) →
+    length piece ≤ 9223372036854775807 - r.taken →
     length h.done + length piece ≤ 9223372036854775807
 room r form first now was is a b piece h fits = omega (arith, h.stands.is.taken_is, fits, h.small)
 
 pub reads_on : {K : Type 0} {w : K → Option (List ℕ)} {f : K → ℕ} {t : K → ℕ → Type 0}
     (r s : DumpReader) (form : LogForm) (first now next : Option (List ℕ)) (was is will : K)
     (a b c : ℕ) (piece : List ℕ) →
-    Reads w f t r form first now was is a b → Consumes now next piece → StayTold now next →
+    ReadsDump w f t r form first now was is a b → Consumes now next piece → StayTold now next →
     length piece ≤ 9223372036854775807 - r.taken →
     ((done : List ℕ) (start : K) → length done + length piece ≤ 9223372036854775807 →
     Writes w f t (Knows IsOpen r done) start is → Writes w f t (Goes None s (done ++ piece))
     start will) →
     s.form ≡ r.form → b ≤ c → f is ≤ f will → WritesAsJson r.form (w is) (w will) →
-    Reads w f t s form first next was will a c
+    ReadsDump w f t s form first next was will a c
 reads_on {w = w} {f = f} {t = t} r s form first now next was is will a b c piece h came told fits
     taken same later wrote json =
     let fit = room r form first now was is a b piece h fits in
@@ -67,7 +68,7 @@ reads_on {w = w} {f = f} {t = t} r s form first now next was is will a b c piece
 pub less_room : {K : Type 0} {w : K → Option (List ℕ)} {f : K → ℕ} {t : K → ℕ → Type 0}
     (r s : DumpReader) (form : LogForm) (first now : Option (List ℕ)) (was is will : K) (a b : ℕ)
     (piece : List ℕ) →
-    Reads w f t r form first now was is a b → 0 < length piece →
+    ReadsDump w f t r form first now was is a b → 0 < length piece →
     length piece ≤ 9223372036854775807 - r.taken →
     ((done : List ℕ) (start : K) → length done + length piece ≤ 9223372036854775807 →
     Writes w f t (Knows IsOpen r done) start is → Writes w f t (Goes None s (done ++ piece))
@@ -82,7 +83,7 @@ less_room {w = w} {f = f} {t = t} r s form first now was is will a b piece h som
 -- what is written at a read that fails
 pub waited : {K : Type 0} {w : K → Option (List ℕ)} {f : K → ℕ} {t : K → ℕ → Type 0}
     (r : DumpReader) (form : LogForm) (first now next : Option (List ℕ)) (was is : K) (a b : ℕ) →
-    Reads w f t r form first now was is a b → Keeps now next →
+    ReadsDump w f t r form first now was is a b → Keeps now next →
     (read : List ℕ) × Consumes first next read × IsBegunWritten form (w was) (w is) read
 waited {w = w} r form first now next was is a b h still = (
   h.done,
@@ -111,7 +112,7 @@ not_well bad fault P f e = let none : Some fault ≡ None = f e in absurd cc
 pub whole : {K : Type 0} {w : K → Option (List ℕ)} {f : K → ℕ} {t : K → ℕ → Type 0} (r : DumpReader)
     (form : LogForm) (first now next : Option (List ℕ)) (was is will : K) (a b : ℕ)
     (fault : Option DumpFault) (bad : Bool) →
-    Reads w f t r form first now was is a b → Consumes now next [] → IsAtEnd next →
+    ReadsDump w f t r form first now was is a b → Consumes now next [] → IsAtEnd next →
     (IsOpen r.part.items → EndsSo (r.part.items ++ []) fault) →
     ((done more : List ℕ) (start : K) → length done ≤ 9223372036854775807 →
     Writes w f t (Knows (λ bytes. EndsSo (bytes ++ more) fault) r done) start is →
@@ -138,7 +139,7 @@ dump_left (Some x) (Some y) (Some z) xs ys P p q told still each =
 pub cut_off : {K : Type 0} {w : K → Option (List ℕ)} {f : K → ℕ} {t : K → ℕ → Type 0}
     (r s : DumpReader) (form : LogForm) (first now next : Option (List ℕ)) (was is mid will : K)
     (a b : ℕ) (piece : List ℕ) (size : ℕ) (bad : Bool) →
-    Reads w f t r form first now was is a b → Consumes now next piece → StayTold now next →
+    ReadsDump w f t r form first now was is a b → Consumes now next piece → StayTold now next →
     length piece ≤ 9223372036854775807 - r.taken →
     ((done : List ℕ) (start : K) → length done + length piece ≤ 9223372036854775807 →
     Writes w f t (Knows IsOpen r done) start is →

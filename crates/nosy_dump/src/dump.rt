@@ -12,7 +12,7 @@ ghost use Rattle.self_id.specs.declared.standard.Standard.{Standard};
 ghost use Rattle.std.specs.Option.{option_copied};
 ghost use Rattle.nosy_dump.specs.Dump.{IsJudged, last_text, IsDumpShown, IsWritten, IsBegunWritten};
 ghost use Rattle.nosy_dump.specs.Notes.{noted};
-ghost use Rattle.nosy_dump.specs.codings.Going.{IsNew, Knows, Awaits, IsWhole, IsFilled, ShowsReset, Shows, Begins, Keeps, Stays, Goes, Leads, Opens, Writes, AreAsJson, GathersAsJson, WritesAsJson};
+ghost use Rattle.nosy_dump.specs.codings.Going.{IsNew, Knows, Awaits, IsWhole, IsFilled, ShowsReset, ShowsPending, Begins, Keeps, Stays, Goes, Leads, Opens, Writes, AreAsJson, GathersAsJson, WritesAsJson};
 
 use crate::notes::Notes;
 use crate::record::{DumpFault, DumpReset, Record, front_record, is_size, record_of, size_of};
@@ -161,7 +161,7 @@ impl DumpReader {
 
     /// Shows the reset that waits, if one does, behind what was gathered.
     fn show(&mut self, alloc: Global, out: &mut Vec<u8>) -> Result<(), AllocError>
-        ensures ok { OnOk result (Shows self.old self.new out.old.items out.new.items) }
+        ensures ok { OnOk result (ShowsPending self.old self.new out.old.items out.new.items) }
         ensures part { OnErr result (out.new.items ≡ out.old.items) }
         ensures json { OnOk result (GathersAsJson self.old.form out.old.items out.new.items) }
     {

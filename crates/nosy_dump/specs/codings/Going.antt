@@ -98,7 +98,7 @@ ShowsBy form None n t b m u c was is = ShowsNone n t b m u c was is
 ShowsBy form (Some p) n t b m u c was is = ShowsReset form p n t b m u c was is
 
 -- the reset that waited was shown, if one did, and nothing else was changed
-pub record Shows (old new : DumpReader) (was is : List ℕ) : Type 0 where
+pub record ShowsPending (old new : DumpReader) (was is : List ℕ) : Type 0 where
   pub shown :
       ShowsBy old.form old.pending old.number (noted old.notes) old.bad
       new.number (noted new.notes) new.bad was is
@@ -108,7 +108,7 @@ pub record Shows (old new : DumpReader) (was is : List ℕ) : Type 0 where
 
 -- the same, and another reset waits
 pub record Begins (byte time : ℕ) (old new : DumpReader) (was is : List ℕ) : Type 0 where
-  pub shows : Shows old new was is
+  pub shows : ShowsPending old new was is
   pub pending : new.pending ≡ Some (record { byte = byte; time = time; list = [] })
 
 -- a packet behind those of the reset that waits, if one does
@@ -169,7 +169,7 @@ WritesAsJson form old new =
 
 -- what was read so far, and what was written of it; and the counts of faults of the source and
 -- of the sink, before and now
-pub record Reads {K : Type 0} (written : K → Option (List ℕ)) (faults : K → ℕ)
+pub record ReadsDump {K : Type 0} (written : K → Option (List ℕ)) (faults : K → ℕ)
     (surely_takes : K → ℕ → Type 0) (r : DumpReader) (form : LogForm)
     (first now : Option (List ℕ)) (was is : K) (reads reading : ℕ) : Type 0
   where
