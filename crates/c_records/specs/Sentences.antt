@@ -8,12 +8,12 @@ use Rattle.c_records.specs.declared.records.FaultRecord.{FaultRecord}
 use Rattle.c_records.specs.Faults.{tree_fault_in}
 
 -- the packet that a quadlet shows, if there is one
-abbrev pub IsShown : Option ℕ → Option PhyPacket → Type 0
-IsShown None packet = packet ≡ None
-IsShown (Some quad) packet = (p : PhyPacket) × Shows quad p × (packet ≡ Some p)
+abbrev pub IsPacketOf : Option ℕ → Option PhyPacket → Type 0
+IsPacketOf None packet = packet ≡ None
+IsPacketOf (Some quad) packet = (p : PhyPacket) × Shows quad p × (packet ≡ Some p)
 
 -- the sentence of a list's fault by a standard, of the quadlet at its place and the one before, if there is one
 pub record IsSentence (s : Standard) (quad : ℕ) (prior : Option ℕ) (r : FaultRecord) (text : List ℕ) : Type 0 where
   pub before : Option PhyPacket
-  pub shown : IsShown prior before
+  pub shown : IsPacketOf prior before
   pub text_is : text ≡ tree_sentence s quad before (tree_fault_in r)

@@ -1,5 +1,5 @@
 //! The sentence of a fault's record.
-ghost use Rattle.c_records.specs.Sentences.{IsShown, IsSentence};
+ghost use Rattle.c_records.specs.Sentences.{IsPacketOf, IsSentence};
 
 use crate::fault::tree_fault_in;
 use crate::records::FaultRecord;
@@ -10,7 +10,7 @@ use view_text::tree_sentence;
 
 /// The packet that a quadlet shows, if there is one.
 fn shown(quad: Option<u32>) -> Option<PhyPacket>
-    ensures { IsShown quad result }
+    ensures { IsPacketOf quad result }
 {
     match quad {
         Some(quad) => Some(decode(quad)),
