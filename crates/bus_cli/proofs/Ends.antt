@@ -26,7 +26,7 @@ use Rattle.bus_cli.specs.declared.form.CaptureForm.TheVariants.{Read, Read95, Ma
 use Rattle.bus_cli.specs.Form.{Asks, standard_of}
 use Rattle.capture_reading.specs.Capture.{Spells, CaptureRefused}
 use Rattle.capture_reading.specs.Line.{fault_line}
-use Rattle.bus_cli.specs.codings.Reading.{Reads, Shows, status_with, text_with}
+use Rattle.bus_cli.specs.codings.Reading.{IsReadAs, IsTextIn, status_with, text_with}
 use Rattle.bus_cli.specs.Answer.{AnswersForm, Answers}
 use Rattle.script_run.specs.Answer.{PrintsRun}
 use Rattle.io_edges.specs.Streams.{IsWritten}
@@ -38,7 +38,7 @@ use Rattle.bus_cli.proofs.Forms.{one_form}
 -- a tree is shown in its form
 pub shown :
     (form : CaptureForm) (bytes : List ℕ) (t : Tree) (text : List ℕ) → Spells (standard_of form) bytes t →
-    Shows form t text → AnswersForm (Capture form) bytes 0 text
+    IsTextIn form t text → AnswersForm (Capture form) bytes 0 text
 shown Read bytes t text spells shows = inl (refl, (t, spells, shows))
 shown Read95 bytes t text spells shows = inl (refl, (t, spells, shows))
 shown Maps bytes t text spells shows = inl (refl, (t, spells, shows))
@@ -54,9 +54,9 @@ capture_refused Maps bytes f text refused is = inr (refl, (f, refused, is))
 -- what answers a stop answers the reading that stopped
 pub stopped :
     (form : CaptureForm) (reading : Result Tree CaptureStop) (stop : CaptureStop) (r : Result Answer AllocError) → reading ≡ Err stop →
-    IfOk r (λ a. (form : CaptureForm) (bytes : List ℕ) → Reads (standard_of form) bytes (Err stop) → AnswersForm (Capture form) bytes (status_with a) (text_with a)) →
-    IfOk r (λ a. (bytes : List ℕ) → Reads (standard_of form) bytes reading → AnswersForm (Capture form) bytes (status_with a) (text_with a))
-stopped form reading stop (Ok a) is h = λ bytes reads. h form bytes (subst (λ (x : Result Tree CaptureStop). Reads (standard_of form) bytes x) is reads)
+    IfOk r (λ a. (form : CaptureForm) (bytes : List ℕ) → IsReadAs (standard_of form) bytes (Err stop) → AnswersForm (Capture form) bytes (status_with a) (text_with a)) →
+    IfOk r (λ a. (bytes : List ℕ) → IsReadAs (standard_of form) bytes reading → AnswersForm (Capture form) bytes (status_with a) (text_with a))
+stopped form reading stop (Ok a) is h = λ bytes reads. h form bytes (subst (λ (x : Result Tree CaptureStop). IsReadAs (standard_of form) bytes x) is reads)
 stopped form reading stop (Err e) is h = tt
 
 -- ---- scripts

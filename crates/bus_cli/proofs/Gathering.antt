@@ -21,7 +21,7 @@ use Rattle.capture_reading.specs.Capture.{IsCaptureOf, Spells, CaptureRefused}
 use Rattle.capture_reading.specs.Stop.{of_tree, IfFault, IfMemory}
 use Rattle.capture_reading.specs.declared.fault.CaptureStop.{CaptureStop}
 use Rattle.capture_reading.specs.declared.fault.CaptureStop.TheVariants.{Fault, Memory}
-use Rattle.bus_cli.specs.codings.Reading.{Reads, SparesMemory}
+use Rattle.bus_cli.specs.codings.Reading.{IsReadAs, SparesMemory}
 use Rattle.bus_cli.specs.codings.Late.{Late, IsListOf}
 use Rattle.bus_cli.specs.codings.Pieces.{Pieces, HoldsExactly, bad_after}
 use Rattle.capture_reading.proofs.Lemmas.{is_capture}
@@ -152,7 +152,7 @@ pub reads_all : (bytes : List ℕ) (r : Pieces) (reading : Result Tree CaptureSt
     HoldsExactly r bytes →
     IfOk reading (λ t. (b : List ℕ) → HoldsExactly r b → Spells Ieee2000 b t) →
     IfFault reading (λ f. (b : List ℕ) → HoldsExactly r b → CaptureRefused Ieee2000 b f) →
-    Reads Ieee2000 bytes reading
+    IsReadAs Ieee2000 bytes reading
 reads_all bytes r (Ok t) h tree fault = tree bytes h
 reads_all bytes r (Err (Fault f)) h tree fault = fault bytes h
 reads_all bytes r (Err (Memory e)) h tree fault = tt

@@ -4,7 +4,7 @@ ghost use Rattle.bus_cli.specs.declared.form.Form.TheVariants.{Capture};
 ghost use Rattle.bus_cli.specs.declared.form.CaptureForm.{CaptureForm};
 ghost use Rattle.bus_cli.specs.Form.{standard_of};
 ghost use Rattle.bus_cli.specs.Answer.{AnswersForm, AnswersOfItself};
-ghost use Rattle.bus_cli.specs.codings.Reading.{Reads, Shows, IsNoFault, status_with, text_with};
+ghost use Rattle.bus_cli.specs.codings.Reading.{IsReadAs, IsTextIn, IsNoFault, status_with, text_with};
 
 use crate::form::CaptureForm;
 use crate::help::HELP;
@@ -47,7 +47,7 @@ impl Told for Answer {
 
 /// The text of a tree in a form.
 fn shown_text(alloc: Global, form: CaptureForm, tree: &BusTree) -> Result<Vec<u8>, OutOfMemory>
-    ensures { IfOk result (λ text. Shows form tree.now text.items) }
+    ensures { IfOk result (λ text. IsTextIn form tree.now text.items) }
 {
     match form {
         CaptureForm::Read | CaptureForm::Read95 => tree_text(alloc, tree, &NameList::new(alloc)),
@@ -58,7 +58,7 @@ fn shown_text(alloc: Global, form: CaptureForm, tree: &BusTree) -> Result<Vec<u8
 /// The answer where no tree was found. No memory is taken.
 fn answer_to_stop(stop: CaptureStop) -> Result<Answer, OutOfMemory>
     ensures answer { IfOk result (λ answer. (form : CaptureForm) (bytes : List ℕ) →
-        Reads (standard_of form) bytes (Err stop) →
+        IsReadAs (standard_of form) bytes (Err stop) →
         AnswersForm (Capture form) bytes (status_with answer) (text_with answer)) }
     ensures memory { OnErr result (IsNoFault (Err stop)) }
 {
@@ -75,7 +75,7 @@ pub(crate) fn answer_to(
     reading: Result<BusTree, CaptureStop>,
 ) -> Result<Answer, OutOfMemory>
     ensures answer { IfOk result (λ answer. (bytes : List ℕ) →
-        Reads (standard_of form) bytes reading →
+        IsReadAs (standard_of form) bytes reading →
         AnswersForm (Capture form) bytes (status_with answer) (text_with answer)) }
     ensures memory { OnErr result (IsNoFault reading) }
 {

@@ -4,7 +4,7 @@ ghost use Rattle.std.specs.Io.KnownBytes.{IsAtEnd};
 ghost use Rattle.io_edges.specs.Faults.{Rose};
 ghost use Rattle.io_edges.specs.Told.{AreLeft, IfTold, TookOver};
 ghost use Rattle.bus_cli.specs.Form.{standard_of};
-ghost use Rattle.bus_cli.specs.codings.Reading.{Reads, SparesMemory};
+ghost use Rattle.bus_cli.specs.codings.Reading.{IsReadAs, SparesMemory};
 
 use crate::form::CaptureForm;
 use crate::reader::CaptureReader;
@@ -22,7 +22,7 @@ pub(crate) fn read_input<S: Source>(
     source: &mut S,
 ) -> Result<Result<BusTree, CaptureStop>, ReadStop>
     ensures reading { IfOk result (λ reading. (bytes : List ℕ) × AreLeft (S.left source.old) bytes
-        × Reads (standard_of form) bytes reading
+        × IsReadAs (standard_of form) bytes reading
         × (form ≡ CaptureForm.Read → SparesMemory bytes reading)) }
     ensures end { OnOk result (IsAtEnd (S.left source.new)) }
 

@@ -6,7 +6,7 @@ ghost use Rattle.capture_reading.specs.Capture.{Spells, CaptureRefused};
 ghost use Rattle.capture_reading.specs.Stop.{IfFault, IfMemory};
 ghost use Rattle.quad_lanes.specs.Pairs.{quads_of};
 ghost use Rattle.bus_cli.specs.codings.Late.{IsListOf};
-ghost use Rattle.bus_cli.specs.codings.Pieces.{Holds, HoldsExactly, bad_after};
+ghost use Rattle.bus_cli.specs.codings.Pieces.{HoldsBytes, HoldsExactly, bad_after};
 
 use crate::late::LateReader;
 use arrayvec::ArrayVec;
@@ -62,7 +62,7 @@ fn pair_of(bytes: &[u8]) -> Option<(u32, u32)>
 impl CaptureReader {
     /// A reader that was given nothing.
     pub(crate) fn new() -> CaptureReader
-        ensures { Holds result [] }
+        ensures { HoldsBytes result [] }
     {
         CaptureReader {
             rest: ArrayVec::new(),
@@ -90,7 +90,8 @@ impl CaptureReader {
 
     /// Takes a byte.
     fn push_byte(&mut self, byte: u8)
-        ensures { (bytes : List ℕ) → Holds self.old bytes → Holds self.new (bytes ++ byte ∷ []) }
+        ensures { (bytes : List ℕ) → HoldsBytes self.old bytes
+            → HoldsBytes self.new (bytes ++ byte ∷ []) }
     {
         self.rest.push(byte);
         if let Some((first, second)) = pair_of(&self.rest) {
@@ -105,8 +106,8 @@ impl CaptureReader {
         requires { 0 < length piece.now }
         ensures some { 0 < result }
         ensures most { result ≤ length piece.now }
-        ensures held { (bytes : List ℕ) → Holds self.old bytes
-            → Holds self.new (bytes ++ take result piece.now) }
+        ensures held { (bytes : List ℕ) → HoldsBytes self.old bytes
+            → HoldsBytes self.new (bytes ++ take result piece.now) }
     {
         if self.rest.is_empty() && piece.len() >= 8 {
             if let Some((first, second)) = pair_of(&piece[..8]) {
@@ -141,9 +142,9 @@ impl CaptureReader {
 }
 
 impl Taker for CaptureReader {
-    ghost use Rattle.bus_cli.specs.codings.Pieces.{Holds};
+    ghost use Rattle.bus_cli.specs.codings.Pieces.{HoldsBytes};
 
-    ghost stands_for = { Holds };
+    ghost stands_for = { HoldsBytes };
 
     fn take(&mut self, piece: &[u8]) {
         let mut at = 0;

@@ -21,8 +21,8 @@ pub record HoldsExactly (r : Pieces) (bytes : List ℕ) : Type 0 where
   pub fit : All (λ b. b < 256) bytes
 
 -- so it is of all bytes that aren't absurdly many
-abbrev pub Holds : Pieces → List ℕ → Type 0
-Holds r bytes = length bytes ≤ 2 ^ 60 → HoldsExactly r bytes
+abbrev pub HoldsBytes : Pieces → List ℕ → Type 0
+HoldsBytes r bytes = length bytes ≤ 2 ^ 60 → HoldsExactly r bytes
 
 -- the first bad pair, after one pair more with a number
 abbrev pub bad_after : Option ℕ → ℕ × ℕ → ℕ → Option ℕ

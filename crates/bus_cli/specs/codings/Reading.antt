@@ -35,10 +35,10 @@ AsksFewNodes (Make nodes seed) = (1 ≤ nodes) × (nodes ≤ 63)
 AsksFewNodes (OfItself about) = Unit {0}
 
 -- by a standard the bytes spell the tree or have the fault; of want of memory nothing is said
-abbrev pub Reads : Standard → List ℕ → Result Tree CaptureStop → Type 0
-Reads standard bytes (Ok t) = Spells standard bytes t
-Reads standard bytes (Err (Fault f)) = CaptureRefused standard bytes f
-Reads standard bytes (Err (Memory e)) = Unit {0}
+abbrev pub IsReadAs : Standard → List ℕ → Result Tree CaptureStop → Type 0
+IsReadAs standard bytes (Ok t) = Spells standard bytes t
+IsReadAs standard bytes (Err (Fault f)) = CaptureRefused standard bytes f
+IsReadAs standard bytes (Err (Memory e)) = Unit {0}
 
 -- want of memory comes only where the bytes spell a tree
 abbrev pub SparesMemory : List ℕ → Result Tree CaptureStop → Type 0
@@ -68,7 +68,7 @@ text_with (Valid text) = text.items
 text_with (Refused line) = line
 
 -- how a tree is shown in a form: as its text with no names, or as its maps with generation 1
-abbrev pub Shows : CaptureForm → Tree → List ℕ → Type 0
-Shows Read t text = text ≡ tree_text t []
-Shows Read95 t text = text ≡ tree_text t []
-Shows Maps t text = IsMapsText 1 t text
+abbrev pub IsTextIn : CaptureForm → Tree → List ℕ → Type 0
+IsTextIn Read t text = text ≡ tree_text t []
+IsTextIn Read95 t text = text ≡ tree_text t []
+IsTextIn Maps t text = IsMapsText 1 t text

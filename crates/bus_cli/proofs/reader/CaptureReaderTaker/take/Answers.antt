@@ -1,6 +1,6 @@
 use Rattle.std.proofs.Common.{◌++◌, List, ℕ, take, drop, sym, subst, ap, ◌∙◌, append_assoc, length, arith, ◌≤◌, ◌+◌, ◌-◌}
 use Rattle.std.proofs.lemmas.List.{take_all, length-drop}
-use Rattle.bus_cli.specs.codings.Pieces.{Holds}
+use Rattle.bus_cli.specs.codings.Pieces.{HoldsBytes}
 use Rattle.bus_cli.proofs.Gathering.{take_on}
 use Rattle.bus_cli.proofs.reader.CaptureReaderTaker.take.Goals as goal
 
@@ -15,10 +15,10 @@ loop-at-preserved c =
       most,
       λ bytes h.
           let q = c.take_front-at.ensures.held (bytes ++ take at piece) (c.loop-at.invariant.1 bytes h) in
-          subst (Holds c.take_front-at.new.self) (append_assoc bytes (take at piece) (take count (take (length piece - at) (drop at piece)))
+          subst (HoldsBytes c.take_front-at.new.self) (append_assoc bytes (take at piece) (take count (take (length piece - at) (drop at piece)))
           ∙ ap (λ (x : List ℕ). bytes ++ x) (ap (λ (x : List ℕ). take at piece ++ take count x) all ∙ sym (take_on at count piece))) q,
     )
 
 pub returns : goal.returns
 returns c = λ bytes h.
-    subst (λ (x : List ℕ). Holds c.loop-at.self (bytes ++ x)) (take_all c.loop-at.at c.args.piece.now c.loop-at-test.false) (c.loop-at.invariant.1 bytes h)
+    subst (λ (x : List ℕ). HoldsBytes c.loop-at.self (bytes ++ x)) (take_all c.loop-at.at c.args.piece.now c.loop-at-test.false) (c.loop-at.invariant.1 bytes h)
