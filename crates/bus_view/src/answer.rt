@@ -7,7 +7,7 @@ ghost use Rattle.bus_view.specs.declared.form.CaptureView.{CaptureView};
 ghost use Rattle.bus_view.specs.Answer.{IsFault, IsCaptureView, IsTraceView, IsWavesView, IsGraphView, IsReportsView, IsScriptView, IsListView, IsView, IsExplainView, IsViewOfItself};
 ghost use Rattle.bus_view.specs.Explained.{explanation_in, explanation, line_said, AreSaid, IsBehind, IsExplained};
 ghost use Rattle.script_words.specs.Before.{feed_lines};
-ghost use Rattle.bus_view.specs.codings.Reading.{IsRead};
+ghost use Rattle.bus_view.specs.codings.Reading.{IsReadWhole};
 ghost use Rattle.capture_reading.specs.Line.{fault_line};
 ghost use Rattle.bus_json.specs.Lines.{IsJsonLine};
 ghost use Rattle.bus_view.specs.ReadBack.{AreReports, ReadsBack};
@@ -382,7 +382,7 @@ pub(crate) fn view_of_itself(alloc: Global, about: About) -> Result<View, OutOfM
 
 /// The view of the bytes in a form that reads them.
 fn view_of(alloc: Global, form: ViewForm, bytes: &[u8]) -> Result<View, OutOfMemory>
-    requires read { IsRead form }
+    requires read { IsReadWhole form }
     requires few { length bytes.now ≤ 1048576 }
     ensures view { IfOk result (λ view. IsView form bytes.now view.status view.text.items) }
     ensures tells { IfOk result (λ view. ReadsBack form bytes.now view.status view.text.items) }
@@ -411,7 +411,7 @@ pub(crate) fn view_all<S: Source>(
     form: ViewForm,
     source: &mut S,
 ) -> Result<View, ReadStop>
-    requires { IsRead form }
+    requires { IsReadWhole form }
     ensures answer { IfOk result (λ view. (bytes : List ℕ) × AreLeft (S.left source.old) bytes
         × IsView form bytes view.status view.text.items
         × ReadsBack form bytes view.status view.text.items) }

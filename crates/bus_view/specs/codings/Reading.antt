@@ -4,18 +4,18 @@ use Rattle.bus_view.specs.declared.form.ViewForm.{ViewForm}
 use Rattle.bus_view.specs.declared.form.ViewForm.TheVariants.{Capture, Trace, Waves, DotRun, JsonRun, Script, ListOf, Explain, Resets, Nosy, OfItself}
 
 -- the whole input is read with this form before anything is written
-abbrev pub IsRead : ViewForm → Type 0
-IsRead (Capture view standard) = Unit {0}
-IsRead Trace = Unit {0}
-IsRead Waves = Unit {0}
-IsRead DotRun = Unit {0}
-IsRead JsonRun = Unit {0}
-IsRead Explain = Unit {0}
-IsRead (Script nodes seed) = ⊥
-IsRead (ListOf name) = Unit {0}
-IsRead (Resets form) = ⊥
-IsRead (Nosy form) = ⊥
-IsRead (OfItself about) = ⊥
+abbrev pub IsReadWhole : ViewForm → Type 0
+IsReadWhole (Capture view standard) = Unit {0}
+IsReadWhole Trace = Unit {0}
+IsReadWhole Waves = Unit {0}
+IsReadWhole DotRun = Unit {0}
+IsReadWhole JsonRun = Unit {0}
+IsReadWhole Explain = Unit {0}
+IsReadWhole (Script nodes seed) = ⊥
+IsReadWhole (ListOf name) = Unit {0}
+IsReadWhole (Resets form) = ⊥
+IsReadWhole (Nosy form) = ⊥
+IsReadWhole (OfItself about) = ⊥
 
 -- nothing is read with this form
 abbrev pub IsUnread : ViewForm → Type 0
