@@ -21,7 +21,7 @@ use Rattle.cable_world.specs.World.{CableWorld, NodeNumber, wire_of}
 use Rattle.cable_world.specs.Act.{act_fault}
 use Rattle.cable_world.specs.Lawful.{IsLawful}
 use Rattle.cable_world.specs.StaysLawful.{KeptByActs}
-use Rattle.world_laws.specs.ByNumber.{BeginsReset, Stands, WiresStand, Changes, Configures, ActsByNumber}
+use Rattle.world_laws.specs.ByNumber.{BeginsReset, NodeStands, WiresStand, Changes, Configures, ActsByNumber}
 use Rattle.script_text.specs.ReportText.{Names}
 use Rattle.script_trace.specs.Event.{head, sent_lines}
 use Rattle.script_trace.specs.Shown.{signal_lines}
@@ -70,7 +70,7 @@ module _ (names : Names) (w v : CableWorld) where
 module _ (names : Names) (w v : CableWorld) (l : IsLawful v) where
   of-two :
       (a : Act) (i j : NodeNumber) (f g : PortNode → NodeStep) → BeginsReset w v i f → BeginsReset w v j g →
-      ((k : NodeNumber) → k ≢ i → k ≢ j → Stands w v k) →
+      ((k : NodeNumber) → k ≢ i → k ≢ j → NodeStands w v k) →
       ((k : NodeNumber) → BeginsAt a w k → (k ≡ i) ⊎ (k ≡ j)) →
       ((k : NodeNumber) → (k ≡ i) ⊎ (k ≡ j) → BeginsAt a w k) → ShowsItsResets names a w v
   of-two a i j f g x y stand either at = record {

@@ -18,7 +18,7 @@ use Rattle.cable_world.specs.Wire.{Wire, empty_wire}
 use Rattle.cable_world.specs.World.{CableWorld, NodeNumber, wire_of}
 use Rattle.cable_world.specs.Lawful.{IsLawful}
 use Rattle.cable_world.proofs.Lemmas.{some-same}
-use Rattle.world_laws.specs.ByNumber.{Stands, Changes, ActsByNumber}
+use Rattle.world_laws.specs.ByNumber.{NodeStands, Changes, ActsByNumber}
 use Rattle.script_trace.specs.Event.{Seen}
 use Rattle.script_trace.specs.Step.{seen_before_act, counts_from}
 use Rattle.script_trace.specs.News.{ShowsNothingNew}
@@ -60,7 +60,7 @@ none-old : (ts : List Travelling) → ts ≡ [] → All IsOld ts
 none-old ts e = subst (All IsOld) (sym e) (λ i d h. absurd (omega (arith, h)))
 
 -- a node that stands
-module _ (w v : CableWorld) (l : IsLawful w) (k : NodeNumber) (x : PortNode) (at : slice_get w.nodes k ≡ Some x) (stands : Stands w v k) where
+module _ (w v : CableWorld) (l : IsLawful w) (k : NodeNumber) (x : PortNode) (at : slice_get w.nodes k ≡ Some x) (stands : NodeStands w v k) where
   sent-old : (port : ℕ) →
       All IsOld (drop (slice_index_or (counts_from w k 0 x.state.view.ports) port 0) (wire_of v (record { node = k; port = port })).signals)
   sent-old port =
@@ -95,7 +95,7 @@ module _ (w v : CableWorld) (l : IsLawful w) (k : NodeNumber) (x : PortNode) (at
 
 -- a node at which nothing may be done stands
 stands-at :
-    (a : Act) (w v : CableWorld) (k : NodeNumber) → Changes a w v → (MayTouch a w.cabling k → ⊥) → Stands w v k
+    (a : Act) (w v : CableWorld) (k : NodeNumber) → Changes a w v → (MayTouch a w.cabling k → ⊥) → NodeStands w v k
 stands-at (Plug a b) w v k c none = c.others k (λ e. none (inl e)) (λ e. none (inr e))
 stands-at (Pull a) w v k (b, c) none =
     c.others k (λ e. none (inl e))

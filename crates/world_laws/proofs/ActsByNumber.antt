@@ -17,7 +17,7 @@ use Rattle.cable_world.specs.World.{CableWorld, wire_of, put}
 use Rattle.cable_world.specs.Act.{Acted, with_step, plug, pull_from, reset, change_in_set, configure, note_changes}
 use Rattle.cable_world.specs.Lawful.{IsWellFormed}
 use Rattle.cable_world.proofs.Lemmas.{Cabled, with_cable, without_cable, plug-cabled, pull-cabled, Resets as Resetting, resets-disturb, resets-plugged, resets-pulled, other_than, Untouched, untouched, same-wire, still-there, CableEnd, cable-end, recabled, others-alone, has-wire, has-cable, plug-formed, pull-formed, reset-formed, told-formed, HasEntry, put-same, put-other, put-lengths, step-cables}
-use Rattle.world_laws.specs.ByNumber.{BeginsReset, Stands, Plugs, Pulls, Resets, Configures, Changes, ActsByNumber}
+use Rattle.world_laws.specs.ByNumber.{BeginsReset, NodeStands, Plugs, Pulls, Resets, Configures, Changes, ActsByNumber}
 use Rattle.world_laws.proofs.ActCables.{plug-cables, pull-cables, pulled-from}
 use Rattle.world_laws.proofs.NodeByNumber.{stepped-node, stepped-wire, changed-member, unchanged-other, same-change}
 
@@ -75,7 +75,7 @@ module _
         ∙ ap (λ o. add_signals (signal.Reset ∷ []) o) (same-wire start next e (untouched a.node f start e.node (λ is. k.apart (sym is ∙ n))) ∙ kept-wire e z joined);
   }
 
-  others-stand : (j : ℕ) → j ≢ a.node → j ≢ b.node → Stands w v j
+  others-stand : (j : ℕ) → j ≢ a.node → j ≢ b.node → NodeStands w v j
   others-stand j na nb =
       let node : slice_get last.nodes j ≡ slice_get w.nodes j = (untouched b.node g next j nb).node ∙ (untouched a.node f start j na).node in
       record {
@@ -189,7 +189,7 @@ module _
 
   other-stands :
       (k : ℕ) → k ≢ node → slice_get told.nodes k ≡ slice_get w.nodes k →
-      Stands w (note_changes w (reset node told)) k
+      NodeStands w (note_changes w (reset node told)) k
   other-stands k ne same =
       let still : slice_get after.nodes k ≡ slice_get w.nodes k = other-node k ne ∙ same in
       record {

@@ -18,7 +18,7 @@ use Rattle.cable_world.specs.Lawful.{IsLawful, IsWellFormed}
 use Rattle.cable_world.proofs.Lemmas.{some-of, some-at, comes-lawful, act-lawful, HasBegun, resets-disturb, resets-plugged, resets-pulled, act-keeps, has-cable}
 use Rattle.convergence.specs.Milestones.{AreIdentifying}
 use Rattle.outcomes.proofs.Lemmas.{ready-hears, same-component, comes-numbering, tree-ready, act-tree}
-use Rattle.world_laws.specs.ByNumber.{BeginsReset, Stands, Changes}
+use Rattle.world_laws.specs.ByNumber.{BeginsReset, NodeStands, Changes}
 use Rattle.world_laws.specs.Touched.{Touches, IsUntouched, TouchedNodesReset, ActsTouchTheirComponent, UntouchedComponentsStay, UntouchedTreesStay}
 use Rattle.world_laws.proofs.ActsByNumber.{acts-by-number}
 use Rattle.world_laws.proofs.SmallSets.{small-component}
@@ -93,7 +93,7 @@ touched-reset a w v did l k touched =
 
 stands-by :
     (a : Act) (w v : CableWorld) → IsLawful w → Changes a w v → (node set : ℕ) →
-    IsUntouched a w v node set → (k : ℕ) → Holds set k → Stands w v k
+    IsUntouched a w v node set → (k : ℕ) → Holds set k → NodeStands w v k
 stands-by (Plug a b) w v l n node set u k h = n.others k (λ e. u.none k h (inl e)) (λ e. u.none k h (inr e))
 stands-by (Pull a) w v l n node set u k h =
     n.1.others k (λ e. u.none k h (inl e)) (λ e. u.none k h (inr (some-at (far w.cabling a) n.0 (λ (b : End). k ≡ b.node) n.1.cables.joined e)))

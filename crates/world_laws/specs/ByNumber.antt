@@ -33,7 +33,7 @@ abbrev pub WiresStand : CableWorld → CableWorld → NodeNumber → Type 0
 WiresStand w v k = (a : End) → a.node ≡ k → wire_of v a ≡ wire_of w a
 
 -- a node is as it was, and so are its cables and its wires
-pub record Stands (w v : CableWorld) (k : NodeNumber) : Type 0 where
+pub record NodeStands (w v : CableWorld) (k : NodeNumber) : Type 0 where
   pub node : slice_get v.nodes k ≡ slice_get w.nodes k
   pub ports : ports_of v.cabling k ≡ ports_of w.cabling k
   pub wires : WiresStand w v k
@@ -46,19 +46,19 @@ pub record Plugs (w v : CableWorld) (a b : End) : Type 0 where
   pub cables : Added w.cabling v.cabling a b
   pub node_a : BeginsReset w v a.node (node_plugged a.port)
   pub node_b : BeginsReset w v b.node (node_plugged b.port)
-  pub others : (k : NodeNumber) → k ≢ a.node → k ≢ b.node → Stands w v k
+  pub others : (k : NodeNumber) → k ≢ a.node → k ≢ b.node → NodeStands w v k
 
 -- a cable is gone: both its nodes reset the bus
 pub record Pulls (w v : CableWorld) (a b : End) : Type 0 where
   pub cables : TakenOut w.cabling v.cabling a b
   pub node_a : BeginsReset w v a.node (node_pulled a.port)
   pub node_b : BeginsReset w v b.node (node_pulled b.port)
-  pub others : (k : NodeNumber) → k ≢ a.node → k ≢ b.node → Stands w v k
+  pub others : (k : NodeNumber) → k ≢ a.node → k ≢ b.node → NodeStands w v k
 
 pub record Resets (w v : CableWorld) (node : NodeNumber) : Type 0 where
   pub cables : v.cabling ≡ w.cabling
   pub resets : BeginsReset w v node node_disturb
-  pub others : (k : NodeNumber) → k ≢ node → Stands w v k
+  pub others : (k : NodeNumber) → k ≢ node → NodeStands w v k
 
 -- the nodes of a component hear the packet, and one of them resets the bus
 pub record Configures
@@ -70,7 +70,7 @@ pub record Configures
   pub hear :
       (k : NodeNumber) (x : PortNode) → Holds set k → k ≢ from → slice_get w.nodes k ≡ Some x →
       (slice_get v.nodes k ≡ Some (heard x)) × WiresStand w v k
-  pub others : (k : NodeNumber) → (Holds set k → ⊥) → Stands w v k
+  pub others : (k : NodeNumber) → (Holds set k → ⊥) → NodeStands w v k
 
 abbrev pub Changes : Act → CableWorld → CableWorld → Type 0
 Changes (Plug a b) w v = Plugs w v a b

@@ -12,7 +12,7 @@ use Rattle.cable_world.specs.World.{CableWorld, NodeNumber, NodeSet}
 use Rattle.cable_world.specs.Act.{Acted}
 use Rattle.cable_world.specs.Run.{ComesOfPowerOn}
 use Rattle.cable_world.specs.Outcome.{Shows, IsTree}
-use Rattle.world_laws.specs.ByNumber.{Stands, InActs}
+use Rattle.world_laws.specs.ByNumber.{NodeStands, InActs}
 
 -- whether there is an end, and it is at this node
 abbrev pub is_end_at : NodeNumber → Option End → Bool
@@ -56,7 +56,7 @@ TouchedNodesReset =
 abbrev pub ActsTouchTheirComponent : Type 0
 ActsTouchTheirComponent =
     InActs (λ a w v. (node : NodeNumber) (set : NodeSet) → IsUntouched a w v node set →
-    (k : NodeNumber) → Holds set k → Stands w v k)
+    (k : NodeNumber) → Holds set k → NodeStands w v k)
 
 -- and it was a component before
 abbrev pub UntouchedComponentsStay : Type 0
