@@ -23,7 +23,7 @@ use Rattle.cable_world.specs.Lawful.{IsWellFormed}
 use Rattle.cable_world.specs.Outcome.{attrs_now}
 use Rattle.cable_world.proofs.Lemmas.{reached-lawful, some-of, attrs-fit}
 use Rattle.world_laws.specs.SlotCabling.{Place, no_port, cable_to, Leads, AreLabels, SeesSlots, SeesRow}
-use Rattle.world_laws.specs.SeenTrees.{IsShown}
+use Rattle.world_laws.specs.SeenTrees.{IsSeenTree}
 use Rattle.world_laws.specs.WiringSlots.{place_of, row_of, slots_of, IsEmittedBySlots, PortsAreSlots, SlotsShowTheSame, SeenListsAreEmitted, SettledListsAreEmitted}
 
 -- ---- the row of a node
@@ -238,7 +238,7 @@ settled-emitted w reached set root t h node has =
     let f : IsWellFormed w = (reached-lawful w reached).well_formed in
     let top = some-of (slice_get w.nodes root) (λ (x : PortNode). x.state.view.parent ≡ None) h.no_parent in
     let listed = some-of (slice_get w.nodes node) (λ (x : PortNode). x.state.list.items ≡ emits t) (h.lists node has) in
-    let shown : IsShown w.cabling (attrs_now w) root t = record {
+    let shown : IsSeenTree w.cabling (attrs_now w) root t = record {
       cabling = f.cabling;
       there = omega (arith, f.count, slice_get_within w.nodes root top.0 top.1);
       each = length-map w.nodes (λ (x : PortNode). shown_attrs x.state) ∙ f.count;

@@ -12,7 +12,7 @@ use Rattle.cable_world.specs.World.{CableWorld}
 use Rattle.cable_world.specs.Run.{IsReached}
 use Rattle.cable_world.specs.Outcome.{AtNode, IsTree}
 use Rattle.world_laws.specs.SlotCabling.{Place, no_port, no_cable, cable_to, SlotWiring, IsSlotCabling, SeesSlots, IsEmitted}
-use Rattle.world_laws.specs.SeenTrees.{IsShown}
+use Rattle.world_laws.specs.SeenTrees.{IsSeenTree}
 
 -- a port without a cable, or with the cable to this far end
 abbrev pub place_of : Option End → Place
@@ -57,7 +57,7 @@ SlotsShowTheSame =
 -- so the list of a tree that a cabling shows is emitted by its slots
 abbrev pub SeenListsAreEmitted : Type 0
 SeenListsAreEmitted =
-    (c : Wiring) (attrs : List Attrs) (root : NodeNumber) (t : Tree) → IsShown c attrs root t →
+    (c : Wiring) (attrs : List Attrs) (root : NodeNumber) (t : Tree) → IsSeenTree c attrs root t →
     IsEmittedBySlots c root t (emits t)
 
 -- and so are the lists of what has settled
