@@ -12,7 +12,7 @@ use Rattle.cabling.proofs.Lemmas.{one-tree}
 use Rattle.cable_world.specs.World.{CableWorld}
 use Rattle.cable_world.specs.Outcome.{HasNoLoop, IsTree, Shows, AtNode, attrs_now}
 use Rattle.settle.specs.Reported.{ReportsTree}
-use Rattle.settle.specs.codings.Reading.{IsShown, IsTop, AllFit}
+use Rattle.settle.specs.codings.Reading.{ShowsTree, IsTop, AllFit}
 
 -- a node with a parent isn't one without
 apart :
@@ -36,7 +36,7 @@ root-is w set top root t holds is h = elim (cases_eq top root) [
 -- where the component came to a tree, all of its nodes fit
 pub tree-fits :
     (w : CableWorld) (set top root : ℕ) (list order : List ℕ) (t : Tree) →
-    IsShown w.cabling (attrs_now w) top list order → Holds set top → IsTop w top → IsTree w set root t →
+    ShowsTree w.cabling (attrs_now w) top list order → Holds set top → IsTop w top → IsTree w set root t →
     AllFit w set top list order
 tree-fits w set top root list order t s holds is h k inside =
     let at : top ≡ root = root-is w set top root t holds is h in
@@ -55,7 +55,7 @@ tree-fits w set top root list order t s holds is h k inside =
 -- and where they fit, it did
 pub fits-tree :
     (w : CableWorld) (set top : ℕ) (list order : List ℕ) → HasNoLoop w set →
-    IsShown w.cabling (attrs_now w) top list order → Holds set top → IsTop w top → AllFit w set top list order →
+    ShowsTree w.cabling (attrs_now w) top list order → Holds set top → IsTop w top → AllFit w set top list order →
     ReportsTree w set top list order
 fits-tree w set top list order no_loop s holds is fit = record {
   tree = s.tree;

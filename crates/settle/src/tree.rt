@@ -6,7 +6,7 @@ ghost use Rattle.cable_world.specs.Lawful.{IsWellFormed};
 ghost use Rattle.cable_world.specs.Outcome.{HasNoLoop, attrs_now};
 ghost use Rattle.settle.specs.Reported.{IsReported, IsNoTree};
 ghost use Rattle.settle.specs.Report.{AreThere};
-ghost use Rattle.settle.specs.codings.Reading.{IsShown, ShowsNone, IsTop, HasNoTop, FitsTree, AllFit};
+ghost use Rattle.settle.specs.codings.Reading.{ShowsTree, ShowsNoTree, IsTop, HasNoTop, FitsTree, AllFit};
 
 use crate::report::Outcome;
 use cable_world::WorldRun;
@@ -36,8 +36,8 @@ fn tree_shown_from(
     requires root { root < length cabling.now }
     requires entries { length attrs.now ≡ length cabling.now }
     requires valid { All FitBits attrs.now }
-    ensures shown { IfOk result (λ o. IfSome o (λ t. IsShown cabling.now attrs.now root t.list t.order)) }
-    ensures none { IfOk result (λ o. IfNone o (ShowsNone cabling.now attrs.now root)) }
+    ensures shown { IfOk result (λ o. IfSome o (λ t. ShowsTree cabling.now attrs.now root t.list t.order)) }
+    ensures none { IfOk result (λ o. IfNone o (ShowsNoTree cabling.now attrs.now root)) }
 {
     trees_have_no_core(cabling);
     trees_are_seen_once(cabling);

@@ -28,7 +28,7 @@ is_in parts node = list_any (λ part. bit_at part.nodes node == 1) parts
 -- ---- trees
 
 -- the cables show a tree from the root that emits the list, and has its nodes in this order
-pub record IsShown
+pub record ShowsTree
     (c : Wiring) (attrs : List Attrs) (root : NodeNumber) (list order : List ℕ) : Type 0 where
   pub tree : Tree
   pub seen : Sees c (labels attrs) root None tree
@@ -36,8 +36,8 @@ pub record IsShown
   pub walked : order ≡ numbers c root tree
 
 -- the cables show no tree from there
-abbrev pub ShowsNone : Wiring → List Attrs → NodeNumber → Type 0
-ShowsNone c attrs root = (t : Tree) → Sees c (labels attrs) root None t → ⊥
+abbrev pub ShowsNoTree : Wiring → List Attrs → NodeNumber → Type 0
+ShowsNoTree c attrs root = (t : Tree) → Sees c (labels attrs) root None t → ⊥
 
 -- the node has no parent
 abbrev pub IsTop : CableWorld → NodeNumber → Type 0
