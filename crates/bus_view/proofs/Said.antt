@@ -6,7 +6,7 @@ use Rattle.port_state.specs.declared.ranges.TimeRanges.{TimeRanges}
 use Rattle.script_lines.specs.declared.kind.Kind.{Kind}
 use Rattle.script_lines.specs.declared.kind.ScriptFault.{ScriptFault}
 use Rattle.script_lines.specs.declared.command.Command.{Command}
-use Rattle.script_lines.specs.Line.{Reads}
+use Rattle.script_lines.specs.Line.{ReadsLine}
 use Rattle.script_lines.proofs.Lemmas.{one_reading, some_reading}
 use Rattle.script_words.specs.Before.{ranges_of}
 use Rattle.script_words.specs.LineFault.{IsLineFault, IsFaultAt}
@@ -34,7 +34,8 @@ one-fault times line (Some j) (Some k) x y =
 some-fault : (times : TimeRanges) (line : List ℕ) → (fault : Option Kind) × IsLineFault times line fault
 some-fault times line = let r = some_reading times line in go r.0 r.1
   where
-    go : (r : Reading) → Reads times line r → (fault : Option Kind) × IsLineFault times line fault
+    go : (r : Reading) → ReadsLine times line r →
+        (fault : Option Kind) × IsLineFault times line fault
     go (Ok c) is = (None, λ kind bad. not-both c kind (one_reading times line (Ok c) (Err kind) is bad))
     go (Err kind) is = (Some kind, is)
 

@@ -10,7 +10,7 @@ use Rattle.script_lines.specs.declared.command.Command.{Command}
 use Rattle.script_lines.specs.declared.command.Command.TheVariants.{Node, Delay, Times, Plan}
 use Rattle.script_lines.specs.Times.{standard_times}
 use Rattle.script_lines.specs.Range.{IsWithin, IsInRange, IsNodeInRange}
-use Rattle.script_lines.specs.Line.{Reads}
+use Rattle.script_lines.specs.Line.{ReadsLine}
 use Rattle.script_lines.specs.Ranged.{CommandsAreInRange}
 use Rattle.script_lines.proofs.Lemmas.{some_reading}
 use Rattle.script_told.specs.Bus.{Bus, is_declared}
@@ -114,7 +114,7 @@ module _ (keeps : ActKeepsNodes) (commands : CommandsHaveAnswers) (plans : Plans
 
   takes :
       (number : ℕ) (Rest : Stage → ScriptRun → Type 0) → HasFrom Rest → (stage : Stage) (line : List ℕ)
-      (reading : Result (Option Command) Kind) → IsSound stage → Reads (ranges_of stage) line reading →
+      (reading : Result (Option Command) Kind) → IsSound stage → ReadsLine (ranges_of stage) line reading →
       (run : ScriptRun) × TakesLine number Rest stage reading run
   takes number Rest rest stage line (Ok None) h reads = rest stage h
   takes number Rest rest stage line (Ok (Some command)) h reads =

@@ -10,7 +10,7 @@ use Rattle.script_lines.specs.Words.{words_of}
 use Rattle.script_lines.specs.Shape.{fit}
 use Rattle.script_lines.specs.Form.{Form, plug, pull, reset, turn, hold, settle, config_root, config_gap, config_both, csr_read, csr_write, csr_lock, look, allocate, release, manager, plan, maps, delay, times_2000, times_1995, forms, shapes}
 use Rattle.script_lines.specs.Node.{has_node_form}
-use Rattle.script_lines.specs.Line.{LineForm, node, other, has_form, wrong_word, meaning, IsWrong, HasNoForm, is_skipped, is_permitted_line, IsNoLine, IsRead, Reads}
+use Rattle.script_lines.specs.Line.{LineForm, node, other, has_form, wrong_word, meaning, IsWrong, HasNoForm, is_skipped, is_permitted_line, IsNoLine, ReadsStripped, ReadsLine}
 use Rattle.script_lines.specs.codings.Reading.{unless, read_words, in_line, read_line}
 use Rattle.script_lines.specs.declared.kind.LineStop.{LineStop}
 use Rattle.script_lines.specs.declared.kind.LineStop.TheVariants.{Fault, Memory}
@@ -85,12 +85,12 @@ false_of_not false h = refl
 
 -- what the words of a line say
 shown : (times : TimeRanges) (line : List ℕ) → is_skipped line ≡ false → is_permitted_line line ≡ true
-    → IsRead times line (in_line (read_words times (words_of line)))
+    → ReadsStripped times line (in_line (read_words times (words_of line)))
 shown times line visible permitted = go (some_form (words_of line))
   where
     by_form : (form : LineForm) → has_form form (words_of line) ≡ true → (wrong : Option Kind)
         → wrong_word times form (words_of line) ≡ wrong
-        → IsRead times line (in_line (unless wrong (meaning form (words_of line))))
+        → ReadsStripped times line (in_line (unless wrong (meaning form (words_of line))))
     by_form form h None e = (
       not_false (is_skipped line) visible,
       (permitted, record { form = form; has = h; right = e; says = refl }),
@@ -101,22 +101,22 @@ shown times line visible permitted = go (some_form (words_of line))
     )
 
     go : ((form : LineForm) × (has_form form (words_of line) ≡ true)) ⊎ HasNoForm (words_of line)
-        → IsRead times line (in_line (read_words times (words_of line)))
+        → ReadsStripped times line (in_line (read_words times (words_of line)))
     go (inl found) =
-        let Here : Result Command Kind → Type 0 = λ r. IsRead times line (in_line r) in
+        let Here : Result Command Kind → Type 0 = λ r. ReadsStripped times line (in_line r) in
         subst Here (sym (read_form times found.0 (words_of line) found.1))
         (by_form found.0 found.1 (wrong_word times found.0 (words_of line)) refl)
     go (inr none) =
-        let Here : Result Command Kind → Type 0 = λ r. IsRead times line (in_line r) in
+        let Here : Result Command Kind → Type 0 = λ r. ReadsStripped times line (in_line r) in
         subst Here (sym (read_none times (words_of line) none))
         (not_false (is_skipped line) visible, inl (refl, inr none))
 
 -- a line is what its reader says
-pub reads : (times : TimeRanges) (line : List ℕ) → IsRead times line (read_line times line)
+pub reads : (times : TimeRanges) (line : List ℕ) → ReadsStripped times line (read_line times line)
 reads times line = go (is_skipped line) (is_permitted_line line) refl refl
   where
     go : (skipped permitted : Bool) → is_skipped line ≡ skipped → is_permitted_line line ≡ permitted
-        → IsRead times line (cond skipped (Ok None)
+        → ReadsStripped times line (cond skipped (Ok None)
         (cond permitted (in_line (read_words times (words_of line))) (Err Word)))
     go true permitted e f = e
     go false true e f = shown times line e f
@@ -144,7 +144,7 @@ word_either_way true r h = ap in_line h
 word_either_way false r h = refl
 
 -- and nothing else
-pub only : (times : TimeRanges) (line : List ℕ) (reading : Result (Option Command) Kind) → IsRead times line reading
+pub only : (times : TimeRanges) (line : List ℕ) (reading : Result (Option Command) Kind) → ReadsStripped times line reading
     → reading ≡ read_line times line
 only times line (Ok None) h =
     sym (ap (λ b. cond b (Ok None) (cond (is_permitted_line line) (in_line (read_words times (words_of line))) (Err Word))) h)
@@ -176,22 +176,22 @@ only times line (Err kind) h = go h.1
 
 -- no line is two things
 pub one_reading : (times : TimeRanges) (line : List ℕ) (one two : Result (Option Command) Kind)
-    → Reads times line one → Reads times line two → one ≡ two
+    → ReadsLine times line one → ReadsLine times line two → one ≡ two
 one_reading times line one two h g =
     only times (strip_carriage_return line) one h ∙ sym (only times (strip_carriage_return line) two g)
 
 -- each line is something
 pub some_reading : (times : TimeRanges) (line : List ℕ)
-    → (reading : Result (Option Command) Kind) × Reads times line reading
+    → (reading : Result (Option Command) Kind) × ReadsLine times line reading
 some_reading times line =
     (read_line times (strip_carriage_return line), reads times (strip_carriage_return line))
 
 -- an answer of the reader is what the line is
 pub found_of : (times : TimeRanges) (line : List ℕ) (result : Result (Option Command) LineStop)
     → Answers result (read_line times (strip_carriage_return line))
-    → IfOk result (λ command. Reads times line (Ok command))
+    → IfOk result (λ command. ReadsLine times line (Ok command))
 found_of times line (Ok command) h =
-    let Here : Result (Option Command) Kind → Type 0 = λ r. Reads times line r in
+    let Here : Result (Option Command) Kind → Type 0 = λ r. ReadsLine times line r in
     subst Here h (reads times (strip_carriage_return line))
 found_of times line (Err stop) h = tt
 
@@ -200,13 +200,14 @@ pub refused_of : (times : TimeRanges) (line : List ℕ) (result : Result (Option
     → IfErr result (λ stop. Refuses times line stop)
 refused_of times line (Ok command) h = tt
 refused_of times line (Err (Fault kind)) h =
-    let Here : Result (Option Command) Kind → Type 0 = λ r. Reads times line r in
+    let Here : Result (Option Command) Kind → Type 0 = λ r. ReadsLine times line r in
     subst Here h (reads times (strip_carriage_return line))
 refused_of times line (Err (Memory none)) h = tt
 
 pub only_of : (times : TimeRanges) (line : List ℕ) (result : Result (Option Command) LineStop)
     → Answers result (read_line times (strip_carriage_return line))
-    → (reading : Result (Option Command) Kind) → Reads times line reading → Answers result reading
+    → (reading : Result (Option Command) Kind) → ReadsLine times line reading
+    → Answers result reading
 only_of times line (Ok command) h reading g = only times (strip_carriage_return line) reading g ∙ h
 only_of times line (Err (Fault kind)) h reading g = only times (strip_carriage_return line) reading g ∙ h
 only_of times line (Err (Memory none)) h reading g = tt

@@ -10,7 +10,7 @@ use Rattle.script_lines.specs.Words.{is_blank, words_of}
 use Rattle.script_lines.specs.Number.{number_of}
 use Rattle.script_lines.specs.Shape.{wrong_number}
 use Rattle.script_lines.specs.Form.{turn}
-use Rattle.script_lines.specs.Line.{IsCommand, IsRead, other}
+use Rattle.script_lines.specs.Line.{IsCommand, ReadsStripped, other}
 use Rattle.script_lines.specs.codings.Reading.{IsWord}
 use Rattle.script_lines.proofs.Parts.{words_cut, words_whole}
 
@@ -36,10 +36,10 @@ is-turn times word count right number = record {
 pub turn_reads :
     (line word : List ℕ) (count : ℕ) → line ≡ codes "turn " ++ word → IsWord word →
     wrong_number 1 2000000 word ≡ None → number_of word ≡ Some count → (times : TimeRanges) →
-    IsRead times line (Ok (Some (Turn count)))
+    ReadsStripped times line (Ok (Some (Turn count)))
 turn_reads line word count is w right number times =
     let words : words_of (codes "turn " ++ word) ≡ codes "turn" ∷ word ∷ [] = two-words word w in
-    subst (λ (l : List ℕ). IsRead times l (Ok (Some (Turn count)))) (sym is) (
+    subst (λ (l : List ℕ). ReadsStripped times l (Ok (Some (Turn count)))) (sym is) (
       refl,
       (
         w.permitted,

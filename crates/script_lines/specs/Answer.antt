@@ -5,11 +5,11 @@ use Rattle.script_lines.specs.declared.kind.Kind.{Kind}
 use Rattle.script_lines.specs.declared.kind.LineStop.{LineStop}
 use Rattle.script_lines.specs.declared.kind.LineStop.TheVariants.{Fault, Memory}
 use Rattle.script_lines.specs.declared.command.Command.{Command}
-use Rattle.script_lines.specs.Line.{Reads}
+use Rattle.script_lines.specs.Line.{ReadsLine}
 
 -- a stop for a fault is the line's fault
 abbrev pub Refuses : TimeRanges → List ℕ → LineStop → Type 0
-Refuses times line (Fault kind) = Reads times line (Err kind)
+Refuses times line (Fault kind) = ReadsLine times line (Err kind)
 Refuses times line (Memory none) = Unit {0}
 
 -- an answer is this reading, unless there was no memory
@@ -22,10 +22,10 @@ Answers (Err (Memory none)) reading = Unit {0}
 abbrev pub OneReading : Type 0
 OneReading =
     (times : TimeRanges) (line : List ℕ) (one other : Result (Option Command) Kind)
-    → Reads times line one → Reads times line other → one ≡ other
+    → ReadsLine times line one → ReadsLine times line other → one ≡ other
 
 -- each line is something
 abbrev pub SomeReading : Type 0
 SomeReading =
     (times : TimeRanges) (line : List ℕ)
-    → (reading : Result (Option Command) Kind) × Reads times line reading
+    → (reading : Result (Option Command) Kind) × ReadsLine times line reading

@@ -65,16 +65,16 @@ IsNoLine line = IsTrue (not (is_permitted_line line)) ⊎ HasNoForm (words_of li
 
 -- A line without the carriage return at its end is nothing where it is skipped. Else it is a
 -- command, or it has a fault: `Word` where it is no line, and else that of the first word at fault.
-abbrev pub IsRead : TimeRanges → List ℕ → Result (Option Command) Kind → Type 0
-IsRead times line (Ok None) = IsTrue (is_skipped line)
-IsRead times line (Ok (Some command)) =
+abbrev pub ReadsStripped : TimeRanges → List ℕ → Result (Option Command) Kind → Type 0
+ReadsStripped times line (Ok None) = IsTrue (is_skipped line)
+ReadsStripped times line (Ok (Some command)) =
     IsTrue (not (is_skipped line))
     × (IsTrue (is_permitted_line line) × IsCommand times (words_of line) command)
-IsRead times line (Err kind) =
+ReadsStripped times line (Err kind) =
     IsTrue (not (is_skipped line))
     × (((kind ≡ Word) × IsNoLine line)
     ⊎ (IsTrue (is_permitted_line line) × IsWrong times (words_of line) kind))
 
 -- what a line of a script is, where the times of nodes are in these ranges
-abbrev pub Reads : TimeRanges → List ℕ → Result (Option Command) Kind → Type 0
-Reads times line reading = IsRead times (strip_carriage_return line) reading
+abbrev pub ReadsLine : TimeRanges → List ℕ → Result (Option Command) Kind → Type 0
+ReadsLine times line reading = ReadsStripped times (strip_carriage_return line) reading

@@ -14,7 +14,7 @@ use Rattle.script_lines.specs.Form.{shapes}
 use Rattle.script_lines.specs.Key.{word_of, key_of, rival, limits}
 use Rattle.script_lines.specs.Node.{node_shapes}
 use Rattle.script_lines.specs.Words.{words_of}
-use Rattle.script_lines.specs.Line.{LineForm, node, other, has_form, is_skipped, is_permitted_line, IsNoLine, Reads}
+use Rattle.script_lines.specs.Line.{LineForm, node, other, has_form, is_skipped, is_permitted_line, IsNoLine, ReadsLine}
 
 -- ---- a word
 
@@ -105,4 +105,4 @@ LineHas times line kind = ShownHas times (strip_carriage_return line) kind
 abbrev pub LinesAreRefusedSo : Type 0
 LinesAreRefusedSo =
     (times : TimeRanges) (line : List ℕ) (kind : faults.Kind) →
-    LineHas times line kind ↔ Reads times line (Err kind)
+    LineHas times line kind ↔ ReadsLine times line (Err kind)

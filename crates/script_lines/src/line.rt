@@ -8,7 +8,7 @@ ghost use Rattle.script_lines.specs.Words.{is_blank, is_permitted};
 ghost use Rattle.script_lines.specs.Line.{is_skipped};
 ghost use Rattle.script_lines.specs.codings.Reading.{IsWord, read_words, read_line};
 ghost use Rattle.script_lines.specs.Answer.{Answers, Refuses};
-ghost use Rattle.script_lines.specs.Line.{Reads};
+ghost use Rattle.script_lines.specs.Line.{ReadsLine};
 ghost use Rattle.script_lines.specs.Range.{IsInRange};
 ghost use Rattle.script_lines.specs.declared.command.Command.{Command};
 ghost use Rattle.script_lines.specs.declared.command.Command.TheVariants as command;
@@ -54,7 +54,7 @@ fn is_skipped(line: &[u8]) -> bool
 /// a carriage return at its end doesn't count. It takes no memory.
 pub fn says_nothing(line: &[u8]) -> bool
     ensures value { result ≡ is_skipped (strip_carriage_return line.now) }
-    ensures nothing { IsTrue result → (times : TimeRanges) → Reads times line.now (Ok None) }
+    ensures nothing { IsTrue result → (times : TimeRanges) → ReadsLine times line.now (Ok None) }
 {
     is_skipped(without_return(line))
 }
@@ -80,7 +80,7 @@ fn is_word(text: &[u8]) -> bool
 /// `None` says nothing of a line. [`parse_line_with`] reads each such line so; this takes fewer steps.
 pub fn turn_line(line: &[u8]) -> Option<u32>
     ensures reads { IfSome result (λ count. (times : TimeRanges) →
-        Reads times line.now (Ok (Some (command.Turn count)))) }
+        ReadsLine times line.now (Ok (Some (command.Turn count)))) }
     ensures ranged { IfSome result (λ count. (1 ≤ count) × (count ≤ 2000000)) }
 {
     let word = match behind_turn(without_return(line)) {
@@ -139,10 +139,10 @@ fn read_line(alloc: Global, line: &[u8], times: TimeRanges) -> Result<Option<Com
 pub fn parse_line(alloc: Global, line: &[u8], d: u8) -> Result<Option<Command>, LineStop>
     requires some { 1 ≤ d }
     requires few { d ≤ 16 }
-    ensures found { IfOk result (λ command. Reads (profile_ranges d) line.now (Ok command)) }
+    ensures found { IfOk result (λ command. ReadsLine (profile_ranges d) line.now (Ok command)) }
     ensures refused { IfErr result (λ stop. Refuses (profile_ranges d) line.now stop) }
     ensures only { (reading : Result (Option Command) Kind)
-        → Reads (profile_ranges d) line.now reading → Answers result reading }
+        → ReadsLine (profile_ranges d) line.now reading → Answers result reading }
     ensures ranged { IfOk result (λ command. IfSome command (IsInRange (profile_ranges d))) }
 {
     parse_line_with(alloc, line, TimeRanges::profile(d))
@@ -155,9 +155,9 @@ pub fn parse_line_with(
     line: &[u8],
     times: TimeRanges,
 ) -> Result<Option<Command>, LineStop>
-    ensures found { IfOk result (λ command. Reads times line.now (Ok command)) }
+    ensures found { IfOk result (λ command. ReadsLine times line.now (Ok command)) }
     ensures refused { IfErr result (λ stop. Refuses times line.now stop) }
-    ensures only { (reading : Result (Option Command) Kind) → Reads times line.now reading
+    ensures only { (reading : Result (Option Command) Kind) → ReadsLine times line.now reading
         → Answers result reading }
     ensures ranged { IfOk result (λ command. IfSome command (IsInRange times)) }
 {

@@ -20,7 +20,7 @@ use Rattle.script_lines.specs.Number.{number_of}
 use Rattle.script_lines.specs.Name.{is_name_char, is_name}
 use Rattle.script_lines.specs.Shape.{out_of}
 use Rattle.script_lines.specs.Form.{plug, pull, turn, settle}
-use Rattle.script_lines.specs.Line.{node, other, Reads}
+use Rattle.script_lines.specs.Line.{node, other, ReadsLine}
 use Rattle.script_made.specs.Made.{generator, word, end_of, node_line, plug_line, pull_line, turn_line, for_each, made_lines, text_of, made_script}
 use Rattle.script_made.specs.MadeRead.{made_name, declares, plugs, pulls, turns, made_commands, MadeIsRead, MadeIsSplit}
 use Rattle.script_made.proofs.MadeSize.{Near, end-near}
@@ -249,7 +249,7 @@ made_says times n seed h =
     joined times _ _ _ _ nodes (joined times _ _ _ _ cables (settle_says times, again))
 
 reads_of : (times : TimeRanges) (lines : List (List ℕ)) (commands : List Command) → Say times lines commands
-    → AllZip (λ line command. Reads times line (Ok (Some command))) lines commands
+    → AllZip (λ line command. ReadsLine times line (Ok (Some command))) lines commands
 reads_of times [] [] h = tt
 reads_of times [] (c ∷ cs) h = absurd h
 reads_of times (l ∷ ls) [] h = absurd h

@@ -17,7 +17,7 @@ use Rattle.line_words.specs.Words.{is_some_text, words_by}
 use Rattle.script_lines.specs.Words.{is_blank, is_permitted, words_of}
 use Rattle.line_words.specs.Digits.{of_digits}
 use Rattle.script_lines.specs.Number.{number_of}
-use Rattle.script_lines.specs.Line.{IsCommand, is_skipped, IsRead, Reads}
+use Rattle.script_lines.specs.Line.{IsCommand, is_skipped, ReadsStripped, ReadsLine}
 
 -- ---- a line of words
 
@@ -129,7 +129,7 @@ some_length (c ∷ cs) rest h = omega arith
 -- a line is a command's, and has no line feed
 pub record Says (times : TimeRanges) (line : List ℕ) (command : Command) : Type 0 where
   pub plain : list_all is_permitted line ≡ true
-  pub read : Reads times line (Ok (Some command))
+  pub read : ReadsLine times line (Ok (Some command))
 
 -- what a line of words is, where they are those of a command
 pub read_as : (times : TimeRanges) (w : List ℕ) (ws : List (List ℕ)) (line : List ℕ) (command : Command)
@@ -142,8 +142,8 @@ read_as times w ws line command line-is h visible is =
     stripped text (some_length w (spaced ws) h.0.some) all in
     let words : words_of text ≡ w ∷ ws = words_are w ws h.0 h.1 in
     let Are : List (List ℕ) → Type 0 = λ words. IsCommand times words command in
-    let Is : List ℕ → Type 0 = λ text. IsRead times text (Ok (Some command)) in
-    let read : Reads times text (Ok (Some command)) =
+    let Is : List ℕ → Type 0 = λ text. ReadsStripped times text (Ok (Some command)) in
+    let read : ReadsLine times text (Ok (Some command)) =
     subst Is (sym same) (ap not visible, (all, subst Are (sym words) is)) in
     let Said : List ℕ → Type 0 = λ line. Says times line command in
     subst Said (sym line-is) (record { plain = all; read = read })

@@ -7,7 +7,7 @@ use Rattle.script_made.specs.declared.made.End.{End}
 use Rattle.script_lines.specs.declared.command.Command.{Command}
 use Rattle.script_lines.specs.declared.command.Command.TheVariants.{Node, Plug, Pull, Turn, Settle}
 use Rattle.script_text.specs.ReportText.{numbered}
-use Rattle.script_lines.specs.Line.{Reads}
+use Rattle.script_lines.specs.Line.{ReadsLine}
 use Rattle.script_made.specs.Made.{generator, word, end_of, for_each, made_lines, made_script}
 
 -- the name of node number k
@@ -46,7 +46,7 @@ made_commands n seed =
 abbrev pub MadeIsRead : Type 0
 MadeIsRead =
     (times : TimeRanges) (n seed : ℕ) → n ≤ 63 →
-    AllZip (λ line command. Reads times line (Ok (Some command))) (made_lines n seed) (made_commands n seed)
+    AllZip (λ line command. ReadsLine times line (Ok (Some command))) (made_lines n seed) (made_commands n seed)
 
 -- the lines are what stands between line feeds, and behind the last one nothing stands
 abbrev pub MadeIsSplit : Type 0

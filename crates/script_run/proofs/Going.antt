@@ -11,7 +11,7 @@ use Rattle.script_lines.specs.declared.command.Command.{Command}
 use Rattle.script_lines.specs.declared.command.Command.TheVariants.{Settle}
 use Rattle.script_told.specs.Bus.{Bus}
 use Rattle.script_told.specs.Step.{DoesSettle}
-use Rattle.script_lines.specs.Line.{Reads}
+use Rattle.script_lines.specs.Line.{ReadsLine}
 use Rattle.script_told.specs.Script.{Stage, fresh, running, ScriptResult, bus_of, ranges_of, DoesAtStage, fault_at, script_lines}
 use Rattle.script_told.specs.Run.{Entry, ScriptRun, done, stopped, behind, last_run, RunsFrom, IsRun, printed, IsResult}
 use Rattle.script_run.specs.Answered.{StopsWith, IsRefused, IsOnlyFault}
@@ -37,7 +37,7 @@ printed-more (e ∷ entries) entry =
     ∙ sym (append_assoc e.text (printed entries) entry.text)
 
 -- a command of a line is at fault
-pub done-fails : (stage : Stage) (line : List ℕ) (command : Command) (stop : LineStop) → Reads (ranges_of stage) line (Ok (Some command)) →
+pub done-fails : (stage : Stage) (line : List ℕ) (command : Command) (stop : LineStop) → ReadsLine (ranges_of stage) line (Ok (Some command)) →
     Stops (DoesAtStage stage command) stop → IfFault (LineFails stage line) stop
 done-fails stage line command (Fault kind) reads fails = inr (command, reads, fails)
 done-fails stage line command (Memory e) reads fails = tt

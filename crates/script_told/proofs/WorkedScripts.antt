@@ -26,7 +26,7 @@ use Rattle.script_lines.specs.Words.{words_of}
 use Rattle.line_words.specs.Digits.{of_digits}
 use Rattle.script_lines.specs.Number.{number_of}
 use Rattle.script_lines.specs.Name.{is_name}
-use Rattle.script_lines.specs.Line.{IsRead, Reads}
+use Rattle.script_lines.specs.Line.{ReadsStripped, ReadsLine}
 use Rattle.script_text.specs.ReportText.{report_line, numbered, none}
 use Rattle.script_told.specs.Bus.{Bus, bus_of_nodes}
 use Rattle.script_told.specs.Step.{LineAnswer, end_of, notes_after_act, notes_after_report, Reports, DoesSettle}
@@ -64,10 +64,10 @@ module _ (number : ℕ) (line : List ℕ) (lines : List (List ℕ)) (stage : Sta
 
   line-is :
       (reading : Result (Option Command) Kind) → said ≡ reading →
-      Reads (ranges_of stage) line reading
+      ReadsLine (ranges_of stage) line reading
   line-is reading e =
       let text : List ℕ = strip_carriage_return line in
-      subst (IsRead (ranges_of stage) text) e (reads (ranges_of stage) text)
+      subst (ReadsStripped (ranges_of stage) text) e (reads (ranges_of stage) text)
 
   -- a command is done
   step :

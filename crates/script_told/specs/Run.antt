@@ -5,7 +5,7 @@ use Rattle.script_lines.specs.declared.kind.Kind.{Kind}
 use Rattle.script_lines.specs.declared.kind.ScriptFault.{ScriptFault}
 use Rattle.script_lines.specs.declared.command.Command.{Command}
 use Rattle.script_lines.specs.declared.command.Command.TheVariants.{Settle}
-use Rattle.script_lines.specs.Line.{Reads}
+use Rattle.script_lines.specs.Line.{ReadsLine}
 use Rattle.script_told.specs.Bus.{Bus}
 use Rattle.script_told.specs.Step.{LineAnswer, DoesSettle}
 use Rattle.script_told.specs.Script.{Stage, fresh, running, StageAnswer, bus_of, ranges_of, DoesAtStage, ScriptResult, fault_at, script_lines}
@@ -69,7 +69,7 @@ TakesLine number Rest stage (Err kind) run = run ≡ stopped number kind
 abbrev pub RunsFrom : ℕ → List (List ℕ) → Stage → ScriptRun → Type 0
 RunsFrom number [] stage run = Ends number stage run
 RunsFrom number (line ∷ lines) stage run =
-    (reading : Result (Option Command) Kind) × Reads (ranges_of stage) line reading
+    (reading : Result (Option Command) Kind) × ReadsLine (ranges_of stage) line reading
     × TakesLine number (RunsFrom (number + 1) lines) stage reading run
 
 -- the run of a script

@@ -6,7 +6,7 @@ use Rattle.port_state.specs.declared.ranges.TimeRanges.{TimeRanges}
 use Rattle.port_state.specs.TimeRanges.{profile_ranges}
 use Rattle.script_lines.specs.declared.kind.Kind.{Kind}
 use Rattle.script_lines.specs.declared.command.Command.{Command}
-use Rattle.script_lines.specs.Line.{Reads}
+use Rattle.script_lines.specs.Line.{ReadsLine}
 use Rattle.script_told.specs.Bus.{Bus}
 use Rattle.script_told.specs.Step.{LineAnswer, Does, DoesSettle}
 use Rattle.script_told.specs.Script.{Stage, running, StageAnswer, bus_of, ranges_of, onwards, DoesOnBus, DoesAtStage}
@@ -97,7 +97,7 @@ ComesThrough run = (bus : Bus) × (run.end ≡ Ok bus)
 -- each line is read as its command
 abbrev pub Say : List (List ℕ) → List Command → Type 0
 Say lines commands =
-    (times : TimeRanges) → AllZip (λ line command. Reads times line (Ok (Some command))) lines commands
+    (times : TimeRanges) → AllZip (λ line command. ReadsLine times line (Ok (Some command))) lines commands
 
 ended :
     (number : ℕ) (stage : Stage) (r : LineAnswer) (run : ScriptRun) → GoesOn (λ bus. Unit {0}) r →

@@ -8,7 +8,7 @@ use Rattle.script_lines.specs.declared.kind.ScriptStop.TheVariants as script
 use Rattle.script_lines.specs.declared.command.Command.{Command}
 use Rattle.script_run.specs.declared.stage.Phase.{Phase}
 use Rattle.script_run.specs.declared.stage.Phase.TheVariants.{Fresh, Declaring, Running}
-use Rattle.script_lines.specs.Line.{Reads}
+use Rattle.script_lines.specs.Line.{ReadsLine}
 use Rattle.script_told.specs.Script.{Stage, fresh, declaring, running, ranges_of, DoesAtStage, fault_at}
 use Rattle.script_told.specs.Run.{Entry, ScriptRun, behind, RunsFrom, IsRun, printed}
 use Rattle.script_trace.specs.Voice.{Voice}
@@ -36,15 +36,15 @@ pub record HearsAt
 -- a line leads from a stage to the next and prints this, and a listener hears what happens
 abbrev pub LineLeads : Voice → Stage → List ℕ → Stage → List ℕ → List ℕ → List ℕ → Type 0
 LineLeads voice stage line next text out new =
-    (Reads (ranges_of stage) line (Ok None) × (next ≡ stage) × (text ≡ []) × (new ≡ out))
-    ⊎ ((command : Command) × Reads (ranges_of stage) line (Ok (Some command))
+    (ReadsLine (ranges_of stage) line (Ok None) × (next ≡ stage) × (text ≡ []) × (new ≡ out))
+    ⊎ ((command : Command) × ReadsLine (ranges_of stage) line (Ok (Some command))
     × DoesAtStage stage command (Ok (next, text)) × HearsAt voice stage command next out new)
 
 -- a line is at fault
 abbrev pub LineFails : Stage → List ℕ → Kind → Type 0
 LineFails stage line kind =
-    Reads (ranges_of stage) line (Err kind)
-    ⊎ ((command : Command) × Reads (ranges_of stage) line (Ok (Some command))
+    ReadsLine (ranges_of stage) line (Err kind)
+    ⊎ ((command : Command) × ReadsLine (ranges_of stage) line (Ok (Some command))
     × DoesAtStage stage command (Err kind))
 
 -- the stop of a script at a line

@@ -1,7 +1,7 @@
 -- How the reports of a script are written as they come. No public contract cites this file.
 use Rattle.std.specs.Prelude.{◌≡◌, ◌⊎◌, ℕ, List, ◌++◌, None, Some, Ok}
 use Rattle.script_lines.specs.declared.command.Command.{Command}
-use Rattle.script_lines.specs.Line.{Reads}
+use Rattle.script_lines.specs.Line.{ReadsLine}
 use Rattle.script_told.specs.Script.{Stage, ranges_of, DoesAtStage}
 use Rattle.script_told.specs.Run.{Entry}
 use Rattle.script_run.specs.Viewed.{IsReadAfter, AreReadLines}
@@ -19,8 +19,8 @@ pub record CommandShows (stage : Stage) (command : Command) (next : Stage) (out 
 -- a line leads from a stage to the next, and what it shows was added
 abbrev pub LineShows : Stage → List ℕ → Stage → List ℕ → List ℕ → Type 0
 LineShows stage line next out new =
-    (Reads (ranges_of stage) line (Ok None) × (next ≡ stage) × (new ≡ out))
-    ⊎ ((command : Command) × Reads (ranges_of stage) line (Ok (Some command))
+    (ReadsLine (ranges_of stage) line (Ok None) × (next ≡ stage) × (new ≡ out))
+    ⊎ ((command : Command) × ReadsLine (ranges_of stage) line (Ok (Some command))
     × CommandShows stage command next out new)
 
 -- lines were taken, and this is what they showed

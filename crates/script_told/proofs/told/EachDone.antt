@@ -8,7 +8,7 @@ use Rattle.script_lines.specs.declared.kind.Kind.{Kind}
 use Rattle.script_lines.specs.declared.command.Command.{Command}
 use Rattle.script_lines.specs.declared.command.Command.TheVariants.{Settle}
 use Rattle.script_lines.specs.Range.{IsInRange}
-use Rattle.script_lines.specs.Line.{Reads}
+use Rattle.script_lines.specs.Line.{ReadsLine}
 use Rattle.script_lines.proofs.Lemmas.{in-range}
 use Rattle.settle.specs.declared.report.Report.{Report}
 use Rattle.settle.specs.Report.{IsReport, quiet_turns_of}
@@ -72,8 +72,8 @@ module _ (trees : NoListHasTwoTrees) (keeps : ActKeepsNodes) where
 
   takes :
       (number : ℕ) (Rest : Stage → ScriptRun → Type 0) (stage : Stage) (line : List ℕ) (reading : Result (Option Command) Kind)
-      (run : ScriptRun) → IsDoneFrom Rest → IsSound stage → Reads (ranges_of stage) line reading →
-      TakesLine number Rest stage reading run → AllDone run
+      (run : ScriptRun) → IsDoneFrom Rest → IsSound stage →
+      ReadsLine (ranges_of stage) line reading → TakesLine number Rest stage reading run → AllDone run
   takes number Rest stage line (Ok None) run rest h reads x = rest stage run h x
   takes number Rest stage line (Ok (Some command)) run rest h reads x =
       goes number Rest stage command x.0 run rest h (in-range (ranges_of stage) line command reads) x.1 x.2

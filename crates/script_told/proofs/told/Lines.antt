@@ -14,7 +14,7 @@ use Rattle.script_lines.specs.declared.command.Command.TheVariants.{Node, Delay,
 use Rattle.script_lines.specs.Range.{IsWithin, IsInRange}
 use Rattle.script_lines.specs.declared.times.ScriptTimes.{ScriptTimes}
 use Rattle.script_lines.specs.Times.{standard_times}
-use Rattle.script_lines.specs.Line.{Reads}
+use Rattle.script_lines.specs.Line.{ReadsLine}
 use Rattle.script_lines.proofs.Lemmas.{one_reading, in-range}
 use Rattle.script_told.specs.Bus.{is_declared}
 use Rattle.script_told.specs.Script.{Draft, Stage, fresh, declaring, running, StageAnswer, bus_of, ranges_of, first_draft, draft_with, new_node, times_of, coins_of, with_node, with_times, Declares, Delays, SaysTimes, onwards, DoesOnBus, DoesAtStage, script_lines}
@@ -141,7 +141,7 @@ module _ (trees : NoListHasTwoTrees) (keeps : ActKeepsNodes) where
 
   takes :
       (number : ℕ) (Rest : Stage → ScriptRun → Type 0) (stage : Stage) (line : List ℕ) (reading : Result (Option Command) Kind)
-      (one other : ScriptRun) → IsOneFrom Rest → IsSound stage → Reads (ranges_of stage) line reading →
+      (one other : ScriptRun) → IsOneFrom Rest → IsSound stage → ReadsLine (ranges_of stage) line reading →
       TakesLine number Rest stage reading one → TakesLine number Rest stage reading other →
       one ≡ other
   takes number Rest stage line (Ok None) one other rest h reads x y = rest stage one other h x y
