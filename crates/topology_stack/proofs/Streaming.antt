@@ -21,7 +21,7 @@ use Rattle.topology_stack.specs.declared.fault.TreeStop.{TreeStop}
 use Rattle.topology_stack.specs.declared.fault.TreeStop.TheVariants.{Fault}
 use Rattle.topology_stack.specs.Reader.{Kept, IsLasting, StandsFor}
 use Rattle.topology_stack.specs.codings.Code.{label_of, build}
-use Rattle.topology_stack.specs.codings.Place.{IsWholeTree, IsWaiting, IsRead, IsPlace, StandsAtEnd, GroupMayEnd, IsPlaced}
+use Rattle.topology_stack.specs.codings.Place.{IsWholeTree, IsWaiting, IsTreeOrWaiting, IsPlace, StandsAtEnd, GroupMayEnd, IsPlaced}
 use Rattle.topology_stack.specs.Waiting.{after_node}
 use Rattle.topology_stack.proofs.Lemmas.{no_fault, one_fault}
 use Rattle.topology_stack.proofs.Loop.{ok_waiting, too_few, left, joined, few_wait}
@@ -100,8 +100,8 @@ may_end_within quads q p h lt = may_end quads q p h (few_nodes quads p (eqb p.no
 
 -- ---- a whole group
 
-is_waiting : (front : List ℕ) (nodes : ℕ) (w : Waiting) → w.rooted ≡ false → IsRead front nodes w →
-    IsWaiting front w.trees nodes
+is_waiting : (front : List ℕ) (nodes : ℕ) (w : Waiting) → w.rooted ≡ false →
+    IsTreeOrWaiting front nodes w → IsWaiting front w.trees nodes
 is_waiting front nodes w e r = subst (λ (b : Bool). MatchBool b (IsWholeTree front nodes) (IsWaiting front w.trees nodes)) e r
 
 pass_tests : (a b : Bool) (x y : TreeFault) (w v : Waiting) →
@@ -166,12 +166,12 @@ by_root front trees nodes n h s us false e g few is is_of all = part_more front 
 -- reading goes on behind the group of a node that passes its tests
 pub read_more : (front : List ℕ) (at nodes : ℕ) (n : Node) (w v : Waiting) →
     IsWaiting front w.trees nodes → nodes ≤ 62 → IsNode n → IsOf Ieee2000 n →
-    after_node at w.trees n ≡ Ok v → IsRead (front ++ group n nodes) (nodes + 1) v
+    after_node at w.trees n ≡ Ok v → IsTreeOrWaiting (front ++ group n nodes) (nodes + 1) v
 read_more front at nodes n w v h few is is_of go =
     let tests = pass_tests (too_few w.trees n) (left w.trees n) (TooFewChildren at w.trees (downs n.ports)) (TreesLeft at w.trees (downs n.ports)) (joined w.trees n) v go in
     let b = built n.ports h.wait (omega (arith, h.count, ltb-false _ _ tests.0)) in
     let g = grows n h.wait (build n.ports h.wait).0 (build n.ports h.wait).1 b h.forest.waiting in
-    subst (λ (x : Waiting). IsRead (front ++ group n nodes) (nodes + 1) x) tests.2 (by_root front w.trees nodes n h (build n.ports h.wait).0 (build n.ports h.wait).1 (eqb (ups n.ports) 0) refl g few is is_of tests.1)
+    subst (λ (x : Waiting). IsTreeOrWaiting (front ++ group n nodes) (nodes + 1) x) tests.2 (by_root front w.trees nodes n h (build n.ports h.wait).0 (build n.ports h.wait).1 (eqb (ups n.ports) 0) refl g few is is_of tests.1)
 
 -- the place behind it is at the end
 pub behind : (quads : List ℕ) (p : Place) (n : Node) (after : ℕ) (v : Waiting) →

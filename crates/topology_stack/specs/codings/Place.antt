@@ -25,8 +25,8 @@ pub record IsWaiting (front : List ℕ) (trees nodes : ℕ) : Type 0 where
   pub count : trees ≡ length wait
   pub nodes_are : nodes ≡ length (walks wait)
 
-abbrev pub IsRead : List ℕ → ℕ → Waiting → Type 0
-IsRead front nodes w =
+abbrev pub IsTreeOrWaiting : List ℕ → ℕ → Waiting → Type 0
+IsTreeOrWaiting front nodes w =
     MatchBool w.rooted (IsWholeTree front nodes) (IsWaiting front w.trees nodes)
 
 -- what holds of each place: the groups of so many nodes stand before it
@@ -34,7 +34,7 @@ pub record IsPlace (quads : List ℕ) (p : Place) : Type 0 where
   pub room : p.at ≤ 3 * p.nodes
   pub few : p.nodes ≤ 63
   pub trees : p.waiting.trees ≤ p.nodes
-  pub read : IsRead (take p.at quads) p.nodes p.waiting
+  pub read : IsTreeOrWaiting (take p.at quads) p.nodes p.waiting
 
 -- and from it on are the first packets of the next node's group, one or two of three, or none
 pub record StandsAtEnd (quads : List ℕ) (p : Place) : Type 0 where
