@@ -2,7 +2,7 @@
 use Rattle.std.proofs.Common.{◌≡◌, ◌∙◌, ℕ, ◌+◌, Bool, true, false, List, [], ◌∷◌, Ok, Err, length, refl, sym, ap, subst}
 use Rattle.quad_lanes.specs.Capture.{capture}
 use Rattle.quad_lanes.specs.Pairs.{firsts, quads_of}
-use Rattle.phy_packet.specs.Packet.{Shows}
+use Rattle.phy_packet.specs.Packet.{IsQuadletOf}
 use Rattle.phy_packet.specs.declared.packet.PhyPacket.{PhyPacket}
 use Rattle.phy_packet.proofs.Lemmas.{packet_of, packet_of-quad_of}
 use Rattle.self_id.specs.declared.standard.Standard.{Standard}
@@ -70,7 +70,7 @@ same_reading one standard bytes (refused f) (refused g) x y = ap (λ (h : Captur
 -- ---- a reading has one text
 
 -- a quadlet shows one packet
-one_packet : (quad : ℕ) (p q : PhyPacket) → Shows quad p → Shows quad q → p ≡ q
+one_packet : (quad : ℕ) (p q : PhyPacket) → IsQuadletOf quad p → IsQuadletOf quad q → p ≡ q
 one_packet quad p q x y =
     sym (packet_of-quad_of p x.valid) ∙ ap packet_of (x.quad_is ∙ sym y.quad_is) ∙ packet_of-quad_of q y.valid
 

@@ -1,6 +1,6 @@
 //! A PHY packet, both ways.
 ghost use Rattle.std.specs.Prelude.{◌≡◌};
-ghost use Rattle.phy_packet.specs.Packet.{Shows};
+ghost use Rattle.phy_packet.specs.Packet.{IsQuadletOf};
 ghost use Rattle.phy_packet.specs.declared.packet.PhyPacket.{PhyPacket};
 ghost use Rattle.heapless_c.specs.Packets.{blank, packet_record, packet_in, Encodes, RecordsAreReadBack};
 
@@ -162,7 +162,7 @@ fn packet_in(shown: &PacketRecord) -> Option<PhyPacket>
 /// Tells the packet that a quadlet shows.
 #[unsafe(no_mangle)]
 pub extern "C" fn busconf_decode(quad: u32, packet: &mut PacketRecord)
-    ensures { (p : PhyPacket) × Shows quad p × (packet.new ≡ packet_record p) }
+    ensures { (p : PhyPacket) × IsQuadletOf quad p × (packet.new ≡ packet_record p) }
 {
     *packet = packet_record(decode(quad));
 }

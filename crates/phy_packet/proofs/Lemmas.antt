@@ -3,7 +3,7 @@ use Rattle.std.specs.Prelude.{◌≡◌, ℕ, zero, suc, ◌+◌, ◌*◌, ◌/�
 use Rattle.std.proofs.Common.{arith, eqb, ap, sym, ◌∙◌}
 use Rattle.std.proofs.lemmas.Bool.{eqb-true, eqb-false}
 use Rattle.phy_packet.specs.Layout.{bit}
-use Rattle.phy_packet.specs.Packet.{quad_of, IsValid, Shows, is_self_id}
+use Rattle.phy_packet.specs.Packet.{quad_of, IsValid, IsQuadletOf, is_self_id}
 pub use Rattle.phy_packet.specs.codings.Decoding.{config_of, link_on_of, self_zero_of, self_more_of, packet_of}
 use Rattle.phy_packet.specs.declared.packet.PhyPacket.{PhyPacket}
 use Rattle.phy_packet.specs.declared.packet.PhyPacket.TheVariants.{Config, LinkOn, SelfZero, SelfMore, Extended, Other}
@@ -150,7 +150,7 @@ pub bit_fits : (b : Bool) → bit b < 2 ^ 1
 bit_fits true = omega arith
 bit_fits false = omega arith
 
-pub shows-self_zero : (q : ℕ) → q / 2 ^ 30 ≡ 2 → q / 2 ^ 23 % 2 ≡ 0 → Shows q (self_zero_of q)
+pub shows-self_zero : (q : ℕ) → q / 2 ^ 30 ≡ 2 → q / 2 ^ 23 % 2 ≡ 0 → IsQuadletOf q (self_zero_of q)
 shows-self_zero q top kind = record {
   valid = record {
     fit = (omega arith, (omega arith, (omega arith, (bit_fits _, (omega arith, (omega arith, (omega arith, (bit_fits _, (omega arith, (omega arith, (omega arith, (omega arith, (bit_fits _, (bit_fits _, tt))))))))))))));
@@ -159,7 +159,7 @@ shows-self_zero q top kind = record {
   quad_is = rw (bit-eqb (q / 2 ^ 22 % 2) (omega arith), bit-eqb (q / 2 ^ 11 % 2) (omega arith), bit-eqb (q / 2 % 2) (omega arith), bit-eqb (q % 2) (omega arith)) (omega arith);
 }
 
-pub shows-self_more : (q : ℕ) → q / 2 ^ 30 ≡ 2 → q / 2 ^ 23 % 2 ≡ 1 → Shows q (self_more_of q)
+pub shows-self_more : (q : ℕ) → q / 2 ^ 30 ≡ 2 → q / 2 ^ 23 % 2 ≡ 1 → IsQuadletOf q (self_more_of q)
 shows-self_more q top kind = record {
   valid = record { fit = (omega arith, (omega arith, (omega arith, (omega arith, (omega arith, (omega arith, (bit_fits _, (bit_fits _, tt)))))))); apart = tt };
   quad_is = rw (bit-eqb (q / 2 % 2) (omega arith), bit-eqb (q % 2) (omega arith)) (omega arith);
@@ -169,22 +169,24 @@ not_self_id : (b : Bool) (q : ℕ) → is_self_id (if b then config_of q else Ex
 not_self_id true q = refl
 not_self_id false q = refl
 
-shows_kind : (b : Bool) (q : ℕ) → (b ≡ true → Shows q (self_zero_of q)) →
-    (b ≡ false → Shows q (self_more_of q)) → Shows q (if b then self_zero_of q else self_more_of q)
+shows_kind : (b : Bool) (q : ℕ) → (b ≡ true → IsQuadletOf q (self_zero_of q)) →
+    (b ≡ false → IsQuadletOf q (self_more_of q)) →
+    IsQuadletOf q (if b then self_zero_of q else self_more_of q)
 shows_kind true q f g = f refl
 shows_kind false q f g = g refl
 
 -- by the tests of the top two bits
-by_top : (a b c : Bool) (q : ℕ) (x y : PhyPacket) → is_self_id x ≡ false → (c ≡ true → Shows q y) →
+by_top : (a b c : Bool) (q : ℕ) (x y : PhyPacket) → is_self_id x ≡ false →
+    (c ≡ true → IsQuadletOf q y) →
     is_self_id (if a then x else (if b then link_on_of q else (if c then y else Other q))) ≡ true →
-    Shows q (if a then x else (if b then link_on_of q else (if c then y else Other q)))
+    IsQuadletOf q (if a then x else (if b then link_on_of q else (if c then y else Other q)))
 by_top true b c q x y other go is = absurd cc
 by_top false true c q x y other go is = absurd cc
 by_top false false true q x y other go is = go refl
 by_top false false false q x y other go is = absurd cc
 
 -- a quadlet whose packet is a self-ID packet shows that packet
-pub shows-self_id : (q : ℕ) → is_self_id (packet_of q) ≡ true → Shows q (packet_of q)
+pub shows-self_id : (q : ℕ) → is_self_id (packet_of q) ≡ true → IsQuadletOf q (packet_of q)
 unfolding packet_of
 shows-self_id q is =
     by_top _ _ _ q _ _ (not_self_id ((q / 2 ^ 23 % 2 == 1) || (q / 2 ^ 22 % 2 == 1)) q) (λ top.
@@ -193,5 +195,5 @@ shows-self_id q is =
     (λ kind. shows-self_more q (eqb-true _ _ top) (let ne : q / 2 ^ 23 % 2 ≡ 0 → ⊥ = eqb-false _ _ kind in omega arith))) is
 
 -- a quadlet shows no other packet
-pub packet-shown : (q : ℕ) (p : PhyPacket) → Shows q p → packet_of q ≡ p
+pub packet-shown : (q : ℕ) (p : PhyPacket) → IsQuadletOf q p → packet_of q ≡ p
 packet-shown q p s = ap packet_of (sym s.quad_is) ∙ packet_of-quad_of p s.valid

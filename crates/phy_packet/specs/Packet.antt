@@ -38,8 +38,8 @@ pub record IsValid (p : PhyPacket) : Type 0 where
   pub fit : AllFit (layout p)
   pub apart : IsApart p
 
--- a quadlet shows a packet
-pub record Shows (quad : ℕ) (p : PhyPacket) : Type 0 where
+-- the packet is valid, and this is its first quadlet
+pub record IsQuadletOf (quad : ℕ) (p : PhyPacket) : Type 0 where
   pub valid : IsValid p
   pub quad_is : quad_of p ≡ quad
 

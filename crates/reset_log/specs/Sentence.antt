@@ -1,6 +1,6 @@
 -- What was found and what was wanted where a list is refused: the sentence below the line of its fault.
 use Rattle.std.specs.Prelude.{◌≡◌, ◌<◌, ◌≤◌, ◌⊎◌, ℕ, ◌-◌, ◌/◌, nat_lt, if◌then◌else◌, Option, Some, None, List, ◌++◌, length, slice_index}
-use Rattle.phy_packet.specs.Packet.{Shows}
+use Rattle.phy_packet.specs.Packet.{IsQuadletOf}
 use Rattle.phy_packet.specs.declared.packet.PhyPacket.{PhyPacket}
 use Rattle.self_id.specs.declared.standard.Standard.{Standard}
 use Rattle.view_text.specs.Sentence.{first_at, second_at, length_sentence, inverse_sentence, tree_sentence}
@@ -25,7 +25,7 @@ quad_at Core list at = if nat_lt at (length list) then slice_index list at else 
 abbrev pub IsBefore : Origin → List ℕ → ℕ → Option PhyPacket → Type 0
 IsBefore origin list at None = (at ≡ 0) ⊎ (packet_count origin list < at)
 IsBefore origin list at (Some p) =
-    (0 < at) × (at ≤ packet_count origin list) × Shows (quad_at origin list (at - 1)) p
+    (0 < at) × (at ≤ packet_count origin list) × IsQuadletOf (quad_at origin list (at - 1)) p
 
 -- by a standard, with the packet before the place of the fault
 abbrev pub sentence : Standard → Origin → List ℕ → Option PhyPacket → CaptureFault → List ℕ

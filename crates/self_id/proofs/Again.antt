@@ -4,7 +4,7 @@ use Rattle.std.proofs.lemmas.List.{take-append-drop, length-take-le, nil_from_le
 use Rattle.std.proofs.Math.Seq.{take-length, take-add}
 use Rattle.phy_packet.proofs.Lemmas.{bit_fits, bit-eqb}
 use Rattle.phy_packet.specs.Layout.{bit}
-use Rattle.phy_packet.specs.Packet.{Shows, IsValid, quad_of, has_more}
+use Rattle.phy_packet.specs.Packet.{IsQuadletOf, IsValid, quad_of, has_more}
 use Rattle.phy_packet.specs.declared.packet.PhyPacket.{PhyPacket}
 use Rattle.self_id.specs.declared.fault.GroupFault.{GroupFault}
 use Rattle.self_id.specs.declared.node.PortStatus.{PortStatus}
@@ -39,7 +39,7 @@ five_valid : (n : Node) (id : ℕ) → id < 64 → n.kept_b < 1024 → fields (d
     IsValid (five_packet n id)
 five_valid n id lt kept small = record { fit = (omega arith, (lt, (omega arith, (omega arith, (omega arith, (omega arith, (bit_fits _, (bit_fits _, tt)))))))); apart = tt }
 
-abbrev shown : (p : PhyPacket) → IsValid p → Shows (quad_of p) p
+abbrev shown : (p : PhyPacket) → IsValid p → IsQuadletOf (quad_of p) p
 shown p v = record { valid = v; quad_is = refl }
 
 -- ---- slots and kept bits of the packets of a node

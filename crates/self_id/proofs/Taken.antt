@@ -1,7 +1,7 @@
 -- One packet of a group: taken, or refused with its first fault.
 use Rattle.std.proofs.Common.{◌≡◌, ◌≢◌, ℕ, suc, ◌+◌, ◌^◌, ◌<◌, Bool, true, false, cond, eqb, List, [], ◌∷◌, length, drop, Result, Ok, Err, refl, sym, ap, subst, ◌∙◌, arith, eq-eqb}
 use Rattle.std.proofs.lemmas.Bool.{eqb-true, eqb-false}
-use Rattle.phy_packet.specs.Packet.{Shows, IsValid, is_self_id, owner, has_more}
+use Rattle.phy_packet.specs.Packet.{IsQuadletOf, IsValid, is_self_id, owner, has_more}
 use Rattle.phy_packet.proofs.Lemmas.{packet_of, packet-shown, shows-self_id}
 use Rattle.phy_packet.specs.declared.packet.PhyPacket.{PhyPacket}
 use Rattle.phy_packet.specs.declared.packet.PhyPacket.TheVariants.{Config, LinkOn, SelfZero, SelfMore, Extended, Other}
@@ -19,7 +19,7 @@ use Rattle.self_id.proofs.Fields.{status_bits-status_of}
 pub record Found (id j : ℕ) (l : List ℕ) (p : PhyPacket) : Type 0 where
   pub quad : ℕ
   pub front : l ≡ quad ∷ drop 1 l
-  pub shows : Shows quad p
+  pub shows : IsQuadletOf quad p
   pub self : is_self_id p ≡ true
   pub own : owner p ≡ id
   pub order : is_in_order j p ≡ true
@@ -50,7 +50,7 @@ found at id j (q ∷ qs) p e =
     (record { quad = q; front = refl; shows = shows-self_id q self; self = self; own = eqb-true _ _ own; order = order }))))
 
 -- a packet that is in its place is taken
-pub takes : (at id j q : ℕ) (qs : List ℕ) (p : PhyPacket) → Shows q p → is_self_id p ≡ true →
+pub takes : (at id j q : ℕ) (qs : List ℕ) (p : PhyPacket) → IsQuadletOf q p → is_self_id p ≡ true →
     owner p ≡ id → is_in_order j p ≡ true → packet_at at id j (q ∷ qs) ≡ Ok p
 unfolding packet_at
 takes at id j q qs p shows self own order = rw (packet-shown q p shows, self, eq-eqb _ _ own, order) refl
@@ -92,7 +92,7 @@ refuses_other' : (at id j : ℕ) (x : PhyPacket) → is_self_id x ≡ false →
 refuses_other' at id j x e = rw e refl
 
 pub refuses_other : (at id j q : ℕ) (qs : List ℕ) →
-    ((p : PhyPacket) → Shows q p → is_self_id p ≡ false) →
+    ((p : PhyPacket) → IsQuadletOf q p → is_self_id p ≡ false) →
     packet_at at id j (q ∷ qs) ≡ Err (NotSelfId at)
 unfolding packet_at
 refuses_other at id j q qs not_self =
@@ -106,12 +106,12 @@ refuses_other at id j q qs not_self =
 not_eqb : (a b : ℕ) → a ≢ b → eqb a b ≡ false
 not_eqb a b ne = elim (eqb a b) as (λ (v : Bool). eqb a b ≡ v → v ≡ false) [ true ↦ λ e. absurd (ne (eqb-true a b e)) | false ↦ λ e. refl ] refl
 
-pub refuses_owner : (at id j q : ℕ) (qs : List ℕ) (p : PhyPacket) → Shows q p →
+pub refuses_owner : (at id j q : ℕ) (qs : List ℕ) (p : PhyPacket) → IsQuadletOf q p →
     is_self_id p ≡ true → owner p ≢ id → packet_at at id j (q ∷ qs) ≡ Err (WrongId at (owner p) id)
 unfolding packet_at
 refuses_owner at id j q qs p shows self ne = rw (packet-shown q p shows, self, not_eqb (owner p) id ne) refl
 
-pub refuses_order : (at id j q : ℕ) (qs : List ℕ) (p : PhyPacket) → Shows q p →
+pub refuses_order : (at id j q : ℕ) (qs : List ℕ) (p : PhyPacket) → IsQuadletOf q p →
     is_self_id p ≡ true → owner p ≡ id → is_in_order j p ≡ false →
     packet_at at id j (q ∷ qs) ≡ Err (BadOrder at)
 unfolding packet_at

@@ -1,6 +1,6 @@
 -- Why no group stands at a place of a list.
 use Rattle.std.specs.Prelude.{◌≡◌, ◌≢◌, ℕ, zero, suc, ◌+◌, ◌<◌, ◌≤◌, Bool, true, false, ◌==◌, List, [], ◌∷◌, ◌++◌, length}
-use Rattle.phy_packet.specs.Packet.{Shows, is_self_id, owner, has_more}
+use Rattle.phy_packet.specs.Packet.{IsQuadletOf, is_self_id, owner, has_more}
 use Rattle.phy_packet.specs.declared.packet.PhyPacket.{PhyPacket}
 use Rattle.phy_packet.specs.declared.packet.PhyPacket.TheVariants.{Config, LinkOn, SelfZero, SelfMore, Extended, Other}
 use Rattle.self_id.specs.declared.fault.GroupFault.{GroupFault}
@@ -25,7 +25,7 @@ is_in_order j (Other word) = false
 
 -- a quadlet shows packet number j of the ID's group, and says that another packet follows
 pub record LeadsOn (id j quad : ℕ) (p : PhyPacket) : Type 0 where
-  pub shows : Shows quad p
+  pub shows : IsQuadletOf quad p
   pub self : is_self_id p ≡ true
   pub own : owner p ≡ id
   pub order : is_in_order j p ≡ true
@@ -59,15 +59,15 @@ GroupRefused standard at id l (Cut place) =
 -- a quadlet that shows no self-ID packet
 GroupRefused standard at id l (NotSelfId place) =
     (front rest : List ℕ) × (q : ℕ) × LeadsTo standard id at l front (q ∷ rest) place
-    × ((p : PhyPacket) → Shows q p → is_self_id p ≡ false)
+    × ((p : PhyPacket) → IsQuadletOf q p → is_self_id p ≡ false)
 -- a self-ID packet of another node
 GroupRefused standard at id l (WrongId place found wanted) =
     (front rest : List ℕ) × (q : ℕ) × (p : PhyPacket) × LeadsTo standard id at l front (q ∷ rest) place
-    × Shows q p × (is_self_id p ≡ true) × (found ≡ owner p) × (wanted ≡ id) × (found ≢ id)
+    × IsQuadletOf q p × (is_self_id p ≡ true) × (found ≡ owner p) × (wanted ≡ id) × (found ≢ id)
 -- a self-ID packet of the node that isn't the next of its group
 GroupRefused standard at id l (BadOrder place) =
     (front rest : List ℕ) × (q : ℕ) × (p : PhyPacket) × LeadsTo standard id at l front (q ∷ rest) place
-    × Shows q p × (is_self_id p ≡ true) × (owner p ≡ id)
+    × IsQuadletOf q p × (is_self_id p ≡ true) × (owner p ≡ id)
     × (is_in_order (length front) p ≡ false)
 -- a whole group with more than one slot that leads to the parent
 GroupRefused standard at id l (TwoParents place) =

@@ -1,7 +1,7 @@
 -- The pairs of a capture, a line each, and a note below one of them.
 use Rattle.std.specs.Prelude.{ℕ, ◌+◌, ◌*◌, ◌/◌, ◌==◌, nat_le, if◌then◌else◌, List, [], ◌∷◌, ◌++◌, length, drop, codes}
 use Rattle.quad_lanes.specs.Pairs.{pairs, quads_of}
-use Rattle.phy_packet.specs.Packet.{Shows}
+use Rattle.phy_packet.specs.Packet.{IsQuadletOf}
 use Rattle.phy_packet.specs.declared.packet.PhyPacket.{PhyPacket}
 use Rattle.topology_stack.specs.Hex.{hex}
 use Rattle.view_text.specs.Packet.{field, packet_text}
@@ -11,7 +11,7 @@ abbrev pub AreShown : List ℕ → List PhyPacket → Type 0
 AreShown [] [] = Unit {0}
 AreShown [] (p ∷ ps) = ⊥
 AreShown (q ∷ qs) [] = ⊥
-AreShown (q ∷ qs) (p ∷ ps) = Shows q p × AreShown qs ps
+AreShown (q ∷ qs) (p ∷ ps) = IsQuadletOf q p × AreShown qs ps
 
 -- `pair P QUADLET QUADLET`: its number from 0, the packet's quadlet, its inverse
 unfoldable pub pair_quads : ℕ → ℕ → ℕ → List ℕ

@@ -1,7 +1,7 @@
 //! The pairs of a capture, a line each.
 ghost use Rattle.std.specs.Prelude.{◌≡◌, ℕ, ◌+◌, ◌*◌, ◌/◌, ◌^◌, ◌<◌, ◌≤◌, All, List, length, drop, ◌++◌, IfOk, OnOk};
 ghost use Rattle.quad_lanes.specs.Pairs.{pairs, firsts, quads_of};
-ghost use Rattle.phy_packet.specs.Packet.{Shows, IsValid};
+ghost use Rattle.phy_packet.specs.Packet.{IsQuadletOf, IsValid};
 ghost use Rattle.view_text.specs.Pairs.{AreShown, pair_quads, pair_line, below, lines, bytes_text, cut_line, at_end, pairs_text};
 
 use crate::packet::put_packet;
