@@ -17,9 +17,9 @@ use Rattle.cable_world.specs.World.{CableWorld, NodeSet}
 abbrev pub AtNode : CableWorld → ℕ → (PortNode → Type 0) → Type 0
 AtNode w k P = IsSomeAnd (slice_get w.nodes k) P
 
--- what it shows
-abbrev pub Shows : CableWorld → ℕ → (View → Type 0) → Type 0
-Shows w k P = AtNode w k (λ x. P x.state.view)
+-- and this of what it shows
+abbrev pub AtView : CableWorld → ℕ → (View → Type 0) → Type 0
+AtView w k P = AtNode w k (λ x. P x.state.view)
 
 -- A loop: the core isn't empty. Every node of it reports that the configuration timed out, and no
 -- node of the component has an ID.
@@ -28,8 +28,8 @@ pub record IsLoop (w : CableWorld) (set core : ℕ) : Type 0 where
   pub node : ℕ
   pub in_core : Holds core node
   pub timed_out :
-      (k : ℕ) → Holds core k → Shows w k (λ v. (v.phase ≡ TreeStart) × (v.timed_out ≡ true))
-  pub unnamed : (k : ℕ) → Holds set k → Shows w k (λ v. v.id ≡ None)
+      (k : ℕ) → Holds core k → AtView w k (λ v. (v.phase ≡ TreeStart) × (v.timed_out ≡ true))
+  pub unnamed : (k : ℕ) → Holds set k → AtView w k (λ v. v.id ≡ None)
 
 -- no cables of the set form a loop
 pub record HasNoLoop (w : CableWorld) (set : ℕ) : Type 0 where
@@ -53,7 +53,7 @@ pub record IsContention (w : CableWorld) (set a b : ℕ) : Type 0 where
   pub port_b : ℕ
   pub cable :
       far w.cabling (record { node = a; port = port_a }) ≡ Some (record { node = b; port = port_b })
-  pub draws : Shows w a (λ v. Shows w b (λ u. DrewAlike v u))
+  pub draws : AtView w a (λ v. AtView w b (λ u. DrewAlike v u))
 
 -- the attributes that the nodes show, by number
 abbrev pub attrs_now : CableWorld → List Attrs
@@ -65,11 +65,11 @@ pub record IsTree (w : CableWorld) (set root : ℕ) (t : Tree) : Type 0 where
   pub no_loop : HasNoLoop w set
   pub holds_root : Holds set root
   pub seen : Sees w.cabling (labels (attrs_now w)) root None t
-  pub no_parent : Shows w root (λ v. v.parent ≡ None)
-  pub parents : (k : ℕ) → Holds set k → k ≢ root → Shows w k (λ v. IsSome v.parent)
+  pub no_parent : AtView w root (λ v. v.parent ≡ None)
+  pub parents : (k : ℕ) → Holds set k → k ≢ root → AtView w k (λ v. IsSome v.parent)
   pub ids :
       (k : ℕ) → Holds set k →
-      Shows w k (λ v. IsSomeAnd v.id (λ i. slice_get (numbers w.cabling root t) i ≡ Some k))
+      AtView w k (λ v. IsSomeAnd v.id (λ i. slice_get (numbers w.cabling root t) i ≡ Some k))
   pub lists : (k : ℕ) → Holds set k → AtNode w k (λ x. x.state.list.items ≡ emits t)
 
 pub data Outcome : Type 0 where

@@ -13,7 +13,7 @@ use Rattle.port_state.specs.Machine.{PortNode}
 use Rattle.cable_world.specs.World.{CableWorld, NodeNumber, NodeSet, wire_of}
 use Rattle.cable_world.specs.Phases.{is_before_tree, is_in_bus_reset}
 use Rattle.cable_world.specs.Signals.{signals_of, has_reset}
-use Rattle.cable_world.specs.Outcome.{IsContention, Shows}
+use Rattle.cable_world.specs.Outcome.{IsContention, AtView}
 
 -- ---- resets
 
@@ -88,4 +88,4 @@ TreesAreDecided w = OfTrees w (IdentifyOrContend w)
 abbrev pub LoopsAreReported : CableWorld → Type 0
 LoopsAreReported w =
     (set core : NodeSet) (k : NodeNumber) → IsCore w.cabling set core → Holds core k →
-    Shows w k (λ v. (v.phase ≡ TreeStart) × (v.timed_out ≡ true))
+    AtView w k (λ v. (v.phase ≡ TreeStart) × (v.timed_out ≡ true))

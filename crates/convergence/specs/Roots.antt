@@ -6,7 +6,7 @@ use Rattle.cabling.specs.Looped.{IsCore}
 use Rattle.port_state.specs.Machine.{PortNode}
 use Rattle.cable_world.specs.World.{CableWorld, NodeNumber, NodeSet}
 use Rattle.cable_world.specs.Phases.{is_before_tree}
-use Rattle.cable_world.specs.Outcome.{Shows}
+use Rattle.cable_world.specs.Outcome.{AtView}
 
 -- node number k took its roles
 pub record IsLate (w : CableWorld) (k : ℕ) : Type 0 where
@@ -25,7 +25,7 @@ pub record IsRoot (w : CableWorld) (k : ℕ) : Type 0 where
 abbrev pub LoopsAreUndecided : CableWorld → Type 0
 LoopsAreUndecided w =
     (set core : NodeSet) (k : NodeNumber) → IsCore w.cabling set core → Holds core k →
-    Shows w k (λ v. is_before_tree v.phase ≡ true)
+    AtView w k (λ v. is_before_tree v.phase ≡ true)
 
 -- each component has one root at most
 abbrev pub RootsAreAlone : CableWorld → Type 0

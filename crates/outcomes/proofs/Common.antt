@@ -46,7 +46,7 @@ pub use Rattle.cable_world.specs.Agreement.{leads_down, level_after, level_sent,
 pub use Rattle.cable_world.specs.Coupling.{is_asking}
 pub use Rattle.cable_world.specs.Fresh.{IsFresh}
 pub use Rattle.cable_world.specs.Lawful.{IsLawful}
-pub use Rattle.cable_world.specs.Outcome.{IsSettled, IsTree, Shows, attrs_now, contention, loop, tree}
+pub use Rattle.cable_world.specs.Outcome.{IsSettled, IsTree, AtView, attrs_now, contention, loop, tree}
 pub use Rattle.cable_world.specs.Phases.{is_after_hold, is_before_tree, is_in_bus_reset, is_shaking}
 pub use Rattle.cable_world.specs.Quiet.{HoldSchedule, PlacedHold, holds_after, with_holds}
 unfoldable pub use Rattle.cable_world.specs.Quiet.{quiet_after}

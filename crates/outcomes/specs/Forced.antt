@@ -7,7 +7,7 @@ use Rattle.port_state.specs.Machine.{PortNode}
 use Rattle.cable_world.specs.Times.{CanBeForced}
 use Rattle.cable_world.specs.World.{CableWorld, NodeNumber, NodeSet}
 use Rattle.cable_world.specs.Phases.{is_before_tree, is_in_bus_reset}
-use Rattle.cable_world.specs.Outcome.{HasNoLoop, Shows}
+use Rattle.cable_world.specs.Outcome.{HasNoLoop, AtView}
 use Rattle.convergence.specs.Roots.{IsRoot}
 use Rattle.topology_stack.specs.Tree.{Tree}
 use Rattle.cabling.specs.Component.{IsComponent}
@@ -38,15 +38,15 @@ gap_due v = if is_resetting v.phase then v.gap else v.next_gap
 -- of a set of nodes this one waits, and no other does
 pub record WaitsAlone (w : CableWorld) (set waiting : ℕ) : Type 0 where
   pub holds : Holds set waiting
-  pub waits : Shows w waiting (λ v. waits_due v ≡ true)
-  pub others : (k : ℕ) → Holds set k → k ≢ waiting → Shows w k (λ v. waits_due v ≡ false)
+  pub waits : AtView w waiting (λ v. waits_due v ≡ true)
+  pub others : (k : ℕ) → Holds set k → k ≢ waiting → AtView w k (λ v. waits_due v ≡ false)
 
 -- of a set of nodes, none of which is in R0 or R1, this one has the ID, and no other does
 pub record IsNamedAlone (w : CableWorld) (set node id : ℕ) : Type 0 where
   pub holds : Holds set node
-  pub calm : (k : ℕ) → Holds set k → Shows w k (λ v. is_in_bus_reset v.phase ≡ false)
-  pub named : Shows w node (λ v. v.id ≡ Some id)
-  pub others : (k : ℕ) → Holds set k → k ≢ node → Shows w k (λ v. v.id ≢ Some id)
+  pub calm : (k : ℕ) → Holds set k → AtView w k (λ v. is_in_bus_reset v.phase ≡ false)
+  pub named : AtView w node (λ v. v.id ≡ Some id)
+  pub others : (k : ℕ) → Holds set k → k ≢ node → AtView w k (λ v. v.id ≢ Some id)
 
 -- a root, and the others that know their tree and have a parent port
 pub record IsRooted (w : CableWorld) (set root : ℕ) : Type 0 where
@@ -140,7 +140,7 @@ pub record SendsPacket
     : Type 0 where
   pub act : ActLeads (Config from id force gap) w v
   pub component : IsComponent w.cabling from set
-  pub calm : (k : ℕ) → Holds set k → Shows w k (λ v. is_in_bus_reset v.phase ≡ false)
+  pub calm : (k : ℕ) → Holds set k → AtView w k (λ v. is_in_bus_reset v.phase ≡ false)
 
 -- a configuration packet with R set names one node of a component that isn't being reset
 pub record NamesRoot

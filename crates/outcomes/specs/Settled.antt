@@ -11,7 +11,7 @@ use Rattle.cable_world.specs.Quiet.{HoldSchedule, quiet_after}
 use Rattle.cable_world.specs.Run.{ComesOfPowerOn, Rests}
 use Rattle.cable_world.specs.declared.act.Act.TheVariants.{Config}
 use Rattle.cable_world.specs.Act.{IsAct, act_fault}
-use Rattle.cable_world.specs.Outcome.{HasNoLoop, Shows, IsLoop, IsTree, IsSettled}
+use Rattle.cable_world.specs.Outcome.{HasNoLoop, AtView, IsLoop, IsTree, IsSettled}
 use Rattle.convergence.specs.Milestones.{ResetsAreDone}
 use Rattle.convergence.specs.Turns.{turns_to_settle, turns_to_over, turns_to_loops}
 use Rattle.outcomes.specs.Forced.{SendsPacket, CanBeForcedAt, IsForced, IsNamedAlone, NamesRoot}
@@ -74,7 +74,7 @@ ForcedRootsSettle =
 abbrev pub IdsNameOneNode : Type 0
 IdsNameOneNode =
     (w : CableWorld) (set : NodeSet) (old root : NodeNumber) (id : ℕ) (t : Tree) →
-    ComesOfPowerOn w → IsTree w set old t → Holds set root → Shows w root (λ v. v.id ≡ Some id) →
+    ComesOfPowerOn w → IsTree w set old t → Holds set root → AtView w root (λ v. v.id ≡ Some id) →
     IsNamedAlone w set root id
 
 -- a configuration packet with R set makes the node that it names root, where it can be forced

@@ -19,7 +19,7 @@ use Rattle.cable_world.specs.Act.{IsAct, ActLeads, act_fault, change_in_set}
 use Rattle.cable_world.specs.Unchanged.{ActKeepsNodes}
 use Rattle.cable_world.specs.Lawful.{IsLawful}
 use Rattle.cable_world.specs.Phases.{is_in_bus_reset}
-use Rattle.cable_world.specs.Outcome.{IsTree, Shows}
+use Rattle.cable_world.specs.Outcome.{IsTree, AtView}
 use Rattle.cable_world.specs.Run.{IsReached, Rests, still}
 use Rattle.cable_world.specs.Events.{turn_count}
 use Rattle.cable_world.proofs.Lemmas.{some-of, some-at, quiet-run, rests-then, turns-rest, reached-comes, reached-forced, reached-lawful, act-reached, step-cables, after-cabling, after-length, after-delay, after-longest}
@@ -105,7 +105,7 @@ module _
       (ap (λ (x : CableWorld). x.longest) c.is ∙ after-longest c.schedule sent sent-lawful j) in
       omega (arith, same, turns-enough u)
 
-  calm : (k : ℕ) → Holds s.set k → Shows w k (λ x. is_in_bus_reset x.phase ≡ false)
+  calm : (k : ℕ) → Holds s.set k → AtView w k (λ x. is_in_bus_reset x.phase ≡ false)
   calm =
       let x = some-of (slice_get w.nodes tree.root) _ (s.stands.is.ids tree.root s.stands.is.holds_root) in
       let i = some-of x.0.state.view.id _ x.2 in

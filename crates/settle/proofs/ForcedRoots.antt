@@ -10,7 +10,7 @@ use Rattle.port_state.specs.Machine.{PortNode}
 use Rattle.cable_world.specs.World.{CableWorld}
 use Rattle.cable_world.specs.Run.{IsReached}
 use Rattle.cable_world.specs.Lawful.{IsLawful}
-use Rattle.cable_world.specs.Outcome.{IsTree, Shows}
+use Rattle.cable_world.specs.Outcome.{IsTree, AtView}
 use Rattle.cable_world.proofs.Lemmas.{some-of, some-at, lawful-now, plain-quiet, plainly, reached-comes, reached-forced, turns-cabling}
 use Rattle.cable_world.specs.Quiet.{no_holds, quiet_after}
 use Rattle.outcomes.specs.Forced.{EntriesTakeOver, waits_due}
@@ -27,8 +27,8 @@ module _
     (reached : ∥ IsReached w ∥₁) (from set node : ℕ) (quiet : IsAfterQuiet w v)
     (b : BeginsAnew w from set) (f : IsForcedAlone v set node) where
   -- what is forced after the turns waited before them
-  waited : (k : ℕ) (b : Bool) → Holds set k → Shows v k (λ x. x.force ≡ b) →
-      Shows w k (λ x. waits_due x ≡ b)
+  waited : (k : ℕ) (b : Bool) → Holds set k → AtView v k (λ x. x.force ≡ b) →
+      AtView w k (λ x. waits_due x ≡ b)
   waited k bit m shown =
       let x = some-of (slice_get w.nodes k) _ (b.fresh.waits k m) in
       let y = some-of (slice_get v.nodes k) _ shown in

@@ -11,7 +11,7 @@ use Rattle.port_state.specs.declared.view.View.{View}
 use Rattle.port_state.specs.Machine.{PortNode}
 use Rattle.cable_world.specs.World.{CableWorld}
 use Rattle.cable_world.specs.Run.{IsReached}
-use Rattle.cable_world.specs.Outcome.{Outcome, loop, tree, contention, HasNoLoop, IsLoop, IsContention, IsOutcome, IsSettled, Shows}
+use Rattle.cable_world.specs.Outcome.{Outcome, loop, tree, contention, HasNoLoop, IsLoop, IsContention, IsOutcome, IsSettled, AtView}
 use Rattle.cable_world.proofs.Lemmas.{reached-comes, reached-lawful, plainly}
 use Rattle.cable_world.specs.Quiet.{no_holds}
 use Rattle.cable_world.specs.Phases.{is_in_bus_reset}
@@ -62,7 +62,7 @@ same_phases = Coded-set (code_by ℕ coded_ℕ phase_number phase_of phase_of-nu
 
 shows_prop :
     (w : CableWorld) (k : ℕ) (P : View → Type 0) → ((v : View) → IsProp (P v)) →
-    IsProp (Shows w k P)
+    IsProp (AtView w k P)
 shows_prop w k P p = go (slice_get w.nodes k)
   where
     go : (o : Option PortNode) → IsProp (IsSomeAnd o (λ x. P x.state.view))
@@ -71,10 +71,10 @@ shows_prop w k P p = go (slice_get w.nodes k)
 
 timed_out_prop :
     (w : CableWorld) (k : ℕ) →
-    IsProp (Shows w k (λ v. (v.phase ≡ phase.TreeStart) × (v.timed_out ≡ true)))
+    IsProp (AtView w k (λ v. (v.phase ≡ phase.TreeStart) × (v.timed_out ≡ true)))
 timed_out_prop w k = shows_prop w k (λ v. (v.phase ≡ phase.TreeStart) × (v.timed_out ≡ true)) (λ v. ×_prop (same_phases v.phase phase.TreeStart) (Coded-set coded_bool v.timed_out true))
 
-unnamed_prop : (w : CableWorld) (k : ℕ) → IsProp (Shows w k (λ v. v.id ≡ None))
+unnamed_prop : (w : CableWorld) (k : ℕ) → IsProp (AtView w k (λ v. v.id ≡ None))
 unnamed_prop w k = shows_prop w k (λ v. v.id ≡ None) (λ v. Coded-set (coded_option coded_ℕ) v.id None)
 
 no_prop : IsProp ⊥

@@ -16,7 +16,7 @@ use Rattle.cable_world.specs.declared.act.Act.TheVariants.{Config}
 use Rattle.cable_world.specs.Act.{IsConfigPacket, act_fault}
 use Rattle.cable_world.specs.Lawful.{IsLawful}
 use Rattle.settle.proofs.SameNodes.{SameNodes, same-component, same-tree}
-use Rattle.cable_world.specs.Outcome.{IsTree, Shows, attrs_now}
+use Rattle.cable_world.specs.Outcome.{IsTree, AtView, attrs_now}
 use Rattle.cable_world.proofs.Lemmas.{some-of, some-at, some-same}
 use Rattle.outcomes.proofs.Lemmas.{in-read, one-place}
 use Rattle.bus_manager.specs.Gap.{gaps, gap_of}
@@ -98,7 +98,7 @@ module _
         inside : Holds set node
         inside = tree_within w.cabling (labels (attrs_now w)) s.root set s.tree loopless s.is.seen node (in-read order plan.root_id node at)
 
-        named : Shows w node (λ v. v.id ≡ Some plan.root_id)
+        named : AtView w node (λ v. v.id ≡ Some plan.root_id)
         named =
             let x = some-of (slice_get w.nodes node) _ (tree-there.ids node inside) in
             let i = some-of x.0.state.view.id _ x.2 in

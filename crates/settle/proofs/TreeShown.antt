@@ -10,7 +10,7 @@ use Rattle.cabling.specs.Labels.{labels}
 use Rattle.cabling.specs.Sees.{Sees, numbers}
 use Rattle.cabling.proofs.Lemmas.{one-tree}
 use Rattle.cable_world.specs.World.{CableWorld}
-use Rattle.cable_world.specs.Outcome.{HasNoLoop, IsTree, Shows, AtNode, attrs_now}
+use Rattle.cable_world.specs.Outcome.{HasNoLoop, IsTree, AtView, AtNode, attrs_now}
 use Rattle.settle.specs.Reported.{ReportsTree}
 use Rattle.settle.specs.codings.Reading.{ShowsTree, IsTop, AllFit}
 
@@ -48,7 +48,7 @@ tree-fits w set top root list order t s holds is h k inside =
     let emitted : emits t ≡ list = ap emits same ∙ sym s.emitted in
     record {
       parent = λ ne. h.parents k inside (λ e. ne (e ∙ sym at));
-      id = subst (λ (o : List ℕ). Shows w k (λ v. IsSomeAnd v.id (λ i. slice_get o i ≡ Some k))) walked (h.ids k inside);
+      id = subst (λ (o : List ℕ). AtView w k (λ v. IsSomeAnd v.id (λ i. slice_get o i ≡ Some k))) walked (h.ids k inside);
       has_list = subst (λ (l : List ℕ). AtNode w k (λ x. x.state.list.items ≡ l)) emitted (h.lists k inside);
     }
 
@@ -65,7 +65,7 @@ fits-tree w set top list order no_loop s holds is fit = record {
     seen = s.seen;
     no_parent = is;
     parents = λ k inside ne. (fit k inside).parent ne;
-    ids = λ k inside. subst (λ (o : List ℕ). Shows w k (λ v. IsSomeAnd v.id (λ i. slice_get o i ≡ Some k))) s.walked (fit k inside).id;
+    ids = λ k inside. subst (λ (o : List ℕ). AtView w k (λ v. IsSomeAnd v.id (λ i. slice_get o i ≡ Some k))) s.walked (fit k inside).id;
     lists = λ k inside. subst (λ (l : List ℕ). AtNode w k (λ x. x.state.list.items ≡ l)) s.emitted (fit k inside).has_list;
   };
   emitted = s.emitted;

@@ -4,7 +4,7 @@ use Rattle.cabling.specs.NodeSet.{Holds}
 use Rattle.cabling.specs.Component.{IsComponent}
 use Rattle.cable_world.specs.World.{CableWorld, NodeNumber, NodeSet}
 use Rattle.cable_world.specs.Fresh.{IsFresh}
-use Rattle.cable_world.specs.Outcome.{HasNoLoop, Shows}
+use Rattle.cable_world.specs.Outcome.{HasNoLoop, AtView}
 use Rattle.settle.specs.Report.{IsTreeFrom}
 use Rattle.settle.specs.declared.report.Report.{Report}
 
@@ -17,8 +17,8 @@ pub record BeginsAnew (w : CableWorld) (from : NodeNumber) (set : NodeSet) : Typ
 -- of the nodes of a set this one is forced, and no other
 pub record IsForcedAlone (w : CableWorld) (set : NodeSet) (node : NodeNumber) : Type 0 where
   pub holds : Holds set node
-  pub forced : Shows w node (λ v. v.force ≡ true)
-  pub others : (k : NodeNumber) → Holds set k → k ≢ node → Shows w k (λ v. v.force ≡ false)
+  pub forced : AtView w node (λ v. v.force ≡ true)
+  pub others : (k : NodeNumber) → Holds set k → k ≢ node → AtView w k (λ v. v.force ≡ false)
 
 -- Where a component of a world began anew, and one of its nodes alone is forced once the quiet turns
 -- are done, that node is the root of the tree that is reported.

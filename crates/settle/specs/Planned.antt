@@ -10,7 +10,7 @@ use Rattle.cable_world.specs.declared.act.Act.TheVariants.{Config}
 use Rattle.cable_world.specs.World.{CableWorld, NodeNumber, NodeSet}
 use Rattle.cable_world.specs.Act.{ActLeads}
 use Rattle.cable_world.specs.Run.{IsReached}
-use Rattle.cable_world.specs.Outcome.{Shows, IsTree}
+use Rattle.cable_world.specs.Outcome.{AtView, IsTree}
 use Rattle.bus_manager.specs.Gap.{gap_of}
 use Rattle.bus_manager.specs.Hops.{IsHops}
 use Rattle.root_plan.specs.declared.choice.RootPlan.{RootPlan}
@@ -37,7 +37,7 @@ pub record HasId (w : CableWorld) (from : NodeNumber) (id : ℕ) (node : NodeNum
   pub set : NodeSet
   pub component : IsComponent w.cabling from set
   pub holds : Holds set node
-  pub named : Shows w node (λ v. v.id ≡ Some id)
+  pub named : AtView w node (λ v. v.id ≡ Some id)
 
 -- The node sends the plan's packet to its component, resets the bus, and the quiet turns are done.
 pub record IsAfterPlan
@@ -51,7 +51,7 @@ pub record IsAfterPlan
 abbrev pub HaveGap : CableWorld → NodeNumber → ℕ → Type 0
 HaveGap w from gap =
     (set : NodeSet) (k : NodeNumber) → IsComponent w.cabling from set → Holds set k →
-    Shows w k (λ v. v.gap ≡ gap)
+    AtView w k (λ v. v.gap ≡ gap)
 
 -- The part with a node is a tree whose hops want this gap count.
 pub record WantsGap (from : NodeNumber) (gap : ℕ) (part : Part) : Type 0 where

@@ -8,7 +8,7 @@ use Rattle.port_state.specs.declared.timing.Timing.{Timing}
 use Rattle.cable_world.specs.World.{CableWorld, NodeNumber, NodeSet}
 use Rattle.cable_world.specs.Turn.{turns_after}
 use Rattle.cable_world.specs.Run.{IsReached, quiet_turns}
-use Rattle.cable_world.specs.Outcome.{Shows}
+use Rattle.cable_world.specs.Outcome.{AtView}
 use Rattle.convergence.specs.Turns.{turns_to_settle}
 use Rattle.outcomes.specs.Headline.{IsLeftAlone}
 use Rattle.settle.specs.declared.report.Part.{Part}
@@ -31,7 +31,7 @@ pub record IsGreatest (set : NodeSet) (IsOf : NodeNumber → ℕ → Type 0) (mo
 
 -- a node drew so many coins since its last reset
 abbrev pub Drew : CableWorld → NodeNumber → ℕ → Type 0
-Drew w k n = Shows w k (λ v. v.draws ≡ n)
+Drew w k n = AtView w k (λ v. v.draws ≡ n)
 
 -- a node's list last changed at the end of so many turns
 abbrev pub LastChanged : CableWorld → NodeNumber → ℕ → Type 0

@@ -6,7 +6,7 @@ use Rattle.cabling.specs.Looped.{IsCore}
 use Rattle.cabling.specs.Sees.{numbers}
 use Rattle.cable_world.specs.World.{CableWorld, NodeNumber, NodeSet}
 use Rattle.port_state.specs.declared.signal.Phase.TheVariants.{TreeStart}
-use Rattle.cable_world.specs.Outcome.{Shows, IsTree, IsContention, IsFirstPair}
+use Rattle.cable_world.specs.Outcome.{AtView, IsTree, IsContention, IsFirstPair}
 use Rattle.settle.specs.declared.report.Outcome.{Outcome}
 use Rattle.settle.specs.declared.report.Outcome.TheVariants as reported
 
@@ -21,8 +21,8 @@ pub record ReportsLoop (w : CableWorld) (set core : NodeSet) : Type 0 where
   pub some : IsEmpty core → ⊥
   pub timed_out :
       (k : NodeNumber) → Holds core k →
-      Shows w k (λ v. (v.phase ≡ TreeStart) × (v.timed_out ≡ true))
-  pub unnamed : (k : NodeNumber) → Holds set k → Shows w k (λ v. v.id ≡ None)
+      AtView w k (λ v. (v.phase ≡ TreeStart) × (v.timed_out ≡ true))
+  pub unnamed : (k : NodeNumber) → Holds set k → AtView w k (λ v. v.id ≡ None)
 
 -- a tree, with the list that it emits, and the nodes in the order of its walk
 pub record ReportsTree

@@ -24,7 +24,7 @@ use Rattle.cable_world.specs.Turn.{turn, turns_after}
 use Rattle.cable_world.specs.Act.{hold}
 use Rattle.cable_world.specs.Quiet.{no_holds, quiet_after}
 use Rattle.cable_world.specs.Events.{Event, acts, turns, Runs}
-use Rattle.cable_world.specs.Outcome.{Shows, IsTree}
+use Rattle.cable_world.specs.Outcome.{AtView, IsTree}
 use Rattle.cable_world.proofs.Lemmas.{some-same, each-held, no-core, no-loop, attrs, at, after_plug, after_pull}
 use Rattle.outcomes.specs.Forced.{waits_due}
 use Rattle.world_laws.specs.Arrival.{heard_in}
@@ -132,7 +132,7 @@ one-waits = record {
   alone = record {
     holds = refl;
     waits = refl;
-    others = each-held (λ k. k ≢ 1 → Shows plugged k (λ v. waits_due v ≡ false)) 3 (0 ∷ 1 ∷ []) refl ((λ ne. refl), ((λ ne. absurd (ne refl)), tt));
+    others = each-held (λ k. k ≢ 1 → AtView plugged k (λ v. waits_due v ≡ false)) 3 (0 ∷ 1 ∷ []) refl ((λ ne. refl), ((λ ne. absurd (ne refl)), tt));
   };
   enough = act-forced (Plug (at 0 0) (at 1 0)) alone plugged refl (λ k x e. in-range-forced 4 x.state.timing (omega arith) (each-on k x e).timing) 1;
 }

@@ -11,7 +11,7 @@ use Rattle.cable_world.specs.declared.act.Act.TheVariants.{Plug, Pull, Reset, Co
 use Rattle.cable_world.specs.World.{CableWorld, NodeNumber, NodeSet}
 use Rattle.cable_world.specs.Act.{Acted}
 use Rattle.cable_world.specs.Run.{ComesOfPowerOn}
-use Rattle.cable_world.specs.Outcome.{Shows, IsTree}
+use Rattle.cable_world.specs.Outcome.{AtView, IsTree}
 use Rattle.world_laws.specs.ByNumber.{NodeStands, InActs}
 
 -- whether there is an end, and it is at this node
@@ -50,7 +50,7 @@ TouchesAreTested =
 abbrev pub TouchedNodesReset : Type 0
 TouchedNodesReset =
     InActs (λ a w v. (k : NodeNumber) → Touches a w k →
-    Shows v k (λ u. (u.phase ≡ ResetStart) × (u.timer ≡ 0)))
+    AtView v k (λ u. (u.phase ≡ ResetStart) × (u.timer ≡ 0)))
 
 -- each node of an untouched component, with its cables and wires, is as it was
 abbrev pub ActsTouchTheirComponent : Type 0

@@ -8,7 +8,7 @@ use Rattle.port_state.specs.Machine.{PortNode}
 use Rattle.cable_world.specs.World.{CableWorld, NodeSet}
 use Rattle.cable_world.specs.Turn.{turn}
 use Rattle.cable_world.specs.Quiet.{PlacedHold, HoldSchedule, with_holds, quiet_after}
-use Rattle.cable_world.specs.Outcome.{Shows, DrewAlike, loop, tree, contention, IsSettled}
+use Rattle.cable_world.specs.Outcome.{AtView, DrewAlike, loop, tree, contention, IsSettled}
 use Rattle.cable_world.proofs.Options.{some-and, some-of}
 
 -- the same holds after each turn
@@ -24,9 +24,9 @@ NeverSettles holds w =
 
 -- no node has an ID, none reports the timeout, and no two drew the same 32 coins
 pub record IsOpen (w : CableWorld) : Type 0 where
-  pub unnamed : (k : ℕ) → Shows w k (λ v. IsSome v.id) → ⊥
-  pub calm : (k : ℕ) → Shows w k (λ v. v.timed_out ≡ true) → ⊥
-  pub unlike : (a b : ℕ) → a < b → Shows w a (λ v. Shows w b (λ u. DrewAlike v u)) → ⊥
+  pub unnamed : (k : ℕ) → AtView w k (λ v. IsSome v.id) → ⊥
+  pub calm : (k : ℕ) → AtView w k (λ v. v.timed_out ≡ true) → ⊥
+  pub unlike : (a b : ℕ) → a < b → AtView w a (λ v. AtView w b (λ u. DrewAlike v u)) → ⊥
 
 has-some : {A : Type 0} → (o : Option A) (P : A → Type 0) → IsSomeAnd o P → IsSome o
 has-some None P h = absurd h
@@ -47,7 +47,7 @@ each_view test w = list_all (λ (x : PortNode). test x.state.view) w.nodes
 -- where each node passes a test, no node shows what doesn't pass it
 pub nowhere :
     (test : View → Bool) (P : View → Type 0) (w : CableWorld) (k : ℕ) →
-    ((v : View) → test v ≡ true → P v → ⊥) → each_view test w ≡ true → Shows w k P → ⊥
+    ((v : View) → test v ≡ true → P v → ⊥) → each_view test w ≡ true → AtView w k P → ⊥
 nowhere test P w k never all = go w.nodes k all
   where
     go :
@@ -75,7 +75,7 @@ timed-not false e h = absurd cc
 
 pub open-unnamed :
     (w : CableWorld) → each_view is_unnamed w ≡ true →
-    ((a b : ℕ) → a < b → Shows w a (λ v. Shows w b (λ u. DrewAlike v u)) → ⊥) → IsOpen w
+    ((a b : ℕ) → a < b → AtView w a (λ v. AtView w b (λ u. DrewAlike v u)) → ⊥) → IsOpen w
 open-unnamed w all unlike = record {
   unnamed = λ k. nowhere is_unnamed (λ v. IsSome v.id) w k (λ v e. named-not v.id (and_parts (not (is_some v.id)) (not v.timed_out) e).0) all;
   calm = λ k. nowhere is_unnamed (λ v. v.timed_out ≡ true) w k (λ v e. timed-not v.timed_out (and_parts (not (is_some v.id)) (not v.timed_out) e).1) all;
@@ -97,10 +97,10 @@ pub open-fresh : (w : CableWorld) → each_view is_fresh w ≡ true → IsOpen w
 open-fresh w all = record {
   unnamed = λ k. nowhere is_fresh (λ v. IsSome v.id) w k (λ v e. named-not v.id (fresh-parts v e).0) all;
   calm = λ k. nowhere is_fresh (λ v. v.timed_out ≡ true) w k (λ v e. timed-not v.timed_out (fresh-parts v e).1) all;
-  unlike = λ a b less. nowhere is_fresh (λ v. Shows w b (λ u. DrewAlike v u)) w a (many b) all;
+  unlike = λ a b less. nowhere is_fresh (λ v. AtView w b (λ u. DrewAlike v u)) w a (many b) all;
 }
   where
-    many : (b : ℕ) (v : View) → is_fresh v ≡ true → Shows w b (λ u. DrewAlike v u) → ⊥
+    many : (b : ℕ) (v : View) → is_fresh v ≡ true → AtView w b (λ u. DrewAlike v u) → ⊥
     many b v e h = few-many v.draws (fresh-parts v e).2 (some-of (slice_get w.nodes b) (λ (y : PortNode). DrewAlike v y.state.view) h).2.many
 
 -- the coins that the nodes drew first
@@ -110,7 +110,7 @@ first_draws w = map (λ (x : PortNode). x.state.view.first_draws) w.nodes
 -- of two nodes that drew unequal coins
 pub two-unlike :
     (w : CableWorld) (f g : ℕ) → first_draws w ≡ f ∷ g ∷ [] → f ≢ g → (a b : ℕ) → a < b →
-    Shows w a (λ v. Shows w b (λ u. DrewAlike v u)) → ⊥
+    AtView w a (λ v. AtView w b (λ u. DrewAlike v u)) → ⊥
 two-unlike w f g drew ne a b less h = go w.nodes drew a b less h
   where
     go :

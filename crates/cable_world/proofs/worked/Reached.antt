@@ -15,7 +15,7 @@ use Rattle.cable_world.specs.World.{CableWorld, IsNodeAtPowerOn, world_of_nodes}
 use Rattle.cable_world.specs.Turn.{turn, turns_after}
 use Rattle.cable_world.specs.Act.{act_fault, hold, hold_fault}
 use Rattle.cable_world.specs.Run.{IsReached, starts}
-use Rattle.cable_world.specs.Outcome.{Shows}
+use Rattle.cable_world.specs.Outcome.{AtView}
 use Rattle.cable_world.specs.Fresh.{IsFresh}
 use Rattle.cable_world.proofs.StaysReached.{all-turned}
 use Rattle.cable_world.proofs.worked.Summary.{node_of, attrs, at, after_plug}
@@ -143,8 +143,8 @@ pair-fresh = record {
   node = 0;
   holds = refl;
   resets = refl;
-  begins = each-held (λ k. Shows pair.start k (λ v. v.phase ≡ ResetStart → v.timer ≡ 0)) 3 (0 ∷ 1 ∷ []) refl ((λ r. refl), ((λ r. refl), tt));
-  waits = each-held (λ k. Shows pair.start k (λ v. v.phase ≢ ResetWait)) 3 (0 ∷ 1 ∷ []) refl ((λ r. absurd cc), ((λ r. absurd cc), tt));
+  begins = each-held (λ k. AtView pair.start k (λ v. v.phase ≡ ResetStart → v.timer ≡ 0)) 3 (0 ∷ 1 ∷ []) refl ((λ r. refl), ((λ r. refl), tt));
+  waits = each-held (λ k. AtView pair.start k (λ v. v.phase ≢ ResetWait)) 3 (0 ∷ 1 ∷ []) refl ((λ r. absurd cc), ((λ r. absurd cc), tt));
 }
 
 pair-stale : IsFresh (turn pair.start) 3 → ⊥

@@ -6,7 +6,7 @@ use Rattle.convergence.proofs.Common.{End, far, Holds, IsComponent, HasTwo, IsCo
 use Rattle.cabling.specs.NodeSet.{IsWithin}
 use Rattle.cabling.specs.Looped.{LeadsInto, IsLooped}
 use Rattle.cabling.proofs.Lemmas.{same_end, one_other, shared}
-use Rattle.cable_world.specs.Outcome.{Shows}
+use Rattle.cable_world.specs.Outcome.{AtView}
 use Rattle.convergence.proofs.turns.Cables.{joined-of}
 use Rattle.convergence.specs.Acyclic.{LeadsDown}
 use Rattle.convergence.specs.Milestones.{ResetsAreOverIn}
@@ -106,7 +106,7 @@ module _ (w : CableWorld) (l : IsLawful w) (set : ℕ) (over : ResetsAreOverIn w
   -- so each core node is there, in a phase up to T0
   pub core-shows :
       IsAcyclic w → (core k : ℕ) → IsCore w.cabling set core → Holds core k →
-      Shows w k (λ v. is_before_tree v.phase ≡ true)
+      AtView w k (λ v. is_before_tree v.phase ≡ true)
   core-shows c core k is h = some-at (slice_get w.nodes k) x (λ y. is_before_tree y.state.view.phase ≡ true) at (true_from_ne_false _ (λ e. core-early c core k is h (record { node = x; at = at; late = e })))
     where
       p : (part : ℕ) × IsWithin part set × IsLooped w.cabling part × Holds part k

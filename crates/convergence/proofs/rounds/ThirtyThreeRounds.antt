@@ -6,7 +6,7 @@ use Rattle.std.proofs.lemmas.Bool.{cases_lt}
 use Rattle.port_state.specs.declared.timing.Timing.{Timing}
 use Rattle.cable_world.proofs.Lemmas.{after-longest}
 use Rattle.convergence.proofs.Common.{End, Wiring, far, IsCore, NodeState, coin, draws_with, tick, PortNode, CableWorld, wire_of, turn_at, turn, node-after, cabling-after, after-delay, some-of, some-at, some-same, no-quiet, quiet-then, PlacedHold, HoldSchedule, holds_after, with_holds, quiet_after, AddsDraw, DrewTogether, AreRivals, end_at}
-use Rattle.cable_world.specs.Outcome.{Shows, HasNoLoop, DrewAlike}
+use Rattle.cable_world.specs.Outcome.{AtView, HasNoLoop, DrewAlike}
 use Rattle.convergence.specs.Milestones.{HasContention}
 use Rattle.convergence.proofs.turns.CalmTurns.{Calmly, heard_by}
 use Rattle.convergence.proofs.rounds.Grown.{Grown, calm-turn, grown-after}
@@ -75,7 +75,7 @@ module _
       port_a = a.port;
       port_b = b.port;
       cable = s.ends.joined;
-      draws = some-at (slice_get w.nodes a.node) s.ends.near (λ (n : PortNode). Shows w b.node (λ u. DrewAlike n.state.view u)) s.ends.near_at
+      draws = some-at (slice_get w.nodes a.node) s.ends.near (λ (n : PortNode). AtView w b.node (λ u. DrewAlike n.state.view u)) s.ends.near_at
           (some-at (slice_get w.nodes b.node) s.ends.other (λ (n : PortNode). DrewAlike s.ends.near.state.view n.state.view) s.ends.other_at alike);
     };
   }
@@ -149,7 +149,7 @@ module _ (w : CableWorld) (set : ℕ) (g : Grown w set) where
           port_a = h.is.port_a;
           port_b = h.is.port_b;
           cable = ap (λ (c : Wiring). far c (end_at h.low h.is.port_a)) (cabling-after w) ∙ h.is.cable;
-          draws = some-at (slice_get (turn w).nodes h.low) (turn_at w h.low n.0).node (λ (z : PortNode). Shows (turn w) h.high (λ u. DrewAlike z.state.view u)) (node-after w h.low n.0 g.lawful.well_formed.count n.1)
+          draws = some-at (slice_get (turn w).nodes h.low) (turn_at w h.low n.0).node (λ (z : PortNode). AtView (turn w) h.high (λ u. DrewAlike z.state.view u)) (node-after w h.low n.0 g.lawful.well_formed.count n.1)
               (some-at (slice_get (turn w).nodes h.high) (turn_at w h.high o.0).node (λ (z : PortNode). DrewAlike (turn_at w h.low n.0).node.state.view z.state.view) (node-after w h.high o.0 g.lawful.well_formed.count o.1)
               (record { many = p.many; many_too = q.many; alike = p.first ∙ o.2.alike ∙ sym q.first }));
         };

@@ -4,7 +4,7 @@
 use Rattle.std.proofs.Math.Nat.{mul-le-mul_left}
 use Rattle.std.proofs.Common.{◌≡◌, inl, inr, ℕ, zero, suc, ◌+◌, ◌-◌, ◌*◌, ◌<◌, ◌≤◌, Bool, true, false, Option, Some, None, length, min, slice_get, if◌then◌else◌, refl, sym, ◌∙◌, ap, subst, arith, true≢false}
 use Rattle.std.proofs.lemmas.Bool.{eq-eqb}
-use Rattle.outcomes.proofs.Common.{contrary, Phase, NodeState, Timing, coin, is_port, is_resetting, raise_timer, tick, PortNode, Holds, IsComponent, CableWorld, turn, is_before_tree, is_after_hold, IsLawful, IsFresh, Shows, in-turn, after-delay, some-of, some-same, risen, one-quiet, quiet-lawful, HoldSchedule, quiet_after, waits_due, gap_due, Calmly, signals, heard_by, parent-was}
+use Rattle.outcomes.proofs.Common.{contrary, Phase, NodeState, Timing, coin, is_port, is_resetting, raise_timer, tick, PortNode, Holds, IsComponent, CableWorld, turn, is_before_tree, is_after_hold, IsLawful, IsFresh, AtView, in-turn, after-delay, some-of, some-same, risen, one-quiet, quiet-lawful, HoldSchedule, quiet_after, waits_due, gap_due, Calmly, signals, heard_by, parent-was}
 use Rattle.port_state.specs.declared.signal.Phase.TheVariants as phase
 use Rattle.cable_world.specs.Times.{Suits, CanBeForced}
 use Rattle.outcomes.specs.Forced.{CanBeForcedAt}
@@ -319,14 +319,14 @@ module _
       taken-over (j - spread) k s x h at_s (subst (λ n. slice_get (later n).nodes k ≡ Some x) z at)
 
   pub forces :
-      (j k : ℕ) (b : Bool) (x : PortNode) → Holds set k → Shows w k (λ v. waits_due v ≡ b) →
+      (j k : ℕ) (b : Bool) (x : PortNode) → Holds set k → AtView w k (λ v. waits_due v ≡ b) →
       slice_get (later (spread + j)).nodes k ≡ Some x → x.state.view.force ≡ b
   forces j k b x h due at = let s = some-of (slice_get w.nodes k) _ due in (taken-over j k s.0 x h s.1 at).0 ∙ s.2
 
   -- so a node that waits takes no parent port in these turns
   pub waiting :
       (j k : ℕ) (x : PortNode) → CanBeForcedAt w k → spread + j ≤ w.longest.hold + 127 * w.delay → Holds set k →
-      Shows w k (λ v. waits_due v ≡ true) → slice_get (later (spread + j)).nodes k ≡ Some x →
+      AtView w k (λ v. waits_due v ≡ true) → slice_get (later (spread + j)).nodes k ≡ Some x →
       Waiting (spread + j) x.state
   waiting zero k x can soon h due at = record {
     waits = forces 0 k true x h due at;

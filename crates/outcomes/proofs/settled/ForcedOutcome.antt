@@ -3,7 +3,7 @@
 use Rattle.std.proofs.Common.{Bool, refl, ◌≡◌, ◌≢◌, inl, inr, ℕ, zero, suc, ◌+◌, ◌-◌, ◌*◌, ◌^◌, ◌<◌, ◌≤◌, true, false, Option, Some, None, IsSome, length, slice_get, sym, ◌∙◌, ap, subst, arith, true≢false}
 use Rattle.std.proofs.lemmas.Bool.{cases_eq}
 use Rattle.std.proofs.lemmas.Option.{slice_get_cases, slice_get_within}
-use Rattle.outcomes.proofs.Common.{Tree, Wiring, Holds, IsComponent, shared, IsCore, numbers, Phase, config_packet, PortNode, node_disturb, node_set_config, Config, CableWorld, ComesOfPowerOn, IsAct, act_fault, change_in_set, is_in_bus_reset, Shows, IsTree, IsSettled, loop, tree, contention, some-of, some-at, some-same, start-before_tree, comes-lawful, act-comes, after-length, after-cabling, HoldSchedule, quiet_after, comes-contested, IsNamedAlone, IsIdentifying, is_ready}
+use Rattle.outcomes.proofs.Common.{Tree, Wiring, Holds, IsComponent, shared, IsCore, numbers, Phase, config_packet, PortNode, node_disturb, node_set_config, Config, CableWorld, ComesOfPowerOn, IsAct, act_fault, change_in_set, is_in_bus_reset, AtView, IsTree, IsSettled, loop, tree, contention, some-of, some-at, some-same, start-before_tree, comes-lawful, act-comes, after-length, after-cabling, HoldSchedule, quiet_after, comes-contested, IsNamedAlone, IsIdentifying, is_ready}
 use Rattle.port_state.specs.Config.{gap_or}
 use Rattle.cable_world.specs.Outcome.{HasNoLoop, Outcome, IsOutcome}
 use Rattle.cable_world.proofs.Lemmas.{step-cables}
@@ -138,7 +138,7 @@ module _
 -- in a tree each ID is that of one node
 pub named-alone :
     (w : CableWorld) (set old root id : ℕ) (t : Tree) → IsIdentifying w → IsTree w set old t →
-    Holds set root → Shows w root (λ v. v.id ≡ Some id) → IsNamedAlone w set root id
+    Holds set root → AtView w root (λ v. v.id ≡ Some id) → IsNamedAlone w set root id
 named-alone w set old root id t i h inside named = record {
   holds = inside;
   calm = λ k m.

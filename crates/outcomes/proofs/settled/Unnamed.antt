@@ -3,7 +3,7 @@
 use Rattle.std.proofs.Common.{◌≡◌, inl, inr, ℕ, ◌<◌, ◌≤◌, Bool, true, false, is_some, Option, Some, None, length, slice_get, refl, sym, ◌∙◌, ap, arith, true≢false, eq-eqb}
 use Rattle.std.proofs.lemmas.Bool.{cases_lt, false_from_ne_true}
 use Rattle.std.proofs.lemmas.Option.{slice_get_cases}
-use Rattle.outcomes.proofs.Common.{contrary, End, far, Holds, IsComponent, IsCore, HasTwo, plugged, end_at, shared, hears_packets, is_port, is_connected, PortNode, CableWorld, wire_of, ComesOfPowerOn, signals_of, has_reset, IsLawful, Shows, some-at, comes-lawful, no-packets, quiet-lawful, IsAcyclic, IsChildCable, ResetsAreOver, ResetsAreOverIn, done-after, no-root-with-loop, comes-acyclic, done-over, in-component, joined-of, quiet-acyclic, is_ready, Identifies, IsIdentifying, HoldSchedule, quiet_after}
+use Rattle.outcomes.proofs.Common.{contrary, End, far, Holds, IsComponent, IsCore, HasTwo, plugged, end_at, shared, hears_packets, is_port, is_connected, PortNode, CableWorld, wire_of, ComesOfPowerOn, signals_of, has_reset, IsLawful, AtView, some-at, comes-lawful, no-packets, quiet-lawful, IsAcyclic, IsChildCable, ResetsAreOver, ResetsAreOverIn, done-after, no-root-with-loop, comes-acyclic, done-over, in-component, joined-of, quiet-acyclic, is_ready, Identifies, IsIdentifying, HoldSchedule, quiet_after}
 use Rattle.cable_world.specs.Outcome.{IsLoop}
 use Rattle.convergence.specs.Acyclic.{ComesDown}
 use Rattle.convergence.specs.Cables.{AreJoined}
@@ -151,7 +151,7 @@ module _
           (λ a b e n. (plugged w.cabling b a (l.well_formed.cabling.both_ways a b e)).node) k h (λ less. omega (arith, less, more)))
     ]
 
-    pub shows-unnamed : (k : ℕ) → Holds set k → Shows w k (λ v. v.id ≡ None)
+    pub shows-unnamed : (k : ℕ) → Holds set k → AtView w k (λ v. v.id ≡ None)
     shows-unnamed k h = elim (slice_get_cases w.nodes k).1 [
       | inl found ↦ some-at (slice_get w.nodes k) found.0 (λ (x : PortNode). x.state.view.id ≡ None) found.2 (none-named k found.0 h found.2)
       | inr lacks ↦ absurd (omega (arith, lacks.0, there k h, l.well_formed.count))

@@ -10,7 +10,7 @@ use Rattle.cabling.specs.Component.{IsComponent, IsNeighbour}
 use Rattle.cabling.specs.Labels.{labels}
 use Rattle.cabling.specs.Sees.{Sees, numbers}
 use Rattle.cable_world.specs.World.{CableWorld, NodeNumber, NodeSet}
-use Rattle.cable_world.specs.Outcome.{AtNode, Shows, DrewAlike}
+use Rattle.cable_world.specs.Outcome.{AtNode, AtView, DrewAlike}
 use Rattle.settle.specs.declared.report.Part.{Part}
 
 -- the set is the component of a node
@@ -41,7 +41,7 @@ ShowsNoTree c attrs root = (t : Tree) → Sees c (labels attrs) root None t → 
 
 -- the node has no parent
 abbrev pub IsTop : CableWorld → NodeNumber → Type 0
-IsTop w k = Shows w k (λ v. v.parent ≡ None)
+IsTop w k = AtView w k (λ v. v.parent ≡ None)
 
 abbrev pub HasNoTop : CableWorld → NodeSet → Type 0
 HasNoTop w set = (k : NodeNumber) → Holds set k → IsTop w k → ⊥
@@ -49,8 +49,8 @@ HasNoTop w set = (k : NodeNumber) → Holds set k → IsTop w k → ⊥
 -- the node shows what it has to in a tree with this root, list and order
 pub record FitsTree
     (w : CableWorld) (root : NodeNumber) (list order : List ℕ) (k : NodeNumber) : Type 0 where
-  pub parent : k ≢ root → Shows w k (λ v. IsSome v.parent)
-  pub id : Shows w k (λ v. IsSomeAnd v.id (λ i. slice_get order i ≡ Some k))
+  pub parent : k ≢ root → AtView w k (λ v. IsSome v.parent)
+  pub id : AtView w k (λ v. IsSomeAnd v.id (λ i. slice_get order i ≡ Some k))
   pub has_list : AtNode w k (λ x. x.state.list.items ≡ list)
 
 abbrev pub AllFit : CableWorld → NodeSet → NodeNumber → List ℕ → List ℕ → Type 0
@@ -62,7 +62,7 @@ AllFit w set root list order = (k : NodeNumber) → Holds set k → FitsTree w r
 pub record Contend (w : CableWorld) (a b : NodeNumber) : Type 0 where
   pub rising : a < b
   pub neighbours : IsNeighbour w.cabling a b
-  pub draws : Shows w a (λ v. Shows w b (λ u. DrewAlike v u))
+  pub draws : AtView w a (λ v. AtView w b (λ u. DrewAlike v u))
 
 abbrev pub HasNoRival : CableWorld → NodeNumber → Type 0
 HasNoRival w a = (b : NodeNumber) → Contend w a b → ⊥
