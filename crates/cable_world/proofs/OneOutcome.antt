@@ -12,7 +12,7 @@ use Rattle.cabling.specs.Looped.{IsCore}
 use Rattle.cabling.specs.Sees.{Sees}
 use Rattle.cabling.proofs.Lemmas.{clear_bit, holds_or_not, one-tree}
 use Rattle.cable_world.specs.World.{CableWorld}
-use Rattle.cable_world.specs.Outcome.{HasNoLoop, IsLoop, IsTree, IsContention, IsFirstPair, Outcome, IsOutcome, attrs_now, loop, tree, contention}
+use Rattle.cable_world.specs.Outcome.{HasNoLoop, IsLoop, IsTree, IsContention, IsFirstPair, Ending, IsOutcome, attrs_now, loop, tree, contention}
 
 -- ---- sets and cores
 
@@ -77,7 +77,7 @@ same-pair w set a b c d x y f g = elim (f c d y) [
 ]
 
 pub one-outcome :
-    (w : CableWorld) (set : ℕ) (o p : Outcome) → IsOutcome w set o → IsOutcome w set p → o ≡ p
+    (w : CableWorld) (set : ℕ) (o p : Ending) → IsOutcome w set o → IsOutcome w set p → o ≡ p
 one-outcome w set (loop a) (loop b) x y = rw (same-core w.cabling set a b x.is_core y.is_core) refl
 one-outcome w set (loop a) (tree r t) x y = absurd (no-loop-there w set a x y.no_loop)
 one-outcome w set (loop a) (contention c d) x y = absurd (no-loop-there w set a x y.0.no_loop)

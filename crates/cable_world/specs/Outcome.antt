@@ -72,20 +72,20 @@ pub record IsTree (w : CableWorld) (set root : ℕ) (t : Tree) : Type 0 where
       AtView w k (λ v. IsSomeAnd v.id (λ i. slice_get (numbers w.cabling root t) i ≡ Some k))
   pub lists : (k : ℕ) → Holds set k → AtNode w k (λ x. x.state.list.items ≡ emits t)
 
-pub data Outcome : Type 0 where
+pub data Ending : Type 0 where
   -- the core
-  loop : ℕ → Outcome
+  loop : ℕ → Ending
   -- the root, and the tree as it is seen from there
-  tree : ℕ → Tree → Outcome
+  tree : ℕ → Tree → Ending
   -- the ends of the cable, the lower first
-  contention : ℕ → ℕ → Outcome
+  contention : ℕ → ℕ → Ending
 
 -- no pair of ends in contention comes before this one
 abbrev pub IsFirstPair : CableWorld → ℕ → ℕ → ℕ → Type 0
 IsFirstPair w set a b = (c d : ℕ) → IsContention w set c d → (a < c) ⊎ ((a ≡ c) × (b ≤ d))
 
 -- the outcome of a component: a loop, else a tree, else a contention
-abbrev pub IsOutcome : CableWorld → ℕ → Outcome → Type 0
+abbrev pub IsOutcome : CableWorld → ℕ → Ending → Type 0
 IsOutcome w set (loop core) = IsLoop w set core
 IsOutcome w set (tree root t) = IsTree w set root t
 IsOutcome w set (contention a b) =
@@ -94,9 +94,9 @@ IsOutcome w set (contention a b) =
 
 -- a component that has one is settled
 abbrev pub IsSettled : CableWorld → ℕ → Type 0
-IsSettled w set = (o : Outcome) × IsOutcome w set o
+IsSettled w set = (o : Ending) × IsOutcome w set o
 
 abbrev pub OneOutcomeAtMost : Type 0
 OneOutcomeAtMost =
-    (w : CableWorld) (set : NodeSet) (one other : Outcome) →
+    (w : CableWorld) (set : NodeSet) (one other : Ending) →
     IsOutcome w set one → IsOutcome w set other → one ≡ other

@@ -3,7 +3,7 @@ use Rattle.std.specs.Prelude.{◌≡◌, ℕ, ◌<◌, Some, List, [], ◌++◌,
 use Rattle.cabling.specs.Component.{IsComponent}
 use Rattle.cable_world.specs.World.{CableWorld, NodeNumber}
 use Rattle.cable_world.specs.Run.{IsReached}
-use Rattle.cable_world.specs.Outcome.{Outcome, IsOutcome}
+use Rattle.cable_world.specs.Outcome.{Ending, IsOutcome}
 use Rattle.settle.specs.declared.report.Part.{Part}
 use Rattle.settle.specs.declared.report.Report.{Report}
 use Rattle.settle.specs.Report.{IsReport}
@@ -20,9 +20,9 @@ use Rattle.script_told.specs.Run.{Entry, ScriptRun, IsRun}
 -- tree, or a contention, and nothing else. Its tree is the bus tree that is read from its list.
 pub record IsOfComponent (w : CableWorld) (node : NodeNumber) (part : Part) : Type 0 where
   pub component : IsComponent w.cabling node part.nodes
-  pub outcome : Outcome
+  pub outcome : Ending
   pub came : IsOutcome w part.nodes outcome
-  pub only : (other : Outcome) → IsOutcome w part.nodes other → other ≡ outcome
+  pub only : (other : Ending) → IsOutcome w part.nodes other → other ≡ outcome
   pub told : Tells w part.outcome outcome
   pub read : IfTree (IsReadBack w) part.outcome
 

@@ -12,7 +12,7 @@ use Rattle.cable_world.specs.World.{CableWorld, NodeNumber, NodeSet}
 use Rattle.cable_world.specs.Run.{IsReached}
 use Rattle.cable_world.specs.Outcome.{loop, tree, contention, IsLoop}
 use Rattle.cable_world.proofs.Lemmas.{same-set, one-outcome, lawful-now}
-use Rattle.settle.specs.declared.report.Outcome.{Outcome as Reported}
+use Rattle.settle.specs.declared.report.Outcome.{Outcome}
 use Rattle.settle.specs.declared.report.Outcome.TheVariants as reported
 use Rattle.settle.specs.declared.report.Part.{Part}
 use Rattle.settle.specs.declared.report.Report.{Report}
@@ -87,7 +87,7 @@ one-greatest : (set : NodeSet) (IsOf : NodeNumber → ℕ → Type 0) (m n : ℕ
     IsGreatest set IsOf n → m ≡ n
 one-greatest set IsOf m n x y = omega (arith, y.bound x.node m x.holds x.reached, x.bound y.node n y.holds y.reached)
 
-part-of : NodeSet → ℕ → ℕ → Reported → Part
+part-of : NodeSet → ℕ → ℕ → Outcome → Part
 part-of set rounds changed outcome = record { nodes = set; rounds = rounds; changed = changed; outcome = outcome }
 
 same-part : (p q : Part) → p.nodes ≡ q.nodes → p.rounds ≡ q.rounds → p.changed ≡ q.changed →
@@ -97,7 +97,7 @@ same-part p q a b c d =
     ap (λ (x : NodeSet). part-of x p.rounds p.changed p.outcome) a
     ∙ ap (λ (x : ℕ). part-of q.nodes x p.changed p.outcome) b
     ∙ ap (λ (x : ℕ). part-of q.nodes q.rounds x p.outcome) c
-    ∙ ap (λ (x : Reported). part-of q.nodes q.rounds q.changed x) d
+    ∙ ap (λ (x : Outcome). part-of q.nodes q.rounds q.changed x) d
 
 module _ (w : CableWorld) (cabled : IsCabling w.cabling) where
   -- a loop has a node
@@ -119,7 +119,7 @@ module _ (w : CableWorld) (cabled : IsCabling w.cabling) where
         | inr ne ↦ omega (arith, ne)
       ]
 
-  pub one-reported : (set : NodeSet) (o p : Reported) → AreThere w set → IsReported w set o →
+  pub one-reported : (set : NodeSet) (o p : Outcome) → AreThere w set → IsReported w set o →
       IsReported w set p → o ≡ p
   one-reported set (reported.Tree a list order) (reported.Tree b other-list other-order) there x y =
       let same : tree a x.tree ≡ tree b y.tree = one-outcome w set (tree a x.tree) (tree b y.tree) x.is y.is in

@@ -11,7 +11,7 @@ use Rattle.port_state.specs.declared.view.View.{View}
 use Rattle.port_state.specs.Machine.{PortNode}
 use Rattle.cable_world.specs.World.{CableWorld}
 use Rattle.cable_world.specs.Run.{IsReached}
-use Rattle.cable_world.specs.Outcome.{Outcome, loop, tree, contention, HasNoLoop, IsLoop, IsContention, IsOutcome, IsSettled, AtView}
+use Rattle.cable_world.specs.Outcome.{Ending, loop, tree, contention, HasNoLoop, IsLoop, IsContention, IsOutcome, IsSettled, AtView}
 use Rattle.cable_world.proofs.Lemmas.{reached-comes, reached-lawful, plainly}
 use Rattle.cable_world.specs.Quiet.{no_holds}
 use Rattle.cable_world.specs.Phases.{is_in_bus_reset}
@@ -108,7 +108,7 @@ module _
       none : HasNoLoop w set → ⊥
       none n = some (λ k h. n.empty k ((n.is_core k).1 ((is k).0 h)))
 
-      go : (o : Outcome) → IsOutcome w set o → IsLoop w set core
+      go : (o : Ending) → IsOutcome w set o → IsLoop w set core
       go (loop c) h = record {
         is_core = is;
         node = h.node;
@@ -133,7 +133,7 @@ module _
       ∥ HasSettled w ∥₁ → ⊥
   not-neither empty no-tree no-contention h = ∥∥₁_elim h no_prop (λ s. let o = settled every w set part there s in go o.0 o.1)
     where
-      go : (o : Outcome) → IsOutcome w set o → ⊥
+      go : (o : Ending) → IsOutcome w set o → ⊥
       go (loop c) h = empty h.node ((is h.node).1 ((h.is_core h.node).0 h.in_core))
       go (tree root t) h = no-tree root t h
       go (contention a b) h = no-contention a b h.0

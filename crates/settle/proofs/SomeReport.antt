@@ -11,11 +11,11 @@ use Rattle.port_state.specs.Machine.{PortNode}
 use Rattle.cable_world.specs.World.{CableWorld}
 use Rattle.cable_world.specs.Run.{IsReached}
 use Rattle.cable_world.specs.Lawful.{IsWellFormed}
-use Rattle.cable_world.specs.Outcome.{Outcome, loop, tree, contention, IsOutcome, IsSettled}
+use Rattle.cable_world.specs.Outcome.{Ending, loop, tree, contention, IsOutcome, IsSettled}
 use Rattle.cable_world.proofs.Lemmas.{some-at, reached-lawful}
 use Rattle.outcomes.specs.Headline.{EveryBusSettles}
 use Rattle.settle.specs.declared.report.Part.{Part}
-use Rattle.settle.specs.declared.report.Outcome.{Outcome as Reported}
+use Rattle.settle.specs.declared.report.Outcome.{Outcome}
 use Rattle.settle.specs.declared.report.Outcome.TheVariants as reported
 use Rattle.settle.specs.declared.report.Report.{Report}
 use Rattle.settle.specs.Report.{IsGreatest, Drew, LastChanged, IsPart, IsReport, HasSettled}
@@ -30,8 +30,8 @@ use Rattle.settle.proofs.PartsSoFar.{PartsBefore, no-parts, part-added, part-goe
 -- ---- what a component came to
 
 -- an outcome can be reported
-reported-of : (w : CableWorld) (set : ℕ) (o : Outcome) → IsOutcome w set o →
-    (r : Reported) × IsReported w set r
+reported-of : (w : CableWorld) (set : ℕ) (o : Ending) → IsOutcome w set o →
+    (r : Outcome) × IsReported w set r
 reported-of w set (loop core) h = (
   reported.Loop core,
   record { is = h.is_core; some = λ empty. empty h.node h.in_core; timed_out = h.timed_out; unnamed = h.unnamed },

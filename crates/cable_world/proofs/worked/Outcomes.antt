@@ -17,7 +17,7 @@ use Rattle.cabling.specs.Looped.{HasTwo, IsCore}
 use Rattle.cabling.proofs.Lemmas.{none_of_zero}
 use Rattle.cable_world.specs.World.{CableWorld}
 use Rattle.cable_world.specs.Turn.{turn, turns_after}
-use Rattle.cable_world.specs.Outcome.{AtNode, attrs_now, IsTree, IsContention, Outcome, IsOutcome, IsSettled, loop, tree, contention}
+use Rattle.cable_world.specs.Outcome.{AtNode, attrs_now, IsTree, IsContention, Ending, IsOutcome, IsSettled, loop, tree, contention}
 use Rattle.cable_world.proofs.worked.Summary.{Summary, summary_of, summary, childless, one_child, two_children, attrs, at}
 use Rattle.cable_world.proofs.worked.Settled.{each-held, at-node, said, no-core, no-loop, tree-settled}
 use Rattle.cable_world.proofs.worked.TwoNodes as pair
@@ -345,7 +345,7 @@ few-draws a b h =
     drew-one : (k : ℕ) → Holds 3 k → AtNode early k (λ x. x.state.view.draws ≡ 1)
     drew-one k h = early-at k (λ r. r.draws ≡ 1) (each-held (λ k. IsSomeAnd (slice_get early_rows k) (λ r. r.draws ≡ 1)) 3 (0 ∷ 1 ∷ []) refl (refl, (refl, tt)) k h)
 
-no-outcome : (o : Outcome) → IsOutcome early 3 o → ⊥
+no-outcome : (o : Ending) → IsOutcome early 3 o → ⊥
 no-outcome (loop core) h = let p = ((subst (λ (c : Wiring). IsCore c 3 core) early-cables h.is_core) h.node).0 h.in_core in none_of_zero h.node ((pair-no_core h.node).1 p)
 no-outcome (tree root t) h = no-tree root t h
 no-outcome (contention a b) h = few-draws a b h.0

@@ -5,7 +5,7 @@ use Rattle.std.proofs.lemmas.Bool.{cases_eq}
 use Rattle.std.proofs.lemmas.Option.{slice_get_cases, slice_get_within}
 use Rattle.outcomes.proofs.Common.{Tree, Wiring, Holds, IsComponent, shared, IsCore, numbers, Phase, config_packet, PortNode, node_disturb, node_set_config, Config, CableWorld, ComesOfPowerOn, IsAct, act_fault, change_in_set, is_in_bus_reset, AtView, IsTree, IsSettled, loop, tree, contention, some-of, some-at, some-same, start-before_tree, comes-lawful, act-comes, after-length, after-cabling, HoldSchedule, quiet_after, comes-contested, IsNamedAlone, IsIdentifying, is_ready}
 use Rattle.port_state.specs.Config.{gap_or}
-use Rattle.cable_world.specs.Outcome.{HasNoLoop, Outcome, IsOutcome}
+use Rattle.cable_world.specs.Outcome.{HasNoLoop, Ending, IsOutcome}
 use Rattle.cable_world.proofs.Lemmas.{step-cables}
 use Rattle.convergence.proofs.Lemmas.{quiet-contested}
 use Rattle.convergence.specs.Turns.{turns_to_settle, turns_to_over}
@@ -121,7 +121,7 @@ module _
             x.2)
       ]
 
-      go : (o : Outcome) → IsOutcome v set o → (t : Tree) × IsTree v set root t
+      go : (o : Ending) → IsOutcome v set o → (t : Tree) × IsTree v set root t
       go (loop c) h =
           let is : IsCore v.cabling set core =
           subst (λ (d : Wiring). IsCore d set core) (sym (after-cabling hs k w))

@@ -4,7 +4,7 @@
 use Rattle.std.proofs.Common.{◌≡◌, inl, inr, ℕ, ◌+◌, ◌-◌, ◌^◌, ◌<◌, ◌≤◌, true, None, Some, length, slice_get, sym, ◌∙◌, ap, subst, arith}
 use Rattle.outcomes.proofs.Common.{Tree, Wiring, Holds, IsComponent, IsCore, End, NodeState, Timing, coin, PortNode, CableWorld, turn, hold, hold_fault, ComesOfPowerOn, IsLawful, loop, tree, contention, IsTree, IsSettled, is_before_tree, some-of, some-at, some-same, comes-lawful, after-length, cabling-after, risen, quiet-then, quiet-lawful, after-cabling, HoldSchedule, holds_after, quiet_after, ResetsAreDone, ResetsAreOver, HasContention, done-after, comes-contested, comes-acyclic, done-over, Calmly, heard_by, IsNumbering}
 use Rattle.port_state.specs.declared.signal.Phase.TheVariants as phase
-use Rattle.cable_world.specs.Outcome.{Outcome, IsLoop, IsContention, IsOutcome}
+use Rattle.cable_world.specs.Outcome.{Ending, IsLoop, IsContention, IsOutcome}
 use Rattle.cable_world.specs.Times.{Suits}
 use Rattle.cable_world.specs.Run.{Rests, still, hold_first, turn_first}
 use Rattle.cable_world.proofs.Lemmas.{after-longest, longest-after, turn-comes, hold-comes, nodes-after, quiet-comes}
@@ -324,7 +324,7 @@ module _
   come-of : IsSettled u p.set → Come u p.set
   come-of s = go s.0 s.1
     where
-      go : (o : Outcome) → IsOutcome u p.set o → Come u p.set
+      go : (o : Ending) → IsOutcome u p.set o → Come u p.set
       go (loop c) h = looped c h (core-late c h)
       go (tree root t) h = treed root t h
       go (contention a b) h = contended a b h.0
