@@ -10,7 +10,7 @@ use Rattle.json.specs.Tree.{json_tokens, items_tokens, members_tokens}
 use Rattle.settle.specs.declared.report.Part.{Part}
 use Rattle.script_text.specs.ReportText.{Names, name_of}
 use Rattle.report_views.specs.ReportJson.{held_item, names_from, set_names, component_value, AreComponents}
-use Rattle.report_views.specs.codings.Written.{held_tokens, IsComponent, AreWritten}
+use Rattle.report_views.specs.codings.Written.{held_tokens, IsComponentWritten, AreWritten}
 
 -- ---- names
 
@@ -76,7 +76,7 @@ none-yet names parts old more are = record { items = more; told = are; is = refl
 pub one-more :
     (names : Names) (parts : List Part) (k : ℕ) (part : Part) (old mid new : List Token) →
     drop k parts ≡ part ∷ drop (k + 1) parts → Complete names parts k old mid →
-    IsComponent names part mid new → Complete names parts (k + 1) old new
+    IsComponentWritten names part mid new → Complete names parts (k + 1) old new
 one-more names parts k part old mid new at so one more are =
     let value = component_value names part one.outcome in
     let Are : List Part → Type 0 = λ ps. AreComponents names ps (item value more) in

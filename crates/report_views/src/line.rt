@@ -6,7 +6,7 @@ ghost use Rattle.json.specs.Json.{array};
 ghost use Rattle.json.specs.Tree.{json_tokens, members_tokens};
 ghost use Rattle.script_text.specs.ReportText.{AreNamed, IsNamedTree, IsNamedOutcome, IsNamedPart, IsNamedReport, name_of};
 ghost use Rattle.report_views.specs.ReportJson.{set_names, IsTreeMember, contention_member, loop_member, IsOutcomeMember, component_value, AreComponents, report_value, IsReadLine};
-ghost use Rattle.report_views.specs.codings.Written.{held_tokens, IsWritten, IsComponent, AreWritten};
+ghost use Rattle.report_views.specs.codings.Written.{held_tokens, IsWritten, IsComponentWritten, AreWritten};
 
 use crate::names::names_in;
 use bus_json::{JsonText, name_text, put_tree};
@@ -129,7 +129,7 @@ fn put_component(
     part: &Part,
 ) -> Result<(), OutOfMemory>
     requires { IsNamedPart names.now part.now }
-    ensures { OnOk result (IsComponent names.now part.now out.old out.new) }
+    ensures { OnOk result (IsComponentWritten names.now part.now out.old out.new) }
 {
     out.open_object()?;
     out.number_member("rounds", u64::from(part.rounds))?;

@@ -19,7 +19,7 @@ pub record IsWritten (old : List Token) (Are : Members → Type 0) (new : List T
   pub is : new ≡ old ++ members_tokens members
 
 -- a component is written
-pub record IsComponent (names : Names) (part : Part) (old new : List Token) : Type 0 where
+pub record IsComponentWritten (names : Names) (part : Part) (old new : List Token) : Type 0 where
   pub outcome : Members
   pub told : IsOutcomeMember names part.outcome outcome
   pub is : new ≡ old ++ json_tokens (component_value names part outcome)
