@@ -38,7 +38,7 @@ use Rattle.capture_reading.specs.Line.{fault_line}
 use Rattle.bus_cli.specs.Line.{rom_line}
 use Rattle.script_run.specs.Line.{script_line}
 use Rattle.capture_reading.specs.OneReading.{EachCaptureHasATreeOrAFault, NoCaptureHasTwoTrees, NoCaptureHasATreeAndAFault, NoCaptureHasTwoFaults}
-use Rattle.bus_cli.specs.Answer.{AnswersMaps, TellsRom, RomRefused, TextOfRom, AnswersRom, AnswersForm}
+use Rattle.bus_cli.specs.Answer.{AnswersMaps, TellsRom, HasRomFault, TextOfRom, AnswersRom, AnswersForm}
 use Rattle.capture_reading.specs.Answer.{ValidOrRefused, IsCaptureLine, AnswersRead}
 use Rattle.script_run.specs.Answer.{PrintsRun, AnswersRun, AnswersAdvice, AnswersMake}
 use Rattle.bus_cli.specs.OneAnswer.{EachInputHasAnAnswer, NoInputHasTwoAnswers, ToldTextsArePrinted}
@@ -93,13 +93,14 @@ module _ (one : HasOneReading) where
       (λ a b x y. one.apart Ieee2000 bytes x.0 y.0 x.1 y.1)
       (one_line Ieee2000 bytes)
 
-  rom_apart : (bytes : List ℕ) (v : Parts) (f : RomFault) → TellsRom bytes v → RomRefused bytes f →
+  rom_apart : (bytes : List ℕ) (v : Parts) (f : RomFault) → TellsRom bytes v → HasRomFault bytes f →
       ⊥
   rom_apart bytes v f a (inl e) = one.rom_apart bytes v f a.rom e
   rom_apart bytes v f a (inr (w, (of, first))) =
       one.blocks_apart v f a.blocks (subst (λ (x : Parts). BlocksRefused x f) (one.one_rom bytes w v of a.rom) first)
 
-  rom_fault_is : (bytes : List ℕ) (f g : RomFault) → RomRefused bytes f → RomRefused bytes g → f ≡ g
+  rom_fault_is : (bytes : List ℕ) (f g : RomFault) → HasRomFault bytes f → HasRomFault bytes g →
+      f ≡ g
   rom_fault_is bytes f g (inl a) (inl b) = same_fault (rom_fault bytes) a b
     where
       same_fault : (o : Option RomFault) → o ≡ Some f → o ≡ Some g → f ≡ g

@@ -40,8 +40,8 @@ pub record TellsRom (bytes : List ℕ) (v : Parts) : Type 0 where
   pub blocks : HasGoodBlocks v
 
 -- the bytes are no ROM for this fault, or they are one whose blocks have it first
-abbrev pub RomRefused : List ℕ → RomFault → Type 0
-RomRefused bytes f =
+abbrev pub HasRomFault : List ℕ → RomFault → Type 0
+HasRomFault bytes f =
     (rom_fault bytes ≡ Some f) ⊎ ((v : Parts) × (IsRomOf bytes v × BlocksRefused v f))
 
 -- how a ROM is told: with the blocks that its root directory leads to
@@ -54,7 +54,7 @@ pub record TextOfRom (v : Parts) (text : List ℕ) : Type 0 where
 abbrev pub AnswersRom : List ℕ → ℕ → List ℕ → Type 0
 AnswersRom bytes = ValidOrRefused
     (λ text. (v : Parts) × TellsRom bytes v × TextOfRom v text)
-    (λ text. (f : RomFault) × RomRefused bytes f × (text ≡ rom_line f))
+    (λ text. (f : RomFault) × HasRomFault bytes f × (text ≡ rom_line f))
 
 -- ---- the program
 

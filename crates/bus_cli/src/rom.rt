@@ -2,7 +2,7 @@
 ghost use Rattle.std.specs.Prelude.{IfOk};
 ghost use Rattle.config_rom.specs.Rom.{Parts};
 ghost use Rattle.config_rom.specs.Answer.{IfFault};
-ghost use Rattle.bus_cli.specs.Answer.{AnswersRom, RomRefused, TellsRom, TextOfRom};
+ghost use Rattle.bus_cli.specs.Answer.{AnswersRom, HasRomFault, TellsRom, TextOfRom};
 ghost use Rattle.bus_cli.specs.codings.Reading.{status_with, text_with};
 
 use crate::answer::Answer;
@@ -15,7 +15,7 @@ use std::alloc::Global;
 fn text_of(alloc: Global, bytes: &[u8]) -> Result<Vec<u8>, RomStop>
     ensures text { IfOk result (λ text.
         (v : Parts) × (TellsRom bytes.now v × TextOfRom v text.items)) }
-    ensures fault { IfFault result (RomRefused bytes.now) }
+    ensures fault { IfFault result (HasRomFault bytes.now) }
 {
     let rom = decode_rom(alloc, bytes)?;
     let list = blocks(alloc, &rom)?;
