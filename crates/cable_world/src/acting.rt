@@ -12,7 +12,7 @@ ghost use Rattle.cable_world.specs.World.{put};
 ghost use Rattle.cable_world.specs.Act.{ActLeads, IsAct, IsConfigPacket, act_fault, change_in_set};
 ghost use Rattle.cable_world.specs.Answer.{IfFault, IsMemory};
 ghost use Rattle.cable_world.specs.running.NodeActs.{AreLawful};
-ghost use Rattle.cable_world.specs.running.ActEnds.{Ends, AreSameBut, TouchesOnly};
+ghost use Rattle.cable_world.specs.running.ActEnds.{ActEnds, AreSameBut, TouchesOnly};
 ghost use Rattle.cable_world.specs.Parts.{world_record};
 ghost use Rattle.cable_world.specs.declared.act.Act.TheVariants as act;
 
@@ -100,7 +100,7 @@ fn plug_ends<M: PortMachine>(
 ) -> Result<NodeSet, ActStop>
     requires lawful { AreLawful cabling.old (map M.record_of machines.old) wires.old changed.old
         turns }
-    ensures ends { Ends (act.Plug a b)
+    ensures ends { ActEnds (act.Plug a b)
         (λ d t. world_record d t cabling.old (map M.record_of machines.old) wires.old changed.old
         turns)
         (λ d t. world_record d t cabling.new (map M.record_of machines.new) wires.new changed.new
@@ -134,7 +134,7 @@ fn pull_end<M: PortMachine>(
 ) -> Result<NodeSet, ActStop>
     requires lawful { AreLawful cabling.old (map M.record_of machines.old) wires.old changed.old
         turns }
-    ensures ends { Ends (act.Pull end)
+    ensures ends { ActEnds (act.Pull end)
         (λ d t. world_record d t cabling.old (map M.record_of machines.old) wires.old changed.old
         turns)
         (λ d t. world_record d t cabling.new (map M.record_of machines.new) wires.new changed.new
@@ -168,7 +168,7 @@ fn reset_node<M: PortMachine>(
 ) -> Result<NodeSet, ActStop>
     requires lawful { (c : Wiring) × AreLawful c (map M.record_of machines.old) wires.old
         changed.old turns }
-    ensures ends { (c : Wiring) → Ends (act.Reset node)
+    ensures ends { (c : Wiring) → ActEnds (act.Reset node)
         (λ d t. world_record d t c (map M.record_of machines.old) wires.old changed.old turns)
         (λ d t. world_record d t c (map M.record_of machines.new) wires.new changed.new turns)
         ((machines.new ≡ machines.old) × (wires.new ≡ wires.old)
@@ -204,7 +204,7 @@ fn send_config<M: PortMachine>(
     requires is { IsConfigPacket (config_packet root_id force gap) }
     requires lawful { AreLawful cabling.now (map M.record_of machines.old) wires.old changed.old
         turns }
-    ensures ends { Ends (act.Config from root_id force gap)
+    ensures ends { ActEnds (act.Config from root_id force gap)
         (λ d t. world_record d t cabling.now (map M.record_of machines.old) wires.old changed.old
         turns)
         (λ d t. world_record d t cabling.now (map M.record_of machines.new) wires.new changed.new
@@ -243,7 +243,7 @@ fn do_act<M: PortMachine>(
     requires is { IsAct act.now }
     requires lawful { AreLawful cabling.old (map M.record_of machines.old) wires.old changed.old
         turns }
-    ensures ends { Ends act.now
+    ensures ends { ActEnds act.now
         (λ d t. world_record d t cabling.old (map M.record_of machines.old) wires.old changed.old
         turns)
         (λ d t. world_record d t cabling.new (map M.record_of machines.new) wires.new changed.new

@@ -45,8 +45,8 @@ last_run number stage (Ok (bus, text)) =
     record { entries = done number stage Settle (running bus) text ∷ []; end = Ok bus }
 last_run number stage (Err kind) = stopped number kind
 
-abbrev pub Ends : ℕ → Stage → ScriptRun → Type 0
-Ends number stage run =
+abbrev pub RunEnds : ℕ → Stage → ScriptRun → Type 0
+RunEnds number stage run =
     (r : LineAnswer) × DoesSettle (bus_of stage) r × (run ≡ last_run number stage r)
 
 -- a command is done, and the rest goes on from where it led; or it is at fault
@@ -67,7 +67,7 @@ TakesLine number Rest stage (Err kind) run = run ≡ stopped number kind
 
 -- the run of these lines from a stage on, of which the first has this number
 abbrev pub RunsFrom : ℕ → List (List ℕ) → Stage → ScriptRun → Type 0
-RunsFrom number [] stage run = Ends number stage run
+RunsFrom number [] stage run = RunEnds number stage run
 RunsFrom number (line ∷ lines) stage run =
     (reading : Result (Option Command) Kind) × ReadsLine (ranges_of stage) line reading
     × TakesLine number (RunsFrom (number + 1) lines) stage reading run

@@ -22,7 +22,7 @@ use Rattle.cable_world.specs.declared.act.ActStop.{ActStop}
 use Rattle.cable_world.specs.declared.act.ActStop.TheVariants.{Fault, Memory}
 use Rattle.cable_world.specs.Answer.{IfFault, IsMemory}
 use Rattle.cable_world.specs.Act.{ActLeads, act_fault, node_fault, step_at, with_step, plug, pull_from, pull, change_in_set, configure, note_changes}
-use Rattle.cable_world.specs.running.ActEnds.{Ends}
+use Rattle.cable_world.specs.running.ActEnds.{ActEnds}
 use Rattle.cable_world.specs.Lawful.{IsWellFormed}
 use Rattle.cable_world.specs.running.NodeActs.{note_both, note_step}
 use Rattle.cable_world.proofs.Options.{some-at}
@@ -160,39 +160,39 @@ pub is-inside : (k : ℕ) (w : CableWorld) → k < length w.nodes → node_fault
 is-inside k w inside = rw (lt-ltb k (length w.nodes) inside) refl
 
 pub ends-of :
-    {A : Type 0} → (act is : Act) (w v : ℕ → Timing → CableWorld) (same kept : Type 0) (r : Result A ActStop) → act ≡ is → (same → kept) → Ends is w v same r →
-    Ends act w v kept r
-ends-of {A = A} act is w v same kept r e f h = subst (λ (a : Act). Ends a w v kept r) (sym e) (go r h)
+    {A : Type 0} → (act is : Act) (w v : ℕ → Timing → CableWorld) (same kept : Type 0) (r : Result A ActStop) → act ≡ is → (same → kept) → ActEnds is w v same r →
+    ActEnds act w v kept r
+ends-of {A = A} act is w v same kept r e f h = subst (λ (a : Act). ActEnds a w v kept r) (sym e) (go r h)
   where
-    go : (o : Result A ActStop) → Ends is w v same o → Ends is w v kept o
+    go : (o : Result A ActStop) → ActEnds is w v same o → ActEnds is w v kept o
     go (Ok x) h = h
     go (Err (Fault fault)) h = (f h.0, h.1)
     go (Err (Memory none)) h = h
 
 module _ {A : Type 0} (act : Act) (w v : ℕ → Timing → CableWorld) (same : Type 0) where
-  pub ends-done : (r : Result A ActStop) → Ends act w v same r → OnOk r ((d : ℕ) (t : Timing) → ActLeads act (w d t) (v d t))
+  pub ends-done : (r : Result A ActStop) → ActEnds act w v same r → OnOk r ((d : ℕ) (t : Timing) → ActLeads act (w d t) (v d t))
   ends-done (Ok x) h = λ d t. (h d t).leads
   ends-done (Err stop) h = tt
 
-  pub ends-accepted : (r : Result A ActStop) → Ends act w v same r → OnOk r ((d : ℕ) (t : Timing) → act_fault act (w d t) ≡ None)
+  pub ends-accepted : (r : Result A ActStop) → ActEnds act w v same r → OnOk r ((d : ℕ) (t : Timing) → act_fault act (w d t) ≡ None)
   ends-accepted (Ok x) h = λ d t. (h d t).accepted
   ends-accepted (Err stop) h = tt
 
-  pub ends-rows : (r : Result A ActStop) → Ends act w v same r → OnOk r (map length (v 0 (usual_timing 0)).wires ≡ map length (w 0 (usual_timing 0)).wires)
+  pub ends-rows : (r : Result A ActStop) → ActEnds act w v same r → OnOk r (map length (v 0 (usual_timing 0)).wires ≡ map length (w 0 (usual_timing 0)).wires)
   ends-rows (Ok x) h = (h 0 (usual_timing 0)).rows
   ends-rows (Err stop) h = tt
 
-  pub ends-refused : (r : Result A ActStop) → Ends act w v same r → IfFault r (λ f. (d : ℕ) (t : Timing) → act_fault act (w d t) ≡ Some f)
+  pub ends-refused : (r : Result A ActStop) → ActEnds act w v same r → IfFault r (λ f. (d : ℕ) (t : Timing) → act_fault act (w d t) ≡ Some f)
   ends-refused (Ok x) h = tt
   ends-refused (Err (Fault fault)) h = h.1
   ends-refused (Err (Memory none)) h = tt
 
-  pub ends-same : (r : Result A ActStop) → Ends act w v same r → IfFault r (λ f. same)
+  pub ends-same : (r : Result A ActStop) → ActEnds act w v same r → IfFault r (λ f. same)
   ends-same (Ok x) h = tt
   ends-same (Err (Fault fault)) h = h.0
   ends-same (Err (Memory none)) h = tt
 
-  pub ends-memory : (r : Result A ActStop) → Ends act w v same r → IsMemory r → (d : ℕ) (t : Timing) → act_fault act (w d t) ≡ None
+  pub ends-memory : (r : Result A ActStop) → ActEnds act w v same r → IsMemory r → (d : ℕ) (t : Timing) → act_fault act (w d t) ≡ None
   ends-memory (Ok x) h is = absurd is
   ends-memory (Err (Fault fault)) h is = absurd is
   ends-memory (Err (Memory none)) h is = h

@@ -16,13 +16,13 @@ pub record IsDone (act : Act) (w v : CableWorld) : Type 0 where
 
 -- Whatever the delay and the longest times, the act is done, or it is refused and `same` says that
 -- nothing changed, or it isn't refused and there is no memory for it.
-abbrev pub Ends :
+abbrev pub ActEnds :
     {A : Type 0} → Act → (ℕ → Timing → CableWorld) → (ℕ → Timing → CableWorld) → Type 0 →
     Result A ActStop → Type 0
-Ends act w v same (Ok x) = (d : ℕ) (t : Timing) → IsDone act (w d t) (v d t)
-Ends act w v same (Err (Fault f)) =
+ActEnds act w v same (Ok x) = (d : ℕ) (t : Timing) → IsDone act (w d t) (v d t)
+ActEnds act w v same (Err (Fault f)) =
     same × ((d : ℕ) (t : Timing) → act_fault act (w d t) ≡ Some f)
-Ends act w v same (Err (Memory e)) = (d : ℕ) (t : Timing) → act_fault act (w d t) ≡ None
+ActEnds act w v same (Err (Memory e)) = (d : ℕ) (t : Timing) → act_fault act (w d t) ≡ None
 
 -- the entries of a list, but for those of a set, are as they were
 abbrev pub AreSameBut : {A : Type 0} → (ℕ → Type 0) → List A → List A → Type 0
