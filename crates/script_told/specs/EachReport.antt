@@ -7,7 +7,7 @@ use Rattle.cable_world.specs.Outcome.{Ending, IsOutcome}
 use Rattle.settle.specs.declared.report.Part.{Part}
 use Rattle.settle.specs.declared.report.Report.{Report}
 use Rattle.settle.specs.Report.{IsReport}
-use Rattle.settle.specs.ReportedOutcome.{Tells}
+use Rattle.settle.specs.ReportedOutcome.{TellsEnding}
 use Rattle.settle.specs.ReadBack.{IfTree, IsReadBack}
 use Rattle.script_lines.specs.declared.command.Command.{Command}
 use Rattle.script_lines.specs.declared.command.Command.TheVariants.{Settle, Plan}
@@ -23,7 +23,7 @@ pub record IsOfComponent (w : CableWorld) (node : NodeNumber) (part : Part) : Ty
   pub outcome : Ending
   pub came : IsOutcome w part.nodes outcome
   pub only : (other : Ending) → IsOutcome w part.nodes other → other ≡ outcome
-  pub told : Tells w part.outcome outcome
+  pub told : TellsEnding w part.outcome outcome
   pub read : IfTree (IsReadBack w) part.outcome
 
 -- the component of each node is in the report

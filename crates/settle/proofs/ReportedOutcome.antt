@@ -7,18 +7,18 @@ use Rattle.settle.specs.declared.report.Outcome.{Outcome}
 use Rattle.settle.specs.declared.report.Outcome.TheVariants as reported
 use Rattle.settle.specs.Report.{AreThere}
 use Rattle.settle.specs.Reported.{IsReported, ReportsLoop}
-use Rattle.settle.specs.ReportedOutcome.{Tells, ReportedIsOutcome}
+use Rattle.settle.specs.ReportedOutcome.{TellsEnding, ReportedIsOutcome}
 use Rattle.settle.proofs.OneReport.{loop-is}
 
 told-of :
     (w : CableWorld) (set : ℕ) (r : Outcome) → IsCabling w.cabling → AreThere w set → IsReported w set r →
-    (o : Ending) × IsOutcome w set o × Tells w r o
+    (o : Ending) × IsOutcome w set o × TellsEnding w r o
 told-of w set (reported.Loop core) cabled there h = (loop core, loop-is w cabled set core there h, refl)
 told-of w set (reported.Tree root list order) cabled there h = (tree root h.tree, h.is, (refl, h.emitted, h.walked))
 told-of w set (reported.Contention a b) cabled there h = (contention a b, (h.is, h.no_tree, h.first), (refl, refl))
 
 reported-where :
-    (w : CableWorld) (set : ℕ) (r : Outcome) (o : Ending) → IsOutcome w set o → Tells w r o → IsReported w set r
+    (w : CableWorld) (set : ℕ) (r : Outcome) (o : Ending) → IsOutcome w set o → TellsEnding w r o → IsReported w set r
 reported-where w set (reported.Loop nodes) (loop core) h e =
     let its : ReportsLoop w set core = record { is = h.is_core; some = λ empty. empty h.node h.in_core; timed_out = h.timed_out; unnamed = h.unnamed } in
     subst (λ (c : ℕ). ReportsLoop w set c) (sym e) its

@@ -12,15 +12,15 @@ use Rattle.settle.specs.Reported.{IsReported}
 
 -- a report tells an outcome: the core; the root, with the tree's list and its nodes in the order of
 -- the walk; the two ends in contention
-abbrev pub Tells : CableWorld → Outcome → Ending → Type 0
-Tells w (reported.Loop nodes) (loop core) = nodes ≡ core
-Tells w (reported.Tree root list order) (tree top t) =
+abbrev pub TellsEnding : CableWorld → Outcome → Ending → Type 0
+TellsEnding w (reported.Loop nodes) (loop core) = nodes ≡ core
+TellsEnding w (reported.Tree root list order) (tree top t) =
     (root ≡ top) × (list ≡ emits t) × (order ≡ numbers w.cabling top t)
-Tells w (reported.Contention a b) (contention low high) = (a ≡ low) × (b ≡ high)
-Tells w r o = ⊥
+TellsEnding w (reported.Contention a b) (contention low high) = (a ≡ low) × (b ≡ high)
+TellsEnding w r o = ⊥
 
 -- it is reported of a component exactly where the component has an outcome that it tells
 abbrev pub ReportedIsOutcome : Type 0
 ReportedIsOutcome =
     (w : CableWorld) (set : NodeSet) (r : Outcome) → IsCabling w.cabling → AreThere w set →
-    IsReported w set r ↔ ((o : Ending) × IsOutcome w set o × Tells w r o)
+    IsReported w set r ↔ ((o : Ending) × IsOutcome w set o × TellsEnding w r o)

@@ -11,7 +11,7 @@ use Rattle.topology_map.proofs.Lemmas.{one_crc, joined, split}
 use Rattle.speed_map.specs.declared.fault.ImageFault.{ImageFault}
 use Rattle.speed_map.specs.declared.fault.ImageFault.TheVariants.{Length, Crc, Rows, Memory}
 use Rattle.speed_map.specs.Image.{IsImage, Refused}
-use Rattle.speed_map.specs.codings.Bytes.{Tells}
+use Rattle.speed_map.specs.codings.Bytes.{TellsMap}
 
 -- what stands behind the second quadlet
 whole_take : (n : ℕ) (xs : List ℕ) → length xs ≤ n → take n xs ≡ xs
@@ -31,7 +31,7 @@ sixteen : (n : ℕ) → n % 16 ≡ 0 → (4 * n) % 64 ≡ 0
 sixteen n e = omega (arith, e)
 
 -- the image of the rows that its quadlets hold
-image_of : (quads : List ℕ) → Tells quads →
+image_of : (quads : List ℕ) → TellsMap quads →
     IsSealed (slice_index quads 1 ∷ drop 2 quads) quads
 image_of [] w = absurd (let h = w.length_told.two in omega arith)
 image_of (a ∷ []) w = absurd (let h = w.length_told.two in omega arith)
@@ -47,7 +47,7 @@ fit_behind [] fit = tt
 fit_behind (a ∷ []) fit = tt
 fit_behind (a ∷ b ∷ quads) fit = fit.1.1
 
-pub is_image : (quads rows : List ℕ) → Tells quads → ((i : ℕ) → slice_index quads i < 2 ^ 32) →
+pub is_image : (quads rows : List ℕ) → TellsMap quads → ((i : ℕ) → slice_index quads i < 2 ^ 32) →
     rows ≡ bytes_of (drop 2 quads) → IsImage (slice_index quads 1) rows quads
 is_image quads rows w fit e =
     let fit_all : AllByRecursion (λ q. q < 2 ^ 32) quads = recursion_from_All _ _ (all_quadlets quads fit) in
@@ -61,7 +61,7 @@ is_image quads rows w fit e =
 
 -- the parts of an image
 pub record PartsAre (quads : List ℕ) (generation : ℕ) (rows : List ℕ) : Type 0 where
-  pub whole : Tells quads
+  pub whole : TellsMap quads
   pub generation_is : slice_index quads 1 ≡ generation
   pub rows_are : bytes_of (drop 2 quads) ≡ rows
 
@@ -91,7 +91,7 @@ parts_are generation rows quads fit h =
 
 -- ---- faults
 
-pub no_fault : (quads : List ℕ) (f : ImageFault) → Tells quads → Refused quads f → ⊥
+pub no_fault : (quads : List ℕ) (f : ImageFault) → TellsMap quads → Refused quads f → ⊥
 no_fault quads (Length fnd) w r = r.0 w.length_told
 no_fault quads (Crc kept computed) w r = r.3 (r.1 ∙ one_crc (drop 1 quads) _ computed w.crc_told r.2)
 no_fault quads (Rows fnd) w r = r.2 w.rows_told

@@ -3,7 +3,7 @@ ghost use Rattle.std.specs.Prelude.{◌≡◌, ◌<◌, ℕ, All, List, Err, IfO
 ghost use Rattle.speed_map.specs.Image.{IsImage, Refused};
 ghost use Rattle.speed_map.specs.Answer.{IfFault, UnlessMemory};
 ghost use Rattle.quad_lanes.specs.Pairs.{bytes_of};
-ghost use Rattle.speed_map.specs.codings.Bytes.{Tells};
+ghost use Rattle.speed_map.specs.codings.Bytes.{TellsMap};
 ghost use Rattle.speed_map.specs.declared.fault.ImageFault.{ImageFault};
 
 use crate::fault::ImageFault;
@@ -33,7 +33,7 @@ fn bytes_of(alloc: Global, quads: &[u32]) -> Result<Vec<u8>, OutOfMemory>
 
 /// Refuses quadlets that are no image.
 fn check(quads: &[u32]) -> Result<(), ImageFault>
-    ensures { MatchResult result (λ _. Tells quads.now) (Refused quads.now) }
+    ensures { MatchResult result (λ _. TellsMap quads.now) (Refused quads.now) }
 {
     if quads.len() < 2 || (quads[0] >> 16) as usize != quads.len() - 1 {
         return Err(ImageFault::Length { found: quads.len() });
