@@ -24,7 +24,7 @@ use Rattle.script_trace.specs.Trace.{IsTrace}
 use Rattle.script_trace.specs.OneTrace.{ScriptsHaveOneTrace, TracedScriptsAreTold}
 use Rattle.script_trace.specs.waves.Waves.{IsWaves}
 use Rattle.script_trace.specs.waves.OneDump.{ScriptsHaveOneDump, DumpedScriptsAreTold}
-use Rattle.view_text.specs.Pairs.{AreShown, pairs_text}
+use Rattle.view_text.specs.Pairs.{ArePacketsOf, pairs_text}
 use Rattle.view_text.proofs.Lemmas.{same_drawing}
 use Rattle.bus_view.specs.declared.form.CaptureView.{CaptureView}
 use Rattle.bus_view.specs.declared.form.CaptureView.TheVariants.{Packets, Tree as Drawn, Dot, Json}
@@ -74,8 +74,8 @@ one_packet : (quad : ℕ) (p q : PhyPacket) → IsQuadletOf quad p → IsQuadlet
 one_packet quad p q x y =
     sym (packet_of-quad_of p x.valid) ∙ ap packet_of (x.quad_is ∙ sym y.quad_is) ∙ packet_of-quad_of q y.valid
 
-same_packets : (quads : List ℕ) (ps qs : List PhyPacket) → AreShown quads ps → AreShown quads qs →
-    ps ≡ qs
+same_packets : (quads : List ℕ) (ps qs : List PhyPacket) →
+    ArePacketsOf quads ps → ArePacketsOf quads qs → ps ≡ qs
 same_packets [] [] [] x y = refl
 same_packets [] [] (q ∷ qs) x y = absurd y
 same_packets [] (p ∷ ps) qs x y = absurd x

@@ -20,7 +20,7 @@ use Rattle.script_run.specs.Listed.{IsListed}
 use Rattle.script_run.specs.Viewed.{IsPictured, AreReported}
 use Rattle.script_trace.specs.Trace.{IsTrace}
 use Rattle.script_trace.specs.waves.Waves.{IsWaves}
-use Rattle.view_text.specs.Pairs.{AreShown, pairs_text}
+use Rattle.view_text.specs.Pairs.{ArePacketsOf, pairs_text}
 use Rattle.view_text.specs.Drawing.{IsDrawing}
 use Rattle.view_text.specs.Graph.{graph}
 use Rattle.bus_json.specs.Text.{json_line}
@@ -60,7 +60,7 @@ status_of (refused f) = 1
 pub record ShowsPackets (bytes : List ℕ) (at : ℕ) (below : List PhyPacket → List ℕ)
     (text : List ℕ) : Type 0 where
   pub packets : List PhyPacket
-  pub shown : AreShown (firsts (quads_of bytes)) packets
+  pub shown : ArePacketsOf (firsts (quads_of bytes)) packets
   pub text_is : text ≡ pairs_text bytes packets at (below packets)
 
 -- the text of what is read by a standard

@@ -7,11 +7,11 @@ use Rattle.topology_stack.specs.Hex.{hex}
 use Rattle.view_text.specs.Packet.{field, packet_text}
 
 -- the packets that quadlets show, one each
-abbrev pub AreShown : List ℕ → List PhyPacket → Type 0
-AreShown [] [] = Unit {0}
-AreShown [] (p ∷ ps) = ⊥
-AreShown (q ∷ qs) [] = ⊥
-AreShown (q ∷ qs) (p ∷ ps) = IsQuadletOf q p × AreShown qs ps
+abbrev pub ArePacketsOf : List ℕ → List PhyPacket → Type 0
+ArePacketsOf [] [] = Unit {0}
+ArePacketsOf [] (p ∷ ps) = ⊥
+ArePacketsOf (q ∷ qs) [] = ⊥
+ArePacketsOf (q ∷ qs) (p ∷ ps) = IsQuadletOf q p × ArePacketsOf qs ps
 
 -- `pair P QUADLET QUADLET`: its number from 0, the packet's quadlet, its inverse
 unfoldable pub pair_quads : ℕ → ℕ → ℕ → List ℕ

@@ -2,7 +2,7 @@
 ghost use Rattle.std.specs.Prelude.{◌≡◌, ℕ, ◌+◌, ◌*◌, ◌/◌, ◌^◌, ◌<◌, ◌≤◌, All, List, length, drop, ◌++◌, IfOk, OnOk};
 ghost use Rattle.quad_lanes.specs.Pairs.{pairs, firsts, quads_of};
 ghost use Rattle.phy_packet.specs.Packet.{IsQuadletOf, IsValid};
-ghost use Rattle.view_text.specs.Pairs.{AreShown, pair_quads, pair_line, below, lines, bytes_text, cut_line, at_end, pairs_text};
+ghost use Rattle.view_text.specs.Pairs.{ArePacketsOf, pair_quads, pair_line, below, lines, bytes_text, cut_line, at_end, pairs_text};
 
 use crate::packet::put_packet;
 use crate::words::put_field;
@@ -22,7 +22,7 @@ pub struct Note {
 
 /// The packets that the first quadlets of pairs show.
 pub fn packets_of(alloc: Global, quads: &[u32]) -> Result<Vec<PhyPacket>, OutOfMemory>
-    ensures { IfOk result (λ packets. AreShown (firsts quads.now) packets.items) }
+    ensures { IfOk result (λ packets. ArePacketsOf (firsts quads.now) packets.items) }
 {
     let mut packets = Vec::new(alloc);
     let mut rest = quads;
@@ -119,7 +119,7 @@ fn put_lines(
     note: &Note,
 ) -> Result<(), OutOfMemory>
     requires few { length quads.now < 2 ^ 60 }
-    requires shown { AreShown (firsts quads.now) packets.now }
+    requires shown { ArePacketsOf (firsts quads.now) packets.now }
     ensures { OnOk result (out.new.items
         ≡ out.old.items ++ lines 0 (pairs quads.now) packets.now
         note.now.pair note.now.text.items) }
@@ -147,7 +147,7 @@ pub fn pairs_text(
     note: &Note,
 ) -> Result<Vec<u8>, OutOfMemory>
     requires few { length bytes.now < 2 ^ 60 }
-    requires shown { AreShown (firsts (quads_of bytes.now)) packets.now }
+    requires shown { ArePacketsOf (firsts (quads_of bytes.now)) packets.now }
     ensures { IfOk result (λ text. text.items
         ≡ pairs_text bytes.now packets.now note.now.pair note.now.text.items) }
 {

@@ -1,7 +1,7 @@
 use Rattle.std.proofs.Common.{◌≡◌, ℕ, ◌<◌, List, [], ◌∷◌, length, refl, sym, subst, arith, append-nil}
 use Rattle.phy_packet.specs.declared.packet.PhyPacket.{PhyPacket}
 use Rattle.quad_lanes.specs.Pairs.{firsts}
-use Rattle.view_text.specs.Pairs.{AreShown}
+use Rattle.view_text.specs.Pairs.{ArePacketsOf}
 use Rattle.view_text.proofs.pairs.packets_of.Goals as goal
 
 -- fewer than two quadlets make no pair
@@ -13,5 +13,6 @@ none_left (a ∷ b ∷ l) few = absurd (omega arith)
 pub returns : goal.returns
 returns c =
     let none : firsts c.loop-rest.rest.now ≡ [] = none_left c.loop-rest.rest.now c.in_default.len_below in
-    let whole = c.loop-rest.invariant [] (subst (λ (l : List ℕ). AreShown l []) (sym none) tt) in
-    subst (λ (ps : List PhyPacket). AreShown (firsts c.args.quads.now) ps) (append-nil c.loop-rest.packets.items) whole
+    let whole =
+    c.loop-rest.invariant [] (subst (λ (l : List ℕ). ArePacketsOf l []) (sym none) tt) in
+    subst (λ (ps : List PhyPacket). ArePacketsOf (firsts c.args.quads.now) ps) (append-nil c.loop-rest.packets.items) whole
