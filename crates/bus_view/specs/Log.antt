@@ -5,7 +5,7 @@ use Rattle.io_edges.specs.Faults.{Rose}
 use Rattle.io_edges.specs.Told.{AppendsStart, IfTold, TookOver}
 use Rattle.reset_log.specs.declared.form.LogForm.{LogForm}
 use Rattle.reset_log.specs.Noted.{Noted, nothing}
-use Rattle.reset_log.specs.Log.{parted, lines_of, IsLogShown, AreShown}
+use Rattle.reset_log.specs.Log.{parted, lines_of, IsLogShown, AreLinesShown}
 use Rattle.nosy_dump.specs.Dump.{IsDumpShown}
 use Rattle.io_edges.specs.Streams.{IsWritten, OfTheAnswer}
 
@@ -27,7 +27,8 @@ IsDumpView form bytes status text =
 -- what is shown of the whole lines of a log that goes on
 abbrev pub IsLogBegun : LogForm → List ℕ → List ℕ → Type 0
 IsLogBegun form bytes text =
-    (bad : Bool) × (known : Noted) × AreShown form 1 nothing (parted bytes).lines text bad known
+    (bad : Bool) × (known : Noted)
+    × AreLinesShown form 1 nothing (parted bytes).lines text bad known
 
 -- A call with this status, which writes what `Is` shows of the bytes of a source while they come, and
 -- what `IsBegun` shows of them while they go on. It reads them to the end where `Ends` holds. `left` is

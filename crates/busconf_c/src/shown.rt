@@ -1,7 +1,7 @@
 //! A bus tree as records.
 ghost use Rattle.std.specs.Prelude.{◌≡◌, ℕ, ◌<◌, ◌≤◌, length, slice_index_or};
 ghost use Rattle.topology_stack.specs.Tree.{walk};
-ghost use Rattle.c_records.specs.Shown.{no_slot, IsSlotOf, IsNodeRecord, IsBusRecord, AreShown};
+ghost use Rattle.c_records.specs.Shown.{no_slot, IsSlotOf, IsNodeRecord, IsBusRecord, AreNodesShown};
 
 use c_records::{
     BusRecord, MAX_SLOTS, NO_SLOT, NodeRecord, SlotRecord, id_or_none, said, slot_record,
@@ -32,7 +32,7 @@ fn node_record(tree: &BusTree, id: u8) -> NodeRecord
 /// Writes the records of all nodes by ID, and leaves what stands behind them.
 pub(crate) fn show_nodes(tree: &BusTree, nodes: &mut [NodeRecord])
     requires { length (walk tree.now) ≤ length nodes.old }
-    ensures { AreShown tree.now nodes.old nodes.new }
+    ensures { AreNodesShown tree.now nodes.old nodes.new }
 {
     for id in 0..tree.len() {
         nodes[id as usize] = node_record(tree, id);

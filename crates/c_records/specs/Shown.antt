@@ -52,7 +52,7 @@ pub record IsNodeRecord (t : Tree) (id : ℕ) (r : NodeRecord) : Type 0 where
   pub slots : (slot : ℕ) → slot < 27 → IsSlotOf t id slot (slice_index_or r.slots slot no_slot)
 
 -- the records of a tree's nodes are written by ID, and what stood behind them stays
-pub record AreShown (t : Tree) (before after : List NodeRecord) : Type 0 where
+pub record AreNodesShown (t : Tree) (before after : List NodeRecord) : Type 0 where
   pub room : length after ≡ length before
   pub nodes : (id : ℕ) (d : NodeRecord) → id < length (walk t) →
       IsNodeRecord t id (slice_index_or after id d)
@@ -68,7 +68,7 @@ pub record IsBusRecord (t : Tree) (r : BusRecord) : Type 0 where
 -- the nodes of a tree and its bus are shown, or the bus alone where there is no room for the nodes
 pub data TellsNodes (t : Tree) (before after : List NodeRecord) (bus : BusRecord) (status : ℕ)
     : Type 0 where
-  shown : IsBusRecord t bus → AreShown t before after → status ≡ 0 →
+  shown : IsBusRecord t bus → AreNodesShown t before after → status ≡ 0 →
       TellsNodes t before after bus status
   too_short : IsBusRecord t bus → length before < length (walk t) → after ≡ before →
       status ≡ 3 → TellsNodes t before after bus status

@@ -5,7 +5,7 @@ ghost use Rattle.self_id.specs.Node.{Node, downs};
 ghost use Rattle.self_id.specs.Group.{group, BeginsWith};
 ghost use Rattle.topology_stack.specs.Tree.{Tree, walk};
 ghost use Rattle.topology_stack.specs.Stored.{ends_of};
-ghost use Rattle.c_records.specs.Shown.{no_slot, IsSlotOf, IsNodeRecord, AreShown};
+ghost use Rattle.c_records.specs.Shown.{no_slot, IsSlotOf, IsNodeRecord, AreNodesShown};
 ghost use Rattle.heapless_c.specs.Reading.{IsLinked, IsPlaced};
 
 use crate::links::Links;
@@ -74,7 +74,7 @@ pub(crate) fn show_nodes(
         × IsLinked standard quads.now links.now.parents.items links.now.children t }
     requires room { count ≤ length nodes.old }
     ensures { (t : Tree) → IsLinked standard quads.now links.now.parents.items links.now.children t
-        → AreShown t nodes.old nodes.new }
+        → AreNodesShown t nodes.old nodes.new }
 {
     let mut at = 0;
     for id in 0..count {

@@ -10,7 +10,7 @@ use Rattle.reset_log.specs.Notes.{noted}
 use Rattle.reset_log.specs.declared.log.LogReader.{LogReader}
 use Rattle.reset_log.specs.declared.stop.LogStop.{LogStop}
 use Rattle.reset_log.specs.Shown.{IsLineShown}
-use Rattle.reset_log.specs.Log.{onto_first, parted, open_lines, lines_of, AreShown, IsLogShown, AreWritten}
+use Rattle.reset_log.specs.Log.{onto_first, parted, open_lines, lines_of, AreLinesShown, IsLogShown, AreWritten}
 use Rattle.reset_log.specs.Cause.{StoppedWriting}
 use Rattle.reset_log.specs.Answered.{IsExact, IsComplete}
 use Rattle.reset_log.specs.Wrote.{Wrote, WroteFront, WroteFrontOf}
@@ -162,7 +162,7 @@ broke_front form lines text more start was is wrote begun part = record {
 
 -- the next line wasn't shown whole
 part_more : {K : Type 0} {w : K → Option (List ℕ)} {f : K → ℕ} {t : K → ℕ → Type 0} (form : LogForm) (lines : List (List ℕ)) (line text : List ℕ) (bad : Bool) (known next : Noted) (more : List ℕ) (here : Bool) (start was is : K) →
-    AreShown form 1 nothing lines text bad known →
+    AreLinesShown form 1 nothing lines text bad known →
     IsLineShown form (1 + length lines) known line more here next → Wrote w f t start was text →
     WroteFront w f t was is more → Broke w f t form (lines ++ line ∷ []) start is
 part_more form lines line text bad known next more here start was is shown one wrote part =
@@ -223,7 +223,7 @@ split_at (b ∷ bytes) (suc at) h =
 pub front_of : {K : Type 0} {w : K → Option (List ℕ)} {f : K → ℕ} {t : K → ℕ → Type 0} (form : LogForm) (lines : List (List ℕ)) (old new : K) →
     Broke w f t form lines old new → WroteFrontOf w f t (IsLogShown form lines) old new
 front_of form lines old new b = λ text bad is.
-    let all : AreShown form 1 nothing (b.begun.first ++ b.begun.others) is.told bad is.known = subst (λ (ls : List (List ℕ)). AreShown form 1 nothing ls is.told bad is.known) b.begun.lines_are is.shown in
+    let all : AreLinesShown form 1 nothing (b.begun.first ++ b.begun.others) is.told bad is.known = subst (λ (ls : List (List ℕ)). AreLinesShown form 1 nothing ls is.told bad is.known) b.begun.lines_are is.shown in
     let first = told_first (IsLineShown form) 1 nothing is.known b.begun.first b.begun.others is.told bad all in
     let same =
     told_once (IsLineShown form) (λ n ks line e g h k p q. same_line form n ks line e g h k p q) 1 nothing b.begun.first first.0 b.text first.2 b.begun.bad first.3 b.begun.known first.4 b.begun.shown

@@ -7,7 +7,7 @@ use Rattle.io_edges.specs.Told.{StayTold, IfTold, TookOver}
 use Rattle.reset_log.specs.declared.form.LogForm.{LogForm}
 use Rattle.reset_log.specs.declared.log.LogReader.{LogReader}
 use Rattle.reset_log.specs.Shown.{IsLineShown}
-use Rattle.reset_log.specs.Log.{parted, open_lines, lines_of, AreShown}
+use Rattle.reset_log.specs.Log.{parted, open_lines, lines_of, AreLinesShown}
 use Rattle.reset_log.specs.Notes.{noted}
 use Rattle.reset_log.specs.Noted.{nothing}
 use Rattle.reset_log.specs.Shown.{totals_text}
@@ -44,7 +44,7 @@ ended old done start was st e =
     record {
       text = st.text;
       shown =
-          subst (λ (ls : List (List ℕ)). AreShown old.form 1 nothing ls st.text old.bad (noted old.notes)) (sym (no_open done unopened)) st.holds.shown;
+          subst (λ (ls : List (List ℕ)). AreLinesShown old.form 1 nothing ls st.text old.bad (noted old.notes)) (sym (no_open done unopened)) st.holds.shown;
       wrote = st.wrote;
     }
   where
@@ -62,8 +62,8 @@ ended_line {w = w} {f = f} {t = t} old new done gathered start was is st sh wrot
     record {
       text = st.text ++ sh.text;
       shown =
-          subst (λ (b : Bool). AreShown old.form 1 nothing (lines_of done) (st.text ++ sh.text) b (noted new.notes)) (sym sh.bad)
-          (subst (λ (ls : List (List ℕ)). AreShown old.form 1 nothing ls (st.text ++ sh.text) (old.bad || sh.here) (noted new.notes)) (sym (some_open done opened))
+          subst (λ (b : Bool). AreLinesShown old.form 1 nothing (lines_of done) (st.text ++ sh.text) b (noted new.notes)) (sym sh.bad)
+          (subst (λ (ls : List (List ℕ)). AreLinesShown old.form 1 nothing ls (st.text ++ sh.text) (old.bad || sh.here) (noted new.notes)) (sym (some_open done opened))
           (one_more (IsLineShown old.form) 1 nothing (noted old.notes) (noted new.notes) (parted done).lines (parted done).open_line st.text sh.text old.bad sh.here st.holds.shown shown));
       wrote = wrote_then start was is st.text sh.text st.wrote (subst (λ (l : List ℕ). Wrote w f t was is l) sh.gathered wrote);
     }

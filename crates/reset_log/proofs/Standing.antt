@@ -8,17 +8,17 @@ use Rattle.reset_log.specs.declared.line.LogLine.{LogLine}
 use Rattle.reset_log.specs.declared.log.LogReader.{LogReader}
 use Rattle.reset_log.specs.Line.{line_of}
 use Rattle.reset_log.specs.Shown.{IsLogLineShown, IsLineShown}
-use Rattle.reset_log.specs.Log.{Parted, parted, AreShown}
+use Rattle.reset_log.specs.Log.{Parted, parted, AreLinesShown}
 use Rattle.reset_log.specs.codings.Going.{HasShown, ShowsLine, ShowsWhole, KeepsBytes, IsOneLine}
 use Rattle.reset_log.proofs.Going.{ends_line, goes_on, few_lines, same_line}
 use Rattle.reset_log.proofs.InOrder.{one_more}
 
 line_ended : (form : LogForm) (done : List ℕ) (ks next : Noted) (text more : List ℕ) (bad here : Bool) →
-    AreShown form 1 nothing (parted done).lines text bad ks →
+    AreLinesShown form 1 nothing (parted done).lines text bad ks →
     IsLineShown form (1 + length (parted done).lines) ks (parted done).open_line more here next →
-    AreShown form 1 nothing (parted (done ++ 10 ∷ [])).lines (text ++ more) (bad || here) next
+    AreLinesShown form 1 nothing (parted (done ++ 10 ∷ [])).lines (text ++ more) (bad || here) next
 line_ended form done ks next text more bad here shown is =
-    subst (λ (p : Parted). AreShown form 1 nothing p.lines (text ++ more) (bad || here) next) (sym (ends_line done))
+    subst (λ (p : Parted). AreLinesShown form 1 nothing p.lines (text ++ more) (bad || here) next) (sym (ends_line done))
     (one_more (IsLineShown form) 1 nothing ks next (parted done).lines (parted done).open_line text more bad here shown is)
 
 -- a line is shown by its first bytes
@@ -32,11 +32,11 @@ by_front form n m ks js next kept line text bad e f is shown =
     (subst (λ (k : ℕ). IsLogLineShown form k js (line_of kept) text bad next) e shown))
 
 all_same : (s r : LogForm) (ks js : Noted) (a b : Bool) (lines : List (List ℕ)) (text : List ℕ) →
-    r ≡ s → js ≡ ks → b ≡ a → AreShown s 1 nothing lines text a ks → AreShown r 1 nothing lines text b js
+    r ≡ s → js ≡ ks → b ≡ a → AreLinesShown s 1 nothing lines text a ks → AreLinesShown r 1 nothing lines text b js
 all_same s r ks js a b lines text e f g shown =
-    subst (λ (x : LogForm). AreShown x 1 nothing lines text b js) (sym e)
-    (subst (λ (x : Noted). AreShown s 1 nothing lines text b x) (sym f)
-    (subst (λ (x : Bool). AreShown s 1 nothing lines text x ks) (sym g) shown))
+    subst (λ (x : LogForm). AreLinesShown x 1 nothing lines text b js) (sym e)
+    (subst (λ (x : Noted). AreLinesShown s 1 nothing lines text b x) (sym f)
+    (subst (λ (x : Bool). AreLinesShown s 1 nothing lines text x ks) (sym g) shown))
 
 -- behind bytes of a line
 pub after_bytes : (old new : LogReader) (done bytes text : List ℕ) → IsOneLine bytes →
@@ -46,7 +46,7 @@ after_bytes old new done bytes text one few h k =
     let on = goes_on done bytes one in
     record {
       shown =
-          subst (λ (p : Parted). AreShown new.form 1 nothing p.lines text new.bad (noted new.notes)) (sym on)
+          subst (λ (p : Parted). AreLinesShown new.form 1 nothing p.lines text new.bad (noted new.notes)) (sym on)
           (all_same old.form new.form (noted old.notes) (noted new.notes) old.bad new.bad (parted done).lines text k.form k.notes k.bad h.shown);
       line_is = k.line_is (parted done).open_line h.line_is ∙ ap (λ (p : Parted). take 65536 p.open_line) (sym on);
       number_is = k.number_is ∙ h.number_is ∙ ap (λ (p : Parted). length p.lines + 1) (sym on);
@@ -71,7 +71,7 @@ after_line old mid new done text was is few h sh es ec el en eb et =
     let gathered : text ++ is ≡ (text ++ was) ++ sh.text = ap (λ (l : List ℕ). text ++ l) sh.gathered ∙ sym (append_assoc text was sh.text) in
     record {
       shown =
-          subst (λ (l : List ℕ). AreShown new.form 1 nothing (parted (done ++ 10 ∷ [])).lines l new.bad (noted new.notes)) (sym gathered)
+          subst (λ (l : List ℕ). AreLinesShown new.form 1 nothing (parted (done ++ 10 ∷ [])).lines l new.bad (noted new.notes)) (sym gathered)
           (all_same old.form new.form (noted new.notes) (noted new.notes) (old.bad || sh.here) new.bad _ _ (sh.form ∙ es) refl
           (sh.bad ∙ ap (λ (b : Bool). b || sh.here) eb)
           (line_ended old.form done (noted old.notes) (noted new.notes) (text ++ was) sh.text old.bad sh.here h.shown shown));
@@ -104,8 +104,8 @@ after_whole old new done bytes text was is one few fits empty h sh =
     let shown : IsLineShown old.form (1 + length (parted (done ++ bytes)).lines) (noted old.notes) (parted (done ++ bytes)).open_line sh.text sh.here (noted new.notes) =
     by_front old.form old.number _ (noted old.notes) (noted old.notes) (noted new.notes) bytes (parted (done ++ bytes)).open_line sh.text sh.here place refl
     (sym (take_all 65536 bytes fits) ∙ ap (λ (p : Parted). take 65536 p.open_line) (sym on)) sh.shown in
-    let before : AreShown old.form 1 nothing (parted (done ++ bytes)).lines (text ++ was) old.bad (noted old.notes) =
-    subst (λ (p : Parted). AreShown old.form 1 nothing p.lines (text ++ was) old.bad (noted old.notes)) (sym on) h.shown in
+    let before : AreLinesShown old.form 1 nothing (parted (done ++ bytes)).lines (text ++ was) old.bad (noted old.notes) =
+    subst (λ (p : Parted). AreLinesShown old.form 1 nothing p.lines (text ++ was) old.bad (noted old.notes)) (sym on) h.shown in
     let gathered : text ++ is ≡ (text ++ was) ++ sh.text = ap (λ (l : List ℕ). text ++ l) sh.gathered ∙ sym (append_assoc text was sh.text) in
     let end = ends_line (done ++ bytes) in
     let count : length (parted ((done ++ bytes) ++ 10 ∷ [])).lines ≡ length (parted (done ++ bytes)).lines + 1 =
@@ -113,7 +113,7 @@ after_whole old new done bytes text was is one few fits empty h sh =
     subst (λ (l : List ℕ). HasShown new l (text ++ is)) (append_assoc done bytes (10 ∷ []))
     (record {
       shown =
-          subst (λ (l : List ℕ). AreShown new.form 1 nothing (parted ((done ++ bytes) ++ 10 ∷ [])).lines l new.bad (noted new.notes)) (sym gathered)
+          subst (λ (l : List ℕ). AreLinesShown new.form 1 nothing (parted ((done ++ bytes) ++ 10 ∷ [])).lines l new.bad (noted new.notes)) (sym gathered)
           (all_same old.form new.form (noted new.notes) (noted new.notes) (old.bad || sh.here) new.bad _ _ sh.form refl sh.bad
           (line_ended old.form (done ++ bytes) (noted old.notes) (noted new.notes) (text ++ was) sh.text old.bad sh.here before shown));
       line_is = sh.line_is ∙ empty ∙ ap (λ (p : Parted). take 65536 p.open_line) (sym end);

@@ -34,15 +34,15 @@ lines_of bytes = (parted bytes).lines ++ open_lines (parted bytes).open_line
 
 -- What is shown of lines that are numbered from here on, where this is noted before them; whether one of them
 -- is at fault, and what is noted behind them.
-abbrev pub AreShown : LogForm → ℕ → Noted → List (List ℕ) → List ℕ → Bool → Noted → Type 0
-AreShown form = AreTold (IsLineShown form)
+abbrev pub AreLinesShown : LogForm → ℕ → Noted → List (List ℕ) → List ℕ → Bool → Noted → Type 0
+AreLinesShown form = AreTold (IsLineShown form)
 
 -- what is shown of a log, of its lines and behind them in all, and whether one of its lines is at fault
 pub record IsLogShown (form : LogForm) (lines : List (List ℕ)) (text : List ℕ) (bad : Bool) :
     Type 0 where
   pub known : Noted
   pub told : List ℕ
-  pub shown : AreShown form 1 nothing lines told bad known
+  pub shown : AreLinesShown form 1 nothing lines told bad known
   pub text_is : text ≡ told ++ totals_text form known
 
 -- what was written is what is shown of these lines
@@ -57,5 +57,5 @@ pub record AreBegun (form : LogForm) (old new : Option (List ℕ)) (lines : List
     (bad : Bool) : Type 0 where
   pub text : List ℕ
   pub known : Noted
-  pub shown : AreShown form 1 nothing lines text bad known
+  pub shown : AreLinesShown form 1 nothing lines text bad known
   pub wrote : Appends old new text

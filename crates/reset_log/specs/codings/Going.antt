@@ -7,7 +7,7 @@ use Rattle.reset_log.specs.Noted.{Noted, nothing}
 use Rattle.reset_log.specs.Notes.{noted}
 use Rattle.reset_log.specs.declared.log.LogReader.{LogReader}
 use Rattle.reset_log.specs.Shown.{IsLineShown}
-use Rattle.reset_log.specs.Log.{parted, AreShown, IsLogShown}
+use Rattle.reset_log.specs.Log.{parted, AreLinesShown, IsLogShown}
 use Rattle.reset_log.specs.Wrote.{Wrote, WroteFront}
 
 -- it was given nothing
@@ -20,7 +20,7 @@ pub record IsNew (r : LogReader) : Type 0 where
 
 -- it was given these bytes, and this is what is shown of their whole lines
 pub record HasShown (r : LogReader) (done text : List ℕ) : Type 0 where
-  pub shown : AreShown r.form 1 nothing (parted done).lines text r.bad (noted r.notes)
+  pub shown : AreLinesShown r.form 1 nothing (parted done).lines text r.bad (noted r.notes)
   pub line_is : r.line.items ≡ take 65536 (parted done).open_line
   pub number_is : r.number ≡ length (parted done).lines + 1
   pub taken_is : r.taken ≡ length done
@@ -89,7 +89,7 @@ pub record Begun (form : LogForm) (lines : List (List ℕ)) (text : List ℕ) : 
   pub lines_are : lines ≡ first ++ others
   pub bad : Bool
   pub known : Noted
-  pub shown : AreShown form 1 nothing first text bad known
+  pub shown : AreLinesShown form 1 nothing first text bad known
 
 -- the front of what is shown of the line that was kept was written
 pub record ShowsPart {K : Type 0} (written : K → Option (List ℕ)) (faults : K → ℕ)
@@ -128,7 +128,7 @@ pub record ShowsLines {K : Type 0} (written : K → Option (List ℕ)) (faults :
     (old new : K) : Type 0
   where
     pub text : List ℕ
-    pub shown : AreShown form 1 nothing lines text r.bad (noted r.notes)
+    pub shown : AreLinesShown form 1 nothing lines text r.bad (noted r.notes)
     pub wrote : Wrote written faults surely_takes old new text
 
 -- what is shown of a log of these lines was written
