@@ -8,7 +8,7 @@ use Rattle.topology_stack.specs.Tree.{Tree, walk}
 use Rattle.view_text.specs.declared.cable.Cable.{Cable}
 use Rattle.view_text.specs.Cable.{cables}
 use Rattle.bus_diff.specs.declared.pair.Pair.{Pair}
-use Rattle.bus_diff.specs.Along.{may_be_one, with_pair, pair_of, turned, leads_so, other_end, led_to, with_led, stepped, walked, ways, reached_from, IsToldOf, IsStep, IsReached, at_start, by_step, EachPairIsReached}
+use Rattle.bus_diff.specs.Along.{may_be_one, with_pair, pair_of, turned, leads_so, other_end, led_to, with_led, stepped, walked, ways, reached_from, IsToldOf, IsStep, IsReachedBySteps, at_start, by_step, EachPairIsReached}
 
 none_there : {X : Type 0} (x : X) → Contains [] x → ⊥
 none_there x there = let lt : there.0 < 0 = there.1 in omega (arith, lt)
@@ -103,25 +103,25 @@ step_along t u p c d told there from leads = ⊎_elim
     other child false e = refl
 
 with_reached : (t u : Tree) (start : Pair) (ps : List Pair) (x : Pair) →
-    ((q : Pair) → Contains ps q → IsReached t u start q) → IsReached t u start x →
-    (q : Pair) → Contains (with_pair t u ps x) q → IsReached t u start q
+    ((q : Pair) → Contains ps q → IsReachedBySteps t u start q) → IsReachedBySteps t u start x →
+    (q : Pair) → Contains (with_pair t u ps x) q → IsReachedBySteps t u start q
 with_reached t u start ps x all one q there = go (may_be_one t u ps x) there
   where
-    go : (b : Bool) → Contains (if b then ps ++ x ∷ [] else ps) q → IsReached t u start q
+    go : (b : Bool) → Contains (if b then ps ++ x ∷ [] else ps) q → IsReachedBySteps t u start q
     go true h = ⊎_elim
         (λ (old : Contains ps q). all q old)
-        (λ (is : x ≡ q). subst (λ (y : Pair). IsReached t u start y) is one)
+        (λ (is : x ≡ q). subst (λ (y : Pair). IsReachedBySteps t u start y) is one)
         (Contains-push_cases ps x q h)
     go false h = all q h
 
 stepped_reached : (t u : Tree) (start : Pair) (ps : List Pair) (c : Cable) → IsToldOf (cables t) c →
-    ((q : Pair) → Contains ps q → IsReached t u start q) →
-    (q : Pair) → Contains (stepped t u (cables u) ps c) q → IsReached t u start q
+    ((q : Pair) → Contains ps q → IsReachedBySteps t u start q) →
+    (q : Pair) → Contains (stepped t u (cables u) ps c) q → IsReachedBySteps t u start q
 stepped_reached t u start ps c told all q there = from (pair_of ps c.parent) refl there
   where
     to : (p : Pair) → pair_of ps c.parent ≡ Some p → (d : Option Cable) →
         find (λ d. leads_so c p.new d) (cables u) ≡ d →
-        Contains (with_led t u ps c.child (other_end p.new d)) q → IsReached t u start q
+        Contains (with_led t u ps c.child (other_end p.new d)) q → IsReachedBySteps t u start q
     to p e None f h = all q h
     to p e (Some d) f h =
         let pair = found_so (λ (p : Pair). p.old == c.parent) ps p e in
@@ -131,14 +131,14 @@ stepped_reached t u start ps c told all q there = from (pair_of ps c.parent) ref
         with_reached t u start ps x all (by_step p x (all p pair.0) step) q h
 
     from : (p : Option Pair) → pair_of ps c.parent ≡ p →
-        Contains (with_led t u ps c.child (led_to (cables u) c p)) q → IsReached t u start q
+        Contains (with_led t u ps c.child (led_to (cables u) c p)) q → IsReachedBySteps t u start q
     from None e h = all q h
     from (Some p) e h = to p e (find (λ d. leads_so c p.new d) (cables u)) refl h
 
 walked_reached : (t u : Tree) (start : Pair) (ps : List Pair) (cs : List Cable) →
     ((c : Cable) → Contains cs c → IsToldOf (cables t) c) →
-    ((q : Pair) → Contains ps q → IsReached t u start q) →
-    (q : Pair) → Contains (walked t u (cables u) ps cs) q → IsReached t u start q
+    ((q : Pair) → Contains ps q → IsReachedBySteps t u start q) →
+    (q : Pair) → Contains (walked t u (cables u) ps cs) q → IsReachedBySteps t u start q
 walked_reached t u start ps [] told all q there = all q there
 walked_reached t u start ps (c ∷ cs) told all q there =
     let here : Contains (c ∷ cs) c = Contains-append_left (c ∷ []) cs c (Contains-push [] c) in

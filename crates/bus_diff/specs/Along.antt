@@ -172,12 +172,12 @@ pub record IsStep (old new : Tree) (p q : Pair) : Type 0 where
   pub into : here.child_port ≡ there.child_port
 
 -- steps lead from the start to the nodes of a pair
-pub data IsReached (old new : Tree) (start : Pair) : Pair → Type 0 where
-  at_start : IsReached old new start start
-  by_step : (p q : Pair) → IsReached old new start p → IsStep old new p q → IsReached old new start q
+pub data IsReachedBySteps (old new : Tree) (start : Pair) : Pair → Type 0 where
+  at_start : IsReachedBySteps old new start start
+  by_step : (p q : Pair) → IsReachedBySteps old new start p → IsStep old new p q → IsReachedBySteps old new start q
 
 -- what is reached is reached by steps
 abbrev pub EachPairIsReached : Type 0
 EachPairIsReached =
     (old new : Tree) (start q : Pair) → Contains (reached_from old new start) q →
-    IsReached old new start q
+    IsReachedBySteps old new start q
