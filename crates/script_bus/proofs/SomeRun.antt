@@ -9,7 +9,7 @@ use Rattle.script_lines.specs.declared.kind.Kind.{Kind}
 use Rattle.script_lines.specs.declared.command.Command.{Command}
 use Rattle.script_lines.specs.declared.command.Command.TheVariants.{Node, Delay, Times, Plan}
 use Rattle.script_lines.specs.Times.{standard_times}
-use Rattle.script_lines.specs.Range.{IsWithin, IsInRange, IsNodeInRange}
+use Rattle.script_lines.specs.Range.{IsBetween, IsInRange, IsNodeInRange}
 use Rattle.script_lines.specs.Line.{ReadsLine}
 use Rattle.script_lines.specs.Ranged.{CommandsAreInRange}
 use Rattle.script_lines.proofs.Lemmas.{some_reading}
@@ -51,7 +51,7 @@ declare-node draft h name ports speed link contender force power gap held short 
     declare draft name (λ ranges number. new_node (attrs_said speed link contender power gap) ports force (times_of ranges held short long) (coins_of number word len seed)) h
     (node-at-power-on draft ports speed link contender force power gap held short long word len seed h.fitting i)
 
-delays : (stage : Stage) (delay : ℕ) → IsWithin 1 16 delay → Step (Delays stage delay)
+delays : (stage : Stage) (delay : ℕ) → IsBetween 1 16 delay → Step (Delays stage delay)
 delays fresh delay i = record { answer = Ok (declaring (draft_with delay), []); is = refl; sound = no-nodes delay i.0 i.1 }
 delays (declaring draft) delay i = record { answer = Err Kind.Late; is = refl; sound = tt }
 delays (running bus) delay i = record { answer = Err Kind.Late; is = refl; sound = tt }

@@ -19,7 +19,7 @@ use Rattle.std.specs.List.{list_all}
 use Rattle.script_lines.specs.Coins.{is_coin, are_coins}
 use Rattle.script_lines.specs.Shape.{out_of}
 use Rattle.script_lines.specs.Key.{word_of, key_of, limits, wrong_value}
-use Rattle.script_lines.specs.Range.{IsWithin}
+use Rattle.script_lines.specs.Range.{IsBetween}
 use Rattle.script_lines.specs.Node.{given, is_taken, wrong_pair, first_wrong_pair}
 
 -- a key's word is that key's alone
@@ -97,7 +97,7 @@ small_number word n h = go (bytes_eq (take 2 word) (codes "0x")) h
 
 -- each number behind a key lies in the key's range
 ranged : (times : TimeRanges) (key : Key) (value : List ℕ) (n : ℕ) → wrong_value times key value ≡ None
-    → number_of value ≡ Some n → IsWithin (limits times key).0 (limits times key).1 n
+    → number_of value ≡ Some n → IsBetween (limits times key).0 (limits times key).1 n
 ranged times Coins value n h e = (omega arith, omega (arith, small_number value n e))
 ranged times Kind value n h e = (omega arith, omega (arith, small_number value n e))
 ranged times key value n h e =
@@ -106,11 +106,11 @@ ranged times key value n h e =
 
 pub right_number : (times : TimeRanges) (key : Key) (pairs : List (List ℕ)) (value : List ℕ)
     → first_wrong_pair times [] pairs ≡ None → given key pairs ≡ Some value
-    → IfSome (number_of value) (IsWithin (limits times key).0 (limits times key).1)
+    → IfSome (number_of value) (IsBetween (limits times key).0 (limits times key).1)
 right_number times key pairs value h g = go (number_of value) refl
   where
     go : (r : Option ℕ) → number_of value ≡ r
-        → IfSome r (IsWithin (limits times key).0 (limits times key).1)
+        → IfSome r (IsBetween (limits times key).0 (limits times key).1)
     go None e = tt
     go (Some n) e = ranged times key value n (right_value times key value [] pairs h g) e
 

@@ -17,23 +17,23 @@ use Rattle.script_lines.specs.Key.{limits}
 use Rattle.script_lines.specs.Words.{words_of}
 use Rattle.script_lines.specs.Node.{has_node_form, node_shapes, node_command, wrong_node, first_wrong_pair, are_pairs, given, number_given, coins_given}
 use Rattle.script_lines.specs.Line.{LineForm, node, other, meaning, wrong_word, has_form, IsCommand}
-use Rattle.script_lines.specs.Range.{IsWithin, IsInRange}
+use Rattle.script_lines.specs.Range.{IsBetween, IsInRange}
 use Rattle.script_lines.specs.Ranged.{CommandsAreInRange}
 use Rattle.script_lines.proofs.GivenValues.{neither, right_number, right_coins}
 
 -- ---- the number at a place
 
-within : (least most n : ℕ) → out_of least most (Some n) ≡ None → IsWithin least most n
+within : (least most n : ℕ) → out_of least most (Some n) ≡ None → IsBetween least most n
 within least most n h = go (nat_le least n) (nat_le n most) refl refl h
   where
     go : (above below : Bool) → nat_le least n ≡ above → nat_le n most ≡ below
-        → cond (above && below) None (Some Range) ≡ None → IsWithin least most n
+        → cond (above && below) None (Some Range) ≡ None → IsBetween least most n
     go true true a b h = (grind (arith, nat_tests), grind (arith, nat_tests))
     go true false a b h = absurd cc
     go false below a b h = absurd cc
 
 number : (least most : ℕ) (n : Option ℕ) → out_of least most n ≡ None →
-    IsWithin least most (unwrap_or n 0)
+    IsBetween least most (unwrap_or n 0)
 number least most None h = absurd cc
 number least most (Some n) h = within least most n h
 
@@ -41,8 +41,8 @@ number least most (Some n) h = within least most n h
 abbrev Fits : Shape → ℕ → Type 0
 Fits (the text) n = Unit {0}
 Fits a_name n = Unit {0}
-Fits (a_number least most) n = IsWithin least most n
-Fits (a_given least most) n = IsWithin least most n
+Fits (a_number least most) n = IsBetween least most n
+Fits (a_given least most) n = IsBetween least most n
 
 one : (shape : Shape) (word : List ℕ) → wrong shape word ≡ None →
     Fits shape (unwrap_or (number_of word) 0)
@@ -96,16 +96,16 @@ fixed times form.times_1995 words h w = at-place (shapes form.times_1995) words 
 -- a number behind a key, if it is given
 given-number :
     (times : TimeRanges) (key : Key) (pairs : List (List ℕ)) → first_wrong_pair times [] pairs ≡ None →
-    IfSome (number_given key pairs) (IsWithin (limits times key).0 (limits times key).1)
+    IfSome (number_given key pairs) (IsBetween (limits times key).0 (limits times key).1)
 given-number times key pairs right = go (given key pairs) refl
   where
     go :
         (o : Option (List ℕ)) → given key pairs ≡ o →
-        IfSome (option_and_then number_of o) (IsWithin (limits times key).0 (limits times key).1)
+        IfSome (option_and_then number_of o) (IsBetween (limits times key).0 (limits times key).1)
     go None e = tt
     go (Some value) e = right_number times key pairs value right e
 
-or-usual : (n : Option ℕ) (least most usual : ℕ) → IfSome n (IsWithin least most) → usual ≤ most →
+or-usual : (n : Option ℕ) (least most usual : ℕ) → IfSome n (IsBetween least most) → usual ≤ most →
     unwrap_or n usual ≤ most
 or-usual None least most usual h u = u
 or-usual (Some n) least most usual h u = h.1
@@ -130,7 +130,7 @@ node-range times words has right =
     let pairs : List (List ℕ) = drop 3 words in
     let both = neither (first_wrong node_shapes (take 3 words)) (first_wrong_pair times [] pairs) right in
     let shape = (and_parts (fit node_shapes (take 3 words)) (are_pairs pairs) has).0 in
-    let ports : IsWithin 1 16 (number_at words 2) = subst (IsWithin 1 16) (third words) (at-place node_shapes (take 3 words) shape both.0 2) in
+    let ports : IsBetween 1 16 (number_at words 2) = subst (IsBetween 1 16) (third words) (at-place node_shapes (take 3 words) shape both.0 2) in
     record {
       some_port = ports.0;
       few_ports = ports.1;

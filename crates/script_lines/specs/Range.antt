@@ -4,8 +4,8 @@ use Rattle.port_state.specs.declared.ranges.TimeRanges.{TimeRanges}
 use Rattle.script_lines.specs.declared.command.Command.{Command}
 use Rattle.script_lines.specs.declared.command.Command.TheVariants.{Node, Turn, Hold, Config, CsrLock, Allocate, Release, Delay, Times}
 
-abbrev pub IsWithin : ℕ → ℕ → ℕ → Type 0
-IsWithin least most n = (least ≤ n) × (n ≤ most)
+abbrev pub IsBetween : ℕ → ℕ → ℕ → Type 0
+IsBetween least most n = (least ≤ n) × (n ≤ most)
 
 -- the ranges of a node, where the times of nodes are in these ranges
 pub record IsNodeInRange
@@ -16,9 +16,9 @@ pub record IsNodeInRange
   pub speed_most : speed ≤ 2
   pub power_most : power ≤ 7
   pub gap_most : gap ≤ 63
-  pub hold_within : IfSome hold (IsWithin times.least.hold times.most.hold)
-  pub short_within : IfSome short (IsWithin times.least.short times.most.short)
-  pub long_within : IfSome long (IsWithin times.least.long times.most.long)
+  pub hold_within : IfSome hold (IsBetween times.least.hold times.most.hold)
+  pub short_within : IfSome short (IsBetween times.least.short times.most.short)
+  pub long_within : IfSome long (IsBetween times.least.long times.most.long)
   pub few_coins : len ≤ 64
 
 -- the ranges of a configuration packet, of which something is given
@@ -32,12 +32,12 @@ abbrev pub IsInRange : TimeRanges → Command → Type 0
 IsInRange times
     (Node name ports speed link contender force power gap hold short long word len seed packed) =
     IsNodeInRange times ports speed power gap hold short long len
-IsInRange times (Turn count) = IsWithin 1 2000000 count
-IsInRange times (Hold name port turns) = IsWithin 1 65535 turns
+IsInRange times (Turn count) = IsBetween 1 2000000 count
+IsInRange times (Hold name port turns) = IsBetween 1 65535 turns
 IsInRange times (Config name root_id gap) = IsConfigInRange root_id gap
 IsInRange times (CsrLock name offset kind arg value) = kind ≤ 255
 IsInRange times (Allocate name channel units) = (channel ≤ 63) × (units ≤ 4915)
 IsInRange times (Release name channel units) = (channel ≤ 63) × (units ≤ 4915)
-IsInRange times (Delay delay) = IsWithin 1 16 delay
-IsInRange times (Times standard nanoseconds) = IsWithin 1 4294967295 nanoseconds
+IsInRange times (Delay delay) = IsBetween 1 16 delay
+IsInRange times (Times standard nanoseconds) = IsBetween 1 4294967295 nanoseconds
 IsInRange times command = Unit {0}

@@ -5,7 +5,7 @@ ghost use Rattle.std.specs.Result.{result_err};
 ghost use Rattle.script_lines.specs.Key.{limits};
 ghost use Rattle.script_lines.specs.Node.{are_pairs, given, is_taken, wrong_pair, first_wrong_pair, number_given};
 ghost use Rattle.script_lines.specs.Key.{key_of};
-ghost use Rattle.script_lines.specs.Range.{IsWithin};
+ghost use Rattle.script_lines.specs.Range.{IsBetween};
 
 use crate::key::{Key, is_pair};
 use crate::kind::Kind;
@@ -82,7 +82,7 @@ pub(crate) fn check_pairs(pairs: &[Word], times: TimeRanges) -> Result<(), Kind>
 pub(crate) fn number(pairs: &[Word], key: Key, times: TimeRanges) -> Option<u32>
     requires right { first_wrong_pair times [] pairs.now ≡ None }
     ensures value { result ≡ number_given key pairs.now }
-    ensures ranged { IfSome result (IsWithin (limits times key).0 (limits times key).1) }
+    ensures ranged { IfSome result (IsBetween (limits times key).0 (limits times key).1) }
 {
     number_of(given(pairs, key)?.as_bytes())
 }
@@ -107,7 +107,7 @@ pub(crate) fn time(pairs: &[Word], key: Key, times: TimeRanges) -> Option<u16>
     requires right { first_wrong_pair times [] pairs.now ≡ None }
     requires small { (limits times key).1 ≤ 65535 }
     ensures value { result ≡ number_given key pairs.now }
-    ensures ranged { IfSome result (IsWithin (limits times key).0 (limits times key).1) }
+    ensures ranged { IfSome result (IsBetween (limits times key).0 (limits times key).1) }
 {
     match number(pairs, key, times) {
         Some(n) => Some(n as u16),

@@ -11,7 +11,7 @@ use Rattle.port_state.proofs.Lemmas.{is_ok, ok-suitable, least_is_within}
 use Rattle.cable_world.specs.Times.{Suits, CanBeForced}
 use Rattle.script_lines.specs.declared.times.ScriptTimes.{ScriptTimes}
 use Rattle.script_lines.specs.Times.{timed, standard_times}
-use Rattle.script_lines.specs.Range.{IsWithin, IsNodeInRange}
+use Rattle.script_lines.specs.Range.{IsBetween, IsNodeInRange}
 use Rattle.script_told.specs.Fitting.{AreFitting}
 use Rattle.script_told.specs.Script.{times_of}
 
@@ -91,8 +91,8 @@ standard-fits standard d nanoseconds times some e =
         (record { suitable = f.1; least = least_is_within standard d nanoseconds some })
     by (Err m) judged said = absurd (none-timed m nanoseconds times said)
 
-between : (o : Option ℕ) (least most : ℕ) → IfSome o (IsWithin least most) → least ≤ most →
-    IsWithin least most (unwrap_or o least)
+between : (o : Option ℕ) (least most : ℕ) → IfSome o (IsBetween least most) → least ≤ most →
+    IsBetween least most (unwrap_or o least)
 between None least most h m = (omega arith, m)
 between (Some n) least most h m = h
 

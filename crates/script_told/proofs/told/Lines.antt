@@ -11,7 +11,7 @@ use Rattle.cable_world.proofs.Lemmas.{reached-lawful}
 use Rattle.script_lines.specs.declared.kind.Kind.{Kind}
 use Rattle.script_lines.specs.declared.command.Command.{Command}
 use Rattle.script_lines.specs.declared.command.Command.TheVariants.{Node, Delay, Times}
-use Rattle.script_lines.specs.Range.{IsWithin, IsInRange}
+use Rattle.script_lines.specs.Range.{IsBetween, IsInRange}
 use Rattle.script_lines.specs.declared.times.ScriptTimes.{ScriptTimes}
 use Rattle.script_lines.specs.Times.{standard_times}
 use Rattle.script_lines.specs.Line.{ReadsLine}
@@ -56,7 +56,7 @@ declares draft name node h on =
     go false false e a b x y =
         known (Ok (declaring (with_node draft name new), [])) a b (drafted draft name new e h on) x y
 
-delays : (stage : Stage) (delay : ℕ) → IsWithin 1 16 delay → IsOneStage (Delays stage delay)
+delays : (stage : Stage) (delay : ℕ) → IsBetween 1 16 delay → IsOneStage (Delays stage delay)
 delays fresh delay i a b x y =
     known (Ok (declaring (draft_with delay), [])) a b (no-nodes delay i.0 i.1) x y
 delays (declaring draft) delay i a b x y = known (Err Kind.Late) a b tt x y
