@@ -13,7 +13,7 @@ use Rattle.cabling.specs.Change.{TakenOut}
 use Rattle.cabling.proofs.Lemmas.{none_some, same_length, shared, was-there, small-set}
 use Rattle.cable_world.specs.World.{CableWorld}
 use Rattle.cable_world.specs.Turn.{turns_after}
-use Rattle.cable_world.specs.Outcome.{HasNoLoop as HasNoLoopIn, OneOutcomeAtMost}
+use Rattle.cable_world.specs.Outcome.{HasNoLoop, OneOutcomeAtMost}
 use Rattle.cable_world.proofs.Lemmas.{turns-cabling}
 use Rattle.loop_advice.specs.Cables.{Lists, IsSame}
 use Rattle.loop_advice.proofs.Lemmas.{lists_left, lists_right, cable, Without, no_loop_left}
@@ -27,7 +27,7 @@ use Rattle.script_advice.specs.declared.advice.LoopAdvice.{LoopAdvice}
 use Rattle.script_lines.specs.declared.kind.Kind.TheVariants as Kind
 use Rattle.script_told.specs.Bus.{Bus, Notes}
 use Rattle.script_told.specs.Step.{LineAnswer, Reports, DoesSettle}
-use Rattle.script_advice.specs.Advice.{RunsTo, told_at_end, if_loop, loops_of, IsAdviceFor, AreAdvices, all_pulls, PullsLead, advice_text, after_text, Advises, IsAdvice, IsLoop, HasNoLoop, EndsWithoutLoop}
+use Rattle.script_advice.specs.Advice.{RunsTo, told_at_end, if_loop, loops_of, IsAdviceFor, AreAdvices, all_pulls, PullsLead, advice_text, after_text, Advises, IsAdvice, IsReportedLoop, ReportsNoLoop, EndsWithoutLoop}
 use Rattle.script_advice.specs.OneAdvice.{AdvicesLeaveNoLoop, AdvicesEndWithoutLoop}
 use Rattle.script_advice.specs.Advising.{ArePullable, EndsWith}
 use Rattle.script_advice.proofs.Pulling.{pull-taken, next-pullable}
@@ -181,7 +181,7 @@ advised-fine old new set pulls small w f part x inside looped h =
     (fewer old new f.a.advice.pulls pulls w f.among) is inside looped h
 
 loopless-fine : (w : CableWorld) (new : Wiring) (set : Nodes) →
-    ((a b : End) → far new a ≡ Some b → far w.cabling a ≡ Some b) → HasNoLoopIn w set →
+    ((a b : End) → far new a ≡ Some b → far w.cabling a ≡ Some b) → HasNoLoop w set →
     NoneLooped new set
 loopless-fine w new set was none part x inside looped h =
     none.empty x ((none.is_core x).1 (part, inside, (λ y hy. two-before w.cabling new part y was (looped y hy)), h))
@@ -218,7 +218,7 @@ around w new report advices k set cables is are out component there =
     }
 
 no-loop-part : (v : CableWorld) (part : Part) (o : Outcome) → IsReported v part.nodes o →
-    NoneLooped v.cabling part.nodes → IsLoop o → ⊥
+    NoneLooped v.cabling part.nodes → IsReportedLoop o → ⊥
 no-loop-part v part (reported.Loop core) is fine loop =
     is.some (λ x h. let p = (is.is x).0 h in fine p.0 x p.1 p.2 p.3)
 no-loop-part v part (reported.Tree root list order) is fine loop = loop
@@ -227,7 +227,7 @@ no-loop-part v part (reported.Contention a b) is fine loop = loop
 -- a report of a world with the cables that are left
 no-loop-report :
     (w v : CableWorld) (report last : Report) (advices : List LoopAdvice) → IsCabled w → IsReport w report →
-    AreAdvices w.cabling (loops_of report.parts) advices → Pulled w.cabling v.cabling (all_pulls advices) → IsReport v last → HasNoLoop last
+    AreAdvices w.cabling (loops_of report.parts) advices → Pulled w.cabling v.cabling (all_pulls advices) → IsReport v last → ReportsNoLoop last
 no-loop-report w v report last advices cables is are out then i d within loop =
     let part : Part = get_or last.parts i d in
     let of : IsPart v part = then.parts.each i d within in

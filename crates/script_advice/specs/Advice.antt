@@ -149,13 +149,13 @@ IsAdvice bytes told = HasScriptFault bytes told ⊎ AdvisesAtEnd bytes told
 
 -- ---- the report
 
-abbrev pub IsLoop : Outcome → Type 0
-IsLoop (Loop core) = Unit {0}
-IsLoop outcome = ⊥
+abbrev pub IsReportedLoop : Outcome → Type 0
+IsReportedLoop (Loop core) = Unit {0}
+IsReportedLoop outcome = ⊥
 
 -- no component in a report came to a loop
-abbrev pub HasNoLoop : Report → Type 0
-HasNoLoop report = All (λ part. ¬ IsLoop part.outcome) report.parts
+abbrev pub ReportsNoLoop : Report → Type 0
+ReportsNoLoop report = All (λ part. ¬ IsReportedLoop part.outcome) report.parts
 
 -- The text is that of the script's advice. It ends with the report of the bus that is left, and no
 -- component in that is a loop.
@@ -167,4 +167,4 @@ pub record EndsWithoutLoop (bytes text : List ℕ) : Type 0 where
   pub last : List ℕ
   pub ends : text ≡ advice_text bus.notes.names advises.advices ++ last
   pub of : IsReportOf after last
-  pub no_loop : HasNoLoop of.report
+  pub no_loop : ReportsNoLoop of.report

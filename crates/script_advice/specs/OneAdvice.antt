@@ -3,7 +3,7 @@ use Rattle.std.specs.Prelude.{◌≡◌, ℕ, List, Some, Ok}
 use Rattle.settle.specs.declared.report.Report.{Report}
 use Rattle.script_told.specs.Bus.{Bus}
 use Rattle.script_told.specs.Script.{ScriptResult}
-use Rattle.script_advice.specs.Advice.{RunsTo, Advises, IsAdvice, HasNoLoop, EndsWithoutLoop}
+use Rattle.script_advice.specs.Advice.{RunsTo, Advises, IsAdvice, ReportsNoLoop, EndsWithoutLoop}
 
 abbrev pub ScriptsHaveOneAdvice : Type 0
 ScriptsHaveOneAdvice =
@@ -15,7 +15,7 @@ abbrev pub AdvicesLeaveNoLoop : Type 0
 AdvicesLeaveNoLoop =
     (bytes text : List ℕ) (bus after : Bus) (report : Report) → RunsTo bytes bus →
     Advises bus (Ok (after, text)) → after.notes.report ≡ Some report →
-    HasNoLoop report
+    ReportsNoLoop report
 
 -- the text of an advice is one without a loop
 abbrev pub AdvicesEndWithoutLoop : Type 0
