@@ -8,7 +8,7 @@ use Rattle.script_told.specs.Reached.{world_of}
 use Rattle.script_told.specs.Run.{Entry, ScriptRun, IsRun, printed, IsResult}
 use Rattle.script_told.specs.EachReport.{EachReportIsSettled}
 use Rattle.script_told.specs.ScriptEvents.{EachRunsOn}
-use Rattle.script_told.specs.EachPlan.{PlansComeOut}
+use Rattle.script_told.specs.EachPlan.{AllPlansComeOut}
 use Rattle.script_bus.specs.EachConfig.{ConfigsComeOut}
 use Rattle.script_bus.specs.EachWaiting.{WaitingNodesBecomeRoots}
 use Rattle.script_advice.specs.Advice.{IsAdvice, EndsWithoutLoop}
@@ -35,7 +35,7 @@ pub record PrintsRun (bytes text : List ℕ) : Type 0 where
   pub text_is : text ≡ printed run.entries
   pub settled : EachReportIsSettled run
   pub runs : EachRunsOn run
-  pub plans : PlansComeOut run
+  pub plans : AllPlansComeOut run
   pub configs : ConfigsComeOut run
   pub waiting : WaitingNodesBecomeRoots run
   pub lists : EachListIsEmitted run

@@ -29,12 +29,12 @@ pub record ComesOut (entry : Entry) (name : List ℕ) : Type 0 where
   pub gaps : HaveGap after.world is.node is.carried.plan.gap
 
 -- each `plan` of a run comes out
-abbrev pub PlansComeOut : ScriptRun → Type 0
-PlansComeOut run =
+abbrev pub AllPlansComeOut : ScriptRun → Type 0
+AllPlansComeOut run =
     All (λ (e : Entry). (name : List ℕ) → e.command ≡ Plan name → ComesOut e name) run.entries
 
 -- ---- a law
 
 abbrev pub EachPlanComesOut : Type 0
 EachPlanComesOut =
-    (bytes : List ℕ) (run : ScriptRun) → IsRun bytes run → PlansComeOut run
+    (bytes : List ℕ) (run : ScriptRun) → IsRun bytes run → AllPlansComeOut run
