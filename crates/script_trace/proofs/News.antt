@@ -25,7 +25,7 @@ use Rattle.cable_world.specs.Lawful.{IsLawful}
 use Rattle.cable_world.specs.Turn.{turn, turn_at}
 use Rattle.cable_world.specs.Still.{IsSilent, AreSilent, IsStillFor, after_still, StillTurnsPass}
 use Rattle.cable_world.proofs.Lemmas.{none-some, some-same, still-silent}
-use Rattle.world_agenda.specs.Alone.{IsLeftAlone, LeavesAloneBut}
+use Rattle.world_agenda.specs.Alone.{TurnLeavesAlone, LeavesAloneBut}
 use Rattle.world_agenda.proofs.Lemmas.{still-turn}
 use Rattle.script_text.specs.ReportText.{Names}
 use Rattle.script_trace.specs.Event.{Seen, head, enters, state_number, state_line, timeout_line, parent_line, child_lines, coin_line, id_line, sent_line, sent_lines, all_sent_lines, lines_at, node_lines}
@@ -227,7 +227,7 @@ stays-old d w = subst (All IsOld) (sym (append-nil (stays d w).signals)) (go (gi
 module _ (w : CableWorld) (nodes : NodesTakeTurns) (wires : WiresTakeTurns) (l : IsLawful w) (m : IsLawful (turn w)) where
   wire-old :
       (k : ℕ) (x y : PortNode) → slice_get w.nodes k ≡ Some x → slice_get (turn w).nodes k ≡ Some y → y ≡ (turn_at w k x).node →
-      IsLeftAlone w k x → (port : PortNumber) → All IsOld (wire_of (turn w) (record { node = k; port = port })).signals
+      TurnLeavesAlone w k x → (port : PortNumber) → All IsOld (wire_of (turn w) (record { node = k; port = port })).signals
   wire-old k x y at now is alone port =
       let end : End = record { node = k; port = port } in
       let old = (l.well_formed.nodes k x at).wires in

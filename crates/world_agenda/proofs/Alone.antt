@@ -20,7 +20,7 @@ use Rattle.cable_world.specs.Parts.{world_record}
 use Rattle.world_agenda.specs.Clock.{caught_up}
 use Rattle.world_agenda.specs.Agenda.{IdlesBut}
 use Rattle.world_agenda.specs.Heard.{AwaitNoneBut}
-use Rattle.world_agenda.specs.Alone.{IsLeftAlone, LeavesAloneBut}
+use Rattle.world_agenda.specs.Alone.{TurnLeavesAlone, LeavesAloneBut}
 use Rattle.world_agenda.proofs.Late.{still-idle}
 use Rattle.world_agenda.proofs.Blend.{some-at}
 
@@ -59,7 +59,7 @@ none-awaited w set k is none out =
 
 left-alone :
     (w : CableWorld) (k : ℕ) (x : PortNode) → inbox w 0 (ports_of w.cabling k) ≡ [] → IsIdleTick x →
-    IsLeftAlone w k x
+    TurnLeavesAlone w k x
 left-alone w k x none idle = record {
   sends = ap (λ (ss : List PortSignal). (node_turn ss x).sends) none ∙ idle.sends;
   state = subst (λ (ss : List PortSignal). KeepsBut (timer ∷ []) x.state (node_turn ss x).node.state) (sym none) idle.state;

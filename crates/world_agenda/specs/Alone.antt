@@ -7,7 +7,7 @@ use Rattle.cable_world.specs.World.{CableWorld, NodeNumber}
 use Rattle.cable_world.specs.Turn.{turn_at}
 
 -- node number k, which is x, sends nothing in the next turn, and no more than its timer changes
-pub record IsLeftAlone (w : CableWorld) (k : NodeNumber) (x : PortNode) : Type 0 where
+pub record TurnLeavesAlone (w : CableWorld) (k : NodeNumber) (x : PortNode) : Type 0 where
   pub sends : (turn_at w k x).sends ≡ []
   pub state : KeepsBut (timer ∷ []) x.state (turn_at w k x).node.state
 
@@ -15,4 +15,4 @@ pub record IsLeftAlone (w : CableWorld) (k : NodeNumber) (x : PortNode) : Type 0
 abbrev pub LeavesAloneBut : Nodes → CableWorld → Type 0
 LeavesAloneBut set w =
     (k : NodeNumber) (x : PortNode) → slice_get w.nodes k ≡ Some x → (Holds set k → ⊥) →
-    IsLeftAlone w k x
+    TurnLeavesAlone w k x
