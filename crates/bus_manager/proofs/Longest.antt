@@ -7,7 +7,7 @@ use Rattle.std.proofs.Math.Seq.{take-append_seam, drop-append_seam}
 use Rattle.self_id.specs.Node.{Node, downs}
 use Rattle.topology_stack.specs.Tree.{Label, Tree, branch, Slots, no_more, absent, unplugged, up, down, statuses, node_of, walk, walk_below}
 use Rattle.bus_manager.specs.declared.paths.Reach.{Reach}
-use Rattle.bus_manager.specs.Hops.{SomeChild, GoesDown, Turns, IsPath, IsPathBelow, IsHops}
+use Rattle.bus_manager.specs.Hops.{SomeChild, GoesDown, PathTurns, IsPath, IsPathBelow, IsHops}
 use Rattle.bus_manager.specs.codings.Reach.{with_child, above, after_node, after_nodes}
 
 -- the reach of a tree, and those of the trees below some slots
@@ -31,7 +31,7 @@ Way (suc k) s = SomeChild (GoesDown k) s
 
 -- a path at or below a node with these slots
 abbrev pub PathOf : ℕ → Slots → Type 0
-PathOf k s = Way k s ⊎ (Turns k s ⊎ IsPathBelow k s)
+PathOf k s = Way k s ⊎ (PathTurns k s ⊎ IsPathBelow k s)
 
 pub record Below (s : Slots) (r : Reach) : Type 0 where
   pub way : Way r.depth s
@@ -134,7 +134,7 @@ same_way zero s s' f w = tt
 same_way (suc k) s s' f w = f (GoesDown k) w
 
 abbrev Rest : ℕ → Slots → Type 0
-Rest k s = Turns k s ⊎ IsPathBelow k s
+Rest k s = PathTurns k s ⊎ IsPathBelow k s
 
 same_path : (k : ℕ) (s s' : Slots) → ((P : Tree → Type 0) → SomeChild P s → SomeChild P s') →
     (Rest k s → Rest k s') → PathOf k s → PathOf k s'

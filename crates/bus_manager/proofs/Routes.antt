@@ -8,7 +8,7 @@ use Rattle.topology_stack.specs.Tree.{Label, Tree, branch, Slots, no_more, absen
 use Rattle.topology_stack.specs.Far.{slot_ends, ends_from, ends_below, ends}
 use Rattle.speed_map.specs.Path.{Joined, IsNew, IsPath as IsNodePath}
 use Rattle.speed_map.proofs.Lemmas.{last, length-ends_from, length-ends_below, joined_within, one_path}
-use Rattle.bus_manager.specs.Hops.{SomeChild, GoesDown, Turns, IsPath, IsPathBelow, HopsAreOfNodePaths}
+use Rattle.bus_manager.specs.Hops.{SomeChild, GoesDown, PathTurns, IsPath, IsPathBelow, HopsAreOfNodePaths}
 use Rattle.topology_stack.proofs.Lemmas.{length-walk, some_node}
 use Rattle.quad_lanes.proofs.Lemmas.{slice_get-left, slice_get-right}
 
@@ -308,8 +308,8 @@ mutual
 
 -- ---- between two nodes goes a path of the tree's form
 
-later : (k : ℕ) (t : Tree) (s : Slots) → Turns k s ⊎ IsPathBelow k s →
-    Turns k (down t s) ⊎ IsPathBelow k (down t s)
+later : (k : ℕ) (t : Tree) (s : Slots) → PathTurns k s ⊎ IsPathBelow k s →
+    PathTurns k (down t s) ⊎ IsPathBelow k (down t s)
 later k t s (inl h) = inl (inr h)
 later k t s (inr h) = inr (inr h)
 
@@ -336,7 +336,7 @@ mutual
   routesS : (T : Tree) (from me parent : ℕ) (s : Slots) (i j : ℕ) → EmbS T from me s →
       LeadS T from me parent s → AreParts s → from + length (walk_below s) ≤ me →
       i < length (walk_below s) → j < length (walk_below s) →
-      (k : ℕ) × ((Turns k s ⊎ IsPathBelow k s) × Route T (from + i) (from + j) k)
+      (k : ℕ) × ((PathTurns k s ⊎ IsPathBelow k s) × Route T (from + i) (from + j) k)
   routesS T from me parent no_more i j h lead p le lt lt' = absurd (omega (arith, lt))
   routesS T from me parent (absent s) i j h lead p le lt lt' = routesS T from me parent s i j h (λ slot. lead (suc slot)) p le lt lt'
   routesS T from me parent (unplugged s) i j h lead p le lt lt' = routesS T from me parent s i j h (λ slot. lead (suc slot)) p le lt lt'
@@ -399,7 +399,7 @@ longer : (T : Tree) (from m n k : ℕ) → m ≤ n → Found T from m k → Foun
 longer T from m n k le f = record { i = f.i; j = f.j; there = omega (arith, le, f.there); route = f.route }
 
 turnS : (T : Tree) (from me parent : ℕ) (s : Slots) (k : ℕ) → EmbS T from me s →
-    LeadS T from me parent s → AreParts s → from + length (walk_below s) ≤ me → Turns k s →
+    LeadS T from me parent s → AreParts s → from + length (walk_below s) ≤ me → PathTurns k s →
     Found T from (length (walk_below s)) k
 turnS T from me parent no_more k h lead p le g = absurd g
 turnS T from me parent (absent s) k h lead p le g = turnS T from me parent s k h (λ slot. lead (suc slot)) p le g

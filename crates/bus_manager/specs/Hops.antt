@@ -17,20 +17,20 @@ GoesDown zero t = Unit {0}
 GoesDown (suc k) (branch a s) = SomeChild (GoesDown k) s
 
 -- a path goes over so many cables from below one slot up to the node and down below another slot
-abbrev pub Turns : ℕ → Slots → Type 0
-Turns k no_more = ⊥
-Turns k (absent s) = Turns k s
-Turns k (unplugged s) = Turns k s
-Turns k (up s) = Turns k s
-Turns k (down t s) =
+abbrev pub PathTurns : ℕ → Slots → Type 0
+PathTurns k no_more = ⊥
+PathTurns k (absent s) = PathTurns k s
+PathTurns k (unplugged s) = PathTurns k s
+PathTurns k (up s) = PathTurns k s
+PathTurns k (down t s) =
     ((i j : ℕ) × GoesDown i t × SomeChild (GoesDown j) s × (k ≡ (i + 1) + (j + 1)))
-    ⊎ Turns k s
+    ⊎ PathTurns k s
 
 -- A path through a tree goes over so many cables. It has a highest node: the outermost one, from
 -- which it goes down or at which it turns, or one further below.
 abbrev mutual
   pub IsPath : ℕ → Tree → Type 0
-  IsPath k (branch a s) = GoesDown k (branch a s) ⊎ (Turns k s ⊎ IsPathBelow k s)
+  IsPath k (branch a s) = GoesDown k (branch a s) ⊎ (PathTurns k s ⊎ IsPathBelow k s)
 
   pub IsPathBelow : ℕ → Slots → Type 0
   IsPathBelow k no_more = ⊥
