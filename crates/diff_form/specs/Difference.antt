@@ -19,7 +19,7 @@ IsReading standard bytes (Ok t) = Spells standard bytes t
 IsReading standard bytes (Err f) = CaptureRefused standard bytes f
 
 -- exactly what differs between two buses, by a matching of their nodes
-pub record AreTold (old new : Tree) (changes : List Change) : Type 0 where
+pub record AreDifferences (old new : Tree) (changes : List Change) : Type 0 where
   pub pairs : List Pair
   pub matching : IsMatching old new pairs
   pub are : AreChanges old new pairs changes
@@ -31,7 +31,7 @@ outcome_of (change ∷ changes) = Differs
 -- the text of what differs between two buses, and whether something does
 pub record IsCompared (old new : Tree) (text : List ℕ) (outcome : Outcome) : Type 0 where
   pub changes : List Change
-  pub told : AreTold old new changes
+  pub told : AreDifferences old new changes
   pub text_is : text ≡ changes_text changes
   pub outcome_is : outcome ≡ outcome_of changes
 
