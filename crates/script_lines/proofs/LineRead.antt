@@ -14,7 +14,7 @@ use Rattle.script_lines.specs.Line.{LineForm, node, other, has_form, wrong_word,
 use Rattle.script_lines.specs.codings.Reading.{unless, read_words, in_line, read_line}
 use Rattle.script_lines.specs.declared.kind.LineStop.{LineStop}
 use Rattle.script_lines.specs.declared.kind.LineStop.TheVariants.{Fault, Memory}
-use Rattle.script_lines.specs.Answer.{Answers, Refuses}
+use Rattle.script_lines.specs.Answer.{AnswersReading, Refuses}
 use Rattle.script_lines.proofs.Uniform.{read_form, read_none}
 
 -- none of these forms fits the words
@@ -188,7 +188,7 @@ some_reading times line =
 
 -- an answer of the reader is what the line is
 pub found_of : (times : TimeRanges) (line : List ℕ) (result : Result (Option Command) LineStop)
-    → Answers result (read_line times (strip_carriage_return line))
+    → AnswersReading result (read_line times (strip_carriage_return line))
     → IfOk result (λ command. ReadsLine times line (Ok command))
 found_of times line (Ok command) h =
     let Here : Result (Option Command) Kind → Type 0 = λ r. ReadsLine times line r in
@@ -196,7 +196,7 @@ found_of times line (Ok command) h =
 found_of times line (Err stop) h = tt
 
 pub refused_of : (times : TimeRanges) (line : List ℕ) (result : Result (Option Command) LineStop)
-    → Answers result (read_line times (strip_carriage_return line))
+    → AnswersReading result (read_line times (strip_carriage_return line))
     → IfErr result (λ stop. Refuses times line stop)
 refused_of times line (Ok command) h = tt
 refused_of times line (Err (Fault kind)) h =
@@ -205,9 +205,9 @@ refused_of times line (Err (Fault kind)) h =
 refused_of times line (Err (Memory none)) h = tt
 
 pub only_of : (times : TimeRanges) (line : List ℕ) (result : Result (Option Command) LineStop)
-    → Answers result (read_line times (strip_carriage_return line))
+    → AnswersReading result (read_line times (strip_carriage_return line))
     → (reading : Result (Option Command) Kind) → ReadsLine times line reading
-    → Answers result reading
+    → AnswersReading result reading
 only_of times line (Ok command) h reading g = only times (strip_carriage_return line) reading g ∙ h
 only_of times line (Err (Fault kind)) h reading g = only times (strip_carriage_return line) reading g ∙ h
 only_of times line (Err (Memory none)) h reading g = tt

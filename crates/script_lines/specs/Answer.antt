@@ -13,10 +13,10 @@ Refuses times line (Fault kind) = ReadsLine times line (Err kind)
 Refuses times line (Memory none) = Unit {0}
 
 -- an answer is this reading, unless there was no memory
-abbrev pub Answers : Result (Option Command) LineStop → Result (Option Command) Kind → Type 0
-Answers (Ok command) reading = reading ≡ Ok command
-Answers (Err (Fault kind)) reading = reading ≡ Err kind
-Answers (Err (Memory none)) reading = Unit {0}
+abbrev pub AnswersReading : Result (Option Command) LineStop → Result (Option Command) Kind → Type 0
+AnswersReading (Ok command) reading = reading ≡ Ok command
+AnswersReading (Err (Fault kind)) reading = reading ≡ Err kind
+AnswersReading (Err (Memory none)) reading = Unit {0}
 
 -- no line is two things
 abbrev pub OneReading : Type 0

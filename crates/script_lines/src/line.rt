@@ -7,7 +7,7 @@ ghost use Rattle.port_state.specs.TimeRanges.{profile_ranges};
 ghost use Rattle.script_lines.specs.Words.{is_blank, is_permitted};
 ghost use Rattle.script_lines.specs.Line.{is_skipped};
 ghost use Rattle.script_lines.specs.codings.Reading.{IsWord, read_words, read_line};
-ghost use Rattle.script_lines.specs.Answer.{Answers, Refuses};
+ghost use Rattle.script_lines.specs.Answer.{AnswersReading, Refuses};
 ghost use Rattle.script_lines.specs.Line.{ReadsLine};
 ghost use Rattle.script_lines.specs.Range.{IsInRange};
 ghost use Rattle.script_lines.specs.declared.command.Command.{Command};
@@ -112,7 +112,7 @@ fn read_words(words: &[Word], times: TimeRanges) -> Result<Command, Kind>
 
 /// The command of a line that has no carriage return at its end.
 fn read_line(alloc: Global, line: &[u8], times: TimeRanges) -> Result<Option<Command>, LineStop>
-    ensures value { Answers result (read_line times line.now) }
+    ensures value { AnswersReading result (read_line times line.now) }
     ensures ranged { IfOk result (λ command. IfSome command (IsInRange times)) }
 {
     if is_skipped(line) {
@@ -142,7 +142,7 @@ pub fn parse_line(alloc: Global, line: &[u8], d: u8) -> Result<Option<Command>, 
     ensures found { IfOk result (λ command. ReadsLine (profile_ranges d) line.now (Ok command)) }
     ensures refused { IfErr result (λ stop. Refuses (profile_ranges d) line.now stop) }
     ensures only { (reading : Result (Option Command) Kind)
-        → ReadsLine (profile_ranges d) line.now reading → Answers result reading }
+        → ReadsLine (profile_ranges d) line.now reading → AnswersReading result reading }
     ensures ranged { IfOk result (λ command. IfSome command (IsInRange (profile_ranges d))) }
 {
     parse_line_with(alloc, line, TimeRanges::profile(d))
@@ -158,7 +158,7 @@ pub fn parse_line_with(
     ensures found { IfOk result (λ command. ReadsLine times line.now (Ok command)) }
     ensures refused { IfErr result (λ stop. Refuses times line.now stop) }
     ensures only { (reading : Result (Option Command) Kind) → ReadsLine times line.now reading
-        → Answers result reading }
+        → AnswersReading result reading }
     ensures ranged { IfOk result (λ command. IfSome command (IsInRange times)) }
 {
     read_line(alloc, without_return(line), times)
