@@ -27,11 +27,11 @@ pub data IsStop (year : ℕ) (quads : List ℕ) (before after : FaultRecord) (st
       IsStop year quads before after status
 
 -- a tree is read and this holds of it, or else why not
-pub data Answers (year : ℕ) (quads : List ℕ) (before after : FaultRecord) (status : ℕ)
+pub data AnswersTree (year : ℕ) (quads : List ℕ) (before after : FaultRecord) (status : ℕ)
     (Tells : Tree → Type 0) : Type 0 where
   told : (t : Tree) → IsTreeOf year quads t → after ≡ before → Tells t →
-      Answers year quads before after status Tells
-  stopped : IsStop year quads before after status → Answers year quads before after status Tells
+      AnswersTree year quads before after status Tells
+  stopped : IsStop year quads before after status → AnswersTree year quads before after status Tells
 
 -- ---- captures: pairs of quadlets as bytes, each packet's quadlet before its bitwise inverse
 
@@ -53,7 +53,7 @@ pub data IsBadCapture (bytes : List ℕ) (before after : FaultRecord) (status : 
 pub data AnswersCapture (year : ℕ) (bytes : List ℕ) (before after : FaultRecord) (status : ℕ)
     (Tells : Tree → Type 0) : Type 0 where
   of_list : (quads : List ℕ) → IsListOf bytes quads →
-      Answers year quads before after status Tells →
+      AnswersTree year quads before after status Tells →
       AnswersCapture year bytes before after status Tells
   bad : IsBadCapture bytes before after status →
       AnswersCapture year bytes before after status Tells

@@ -1,6 +1,6 @@
 //! Reading the list of a bus.
 ghost use Rattle.std.specs.Prelude.{◌≡◌, ◌≢◌, IfOk, IfErr};
-ghost use Rattle.busconf_c.specs.Answers.{Answers, IsListOf, IsBadCapture, AnswersCapture};
+ghost use Rattle.busconf_c.specs.Answers.{AnswersTree, IsListOf, IsBadCapture, AnswersCapture};
 ghost use Rattle.c_records.specs.Shown.{TellsNodes};
 
 use crate::answer::tree_of;
@@ -32,7 +32,7 @@ fn read_list(
     bus: &mut BusRecord,
     fault: &mut FaultRecord,
 ) -> u32
-    ensures answer { Answers year quads.now fault.old fault.new result
+    ensures answer { AnswersTree year quads.now fault.old fault.new result
         (λ t. TellsNodes t nodes.old nodes.new bus.new result) }
     ensures kept { result ≢ 0 → nodes.new ≡ nodes.old }
     ensures bus_kept { result ≢ 0 → result ≢ 3 → bus.new ≡ bus.old }
@@ -53,7 +53,7 @@ pub extern "C" fn busconf_read(
     bus: &mut BusRecord,
     fault: &mut FaultRecord,
 ) -> u32
-    ensures answer { Answers year quads.now fault.old fault.new result
+    ensures answer { AnswersTree year quads.now fault.old fault.new result
         (λ t. TellsNodes t nodes.old nodes.new bus.new result) }
     ensures kept { result ≢ 0 → nodes.new ≡ nodes.old }
     ensures bus_kept { result ≢ 0 → result ≢ 3 → bus.new ≡ bus.old }

@@ -4,7 +4,7 @@ ghost use Rattle.topology_stack.specs.Tree.{walk, emits};
 ghost use Rattle.topology_map.specs.Map.{IsMap};
 ghost use Rattle.speed_map.specs.Rows.{AreRows};
 ghost use Rattle.bus_manager.specs.Hops.{IsHops};
-ghost use Rattle.busconf_c.specs.Answers.{Answers};
+ghost use Rattle.busconf_c.specs.Answers.{AnswersTree};
 ghost use Rattle.c_border.specs.Places.{Tells, TellsOk};
 ghost use Rattle.busconf_c.specs.Maps.{IsSpeedMap};
 ghost use Rattle.busconf_c.specs.Plans.{TellsPlan};
@@ -26,7 +26,7 @@ pub extern "C" fn busconf_hops(
     hops: &mut u8,
     fault: &mut FaultRecord,
 ) -> u32
-    ensures answer { Answers year quads.now fault.old fault.new result
+    ensures answer { AnswersTree year quads.now fault.old fault.new result
         (λ t. IsHops t hops.new × (result ≡ 0)) }
     ensures kept { result ≢ 0 → hops.new ≡ hops.old }
 {
@@ -65,7 +65,7 @@ pub extern "C" fn busconf_plan(
     plan: &mut PlanRecord,
     fault: &mut FaultRecord,
 ) -> u32
-    ensures answer { Answers year quads.now fault.old fault.new result
+    ensures answer { AnswersTree year quads.now fault.old fault.new result
         (λ t. TellsPlan t plan.old plan.new result) }
     ensures kept { result ≢ 0 → plan.new ≡ plan.old }
 {
@@ -96,7 +96,7 @@ pub extern "C" fn busconf_topology_map(
     needed: &mut usize,
     fault: &mut FaultRecord,
 ) -> u32
-    ensures answer { Answers year quads.now fault.old fault.new result
+    ensures answer { AnswersTree year quads.now fault.old fault.new result
         (λ t. Tells (IsMap generation (length (walk t)) (emits t)) place.old place.new needed.old
         needed.new result) }
     ensures kept { result ≢ 0 → place.new ≡ place.old }
@@ -130,7 +130,7 @@ pub extern "C" fn busconf_speed_rows(
     needed: &mut usize,
     fault: &mut FaultRecord,
 ) -> u32
-    ensures answer { Answers year quads.now fault.old fault.new result
+    ensures answer { AnswersTree year quads.now fault.old fault.new result
         (λ t. Tells (AreRows t) place.old place.new needed.old needed.new result) }
     ensures kept { result ≢ 0 → place.new ≡ place.old }
     ensures needed_kept { result ≢ 0 → result ≢ 3 → needed.new ≡ needed.old }
@@ -161,7 +161,7 @@ pub extern "C" fn busconf_speed_map(
     needed: &mut usize,
     fault: &mut FaultRecord,
 ) -> u32
-    ensures answer { Answers year quads.now fault.old fault.new result
+    ensures answer { AnswersTree year quads.now fault.old fault.new result
         (λ t. Tells (IsSpeedMap generation t) place.old place.new needed.old needed.new result) }
     ensures kept { result ≢ 0 → place.new ≡ place.old }
     ensures needed_kept { result ≢ 0 → result ≢ 3 → needed.new ≡ needed.old }
