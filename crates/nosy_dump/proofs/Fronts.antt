@@ -21,7 +21,7 @@ use Rattle.nosy_dump.specs.Record.{dump_of, AreSized, record_of, IsOpen, EndsSo}
 use Rattle.nosy_dump.specs.Resets.{resets_from}
 use Rattle.nosy_dump.specs.Noted.{Noted, nothing}
 use Rattle.nosy_dump.specs.Notes.{noted}
-use Rattle.nosy_dump.specs.Dump.{last_text, IsResetShown, IsDumpShown, IsWritten}
+use Rattle.nosy_dump.specs.Dump.{last_text, IsResetShown, IsDumpShown, IsDumpWritten}
 use Rattle.nosy_dump.specs.codings.Going.{AreResets, Knows, HasBadLength, ShowsBy, Stays, Goes, Opens, Leads, Writes, ReadsDump}
 use Rattle.nosy_dump.proofs.Records.{resets_other, resets_reset, resets_packet, fresh, last_with}
 use Rattle.nosy_dump.proofs.OneText.{front_records, one_parting, same_reset, one_text}
@@ -400,7 +400,7 @@ pub shown : {K : Type 0} (w : K → Option (List ℕ)) (f : K → ℕ) (t : K �
     (first : Option (List ℕ)) (was will : K) (result : Result Bool LogStop) →
     IfOk result (λ bad. IfSome first (λ dump. Writes w f t (λ text. IsDumpShown form dump text bad)
     was will)) →
-    IfOk result (λ bad. IfSome first (λ dump. IsWritten form (w was) (w will) dump bad))
+    IfOk result (λ bad. IfSome first (λ dump. IsDumpWritten form (w was) (w will) dump bad))
 shown w f t form None was will (Ok bad) all = tt
 shown w f t form (Some dump) was will (Ok bad) all = record {
   text = all.text;
@@ -411,21 +411,21 @@ shown w f t form first was will (Err stop) all = tt
 
 given : (form : LogForm) (dump : List ℕ) (was will : Option (List ℕ))
     (result : Result Bool LogStop) →
-    IfOk result (λ bad. IsWritten form was will dump bad) →
+    IfOk result (λ bad. IsDumpWritten form was will dump bad) →
     IfOk result (λ bad. (text : List ℕ) × IsDumpShown form dump text bad × Appends was will text)
 given form dump was will (Ok bad) w = (w.text, w.is_shown, w.wrote)
 given form dump was will (Err stop) w = tt
 
 of_dump : (form : LogForm) (dump : List ℕ) (was will : Option (List ℕ))
     (result : Result Bool LogStop) →
-    IfOk result (λ bad. IfSome (Some dump) (λ l. IsWritten form was will l bad)) →
-    IfOk result (λ bad. IsWritten form was will dump bad)
+    IfOk result (λ bad. IfSome (Some dump) (λ l. IsDumpWritten form was will l bad)) →
+    IfOk result (λ bad. IsDumpWritten form was will dump bad)
 of_dump form dump was will (Ok bad) w = w
 of_dump form dump was will (Err stop) w = tt
 
 pub exact_shown : (form : LogForm) (first was will : Option (List ℕ))
     (result : Result Bool LogStop) →
-    IfOk result (λ bad. IfSome first (λ dump. IsWritten form was will dump bad)) →
+    IfOk result (λ bad. IfSome first (λ dump. IsDumpWritten form was will dump bad)) →
     IfSome first (λ dump. IsExact (IsDumpShown form dump) result)
 exact_shown form None was will result shown = tt
 exact_shown form (Some dump) was will result shown =
@@ -434,7 +434,7 @@ exact_shown form (Some dump) was will result shown =
 
 pub complete_shown : (form : LogForm) (first was will : Option (List ℕ)) (a b c : ℕ)
     (result : Result Bool LogStop) →
-    IfOk result (λ bad. IfSome first (λ dump. IsWritten form was will dump bad)) →
+    IfOk result (λ bad. IfSome first (λ dump. IsDumpWritten form was will dump bad)) →
     IfErr result (StoppedWriting b c) → a ≤ b → (Rose a c → ⊥) →
     IfSome first (λ dump. length dump ≤ 9223372036854775807 →
     IsComplete (IsDumpShown form dump) result was will)

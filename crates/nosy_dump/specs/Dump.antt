@@ -57,7 +57,7 @@ pub record IsDumpShown (form : LogForm) (dump text : List ℕ) (bad : Bool) : Ty
   pub bad_is : bad ≡ is_refused || is_some fault
 
 -- what was written is what is shown of this dump
-pub record IsWritten (form : LogForm) (old new : Option (List ℕ)) (dump : List ℕ)
+pub record IsDumpWritten (form : LogForm) (old new : Option (List ℕ)) (dump : List ℕ)
     (bad : Bool) : Type 0 where
   pub text : List ℕ
   pub is_shown : IsDumpShown form dump text bad

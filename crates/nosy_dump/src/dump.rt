@@ -10,7 +10,7 @@ ghost use Rattle.reset_log.specs.Wrote.{Wrote, WroteFront, WroteFrontOf};
 ghost use Rattle.nosy_dump.specs.Record.{record_bytes, is_size, IsOpen, EndsSo};
 ghost use Rattle.self_id.specs.declared.standard.Standard.{Standard};
 ghost use Rattle.std.specs.Option.{option_copied};
-ghost use Rattle.nosy_dump.specs.Dump.{IsJudged, last_text, IsDumpShown, IsWritten, IsBegunWritten};
+ghost use Rattle.nosy_dump.specs.Dump.{IsJudged, last_text, IsDumpShown, IsDumpWritten, IsBegunWritten};
 ghost use Rattle.nosy_dump.specs.Notes.{noted};
 ghost use Rattle.nosy_dump.specs.codings.Going.{IsNew, Knows, Awaits, IsWhole, IsFilled, ShowsReset, ShowsPending, Begins, Keeps, Stays, Goes, Leads, Opens, Writes, AreAsJson, GathersAsJson, WritesAsJson};
 
@@ -497,7 +497,7 @@ pub fn show_dump<S: Source, K: Sink>(
 ) -> Result<bool, LogStop>
     // What is shown of the dump is written.
     ensures shown { IfOk result (λ bad. IfSome (S.left source.old) (λ dump.
-        IsWritten form (K.written sink.old) (K.written sink.new) dump bad)) }
+        IsDumpWritten form (K.written sink.old) (K.written sink.new) dump bad)) }
     ensures json { (standard : Standard) → form ≡ LogForm.Json standard →
         OnOk result (WritesJsonLines (K.written sink.old) (K.written sink.new)) }
     ensures end { IfOk result (λ bad. bad ≡ false → IsAtEnd (S.left source.new)) }

@@ -3,7 +3,7 @@ use Rattle.std.specs.Prelude.{IfSome, IfOk}
 use Rattle.std.specs.Io.KnownBytes.{Appends, IsAtEnd}
 use Rattle.reset_log.specs.declared.form.LogForm.{LogForm}
 use Rattle.reset_log.specs.declared.stop.LogStop.{LogStop}
-use Rattle.nosy_dump.specs.Dump.{IsDumpShown, IsWritten, IsBegun}
+use Rattle.nosy_dump.specs.Dump.{IsDumpShown, IsDumpWritten, IsBegun}
 use Rattle.bus_view.specs.Log.{IsDumpView, ShowsAsItComes}
 use Rattle.bus_json.specs.Lines.{WritesJsonLines}
 use Rattle.bus_view.proofs.Shown.{answered, answered_well, shows}
@@ -11,7 +11,7 @@ use Rattle.bus_view.proofs.ReadBack.{shown_so}
 use Rattle.bus_view.proofs.logs.show_nosy.Goals as goal
 
 written : (form : LogForm) (r : Result Bool LogStop) (left old new : Option (List ℕ)) →
-    IfOk r (λ bad. IfSome left (λ dump. IsWritten form old new dump bad)) →
+    IfOk r (λ bad. IfSome left (λ dump. IsDumpWritten form old new dump bad)) →
     IfOk r (λ bad. IfSome left (λ dump. (text : List ℕ) × IsDumpShown form dump text bad × Appends old new text))
 written form (Ok bad) None old new ok = tt
 written form (Ok bad) (Some dump) old new ok = (ok.text, ok.is_shown, ok.wrote)
