@@ -44,16 +44,16 @@ grant_record (NoBandwidth left) = record { detail = left; now = 0; kind = 2 }
 grant_record (Changed offset old) = record { detail = offset; now = old; kind = 3 }
 
 -- what comes of an allocation or a release with this fault, or of one that leaves these values
-pub data Grants (channel units : ℕ) (fault : Option GrantFault) (done : Values)
+pub data AnswersGrant (channel units : ℕ) (fault : Option GrantFault) (done : Values)
     (before after : RegistersRecord) (told_before told : GrantRecord) (status : ℕ) : Type 0 where
   granted : channel ≤ 63 → units ≤ 4915 → fault ≡ None → after ≡ registers_record done →
       told ≡ told_before → status ≡ 0 →
-      Grants channel units fault done before after told_before told status
+      AnswersGrant channel units fault done before after told_before told status
   refused : (f : GrantFault) → channel ≤ 63 → units ≤ 4915 → fault ≡ Some f → after ≡ before →
       told ≡ grant_record f → status ≡ 1 →
-      Grants channel units fault done before after told_before told status
+      AnswersGrant channel units fault done before after told_before told status
   out_of_range : ((channel ≤ 63) × (units ≤ 4915) → ⊥) → after ≡ before → told ≡ told_before →
-      status ≡ 7 → Grants channel units fault done before after told_before told status
+      status ≡ 7 → AnswersGrant channel units fault done before after told_before told status
 
 -- what comes of an attempt of a node to become bus manager
 pub data Attempts (id : ℕ) (held : Values) (before after : RegistersRecord) (told_before told : ℕ)

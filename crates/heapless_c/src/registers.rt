@@ -4,7 +4,7 @@ ghost use Rattle.resource_manager.specs.Register.{cut, initial_values, with_valu
 ghost use Rattle.resource_manager.specs.Response.{read_reply, write_reply, lock_reply, after_lock};
 ghost use Rattle.resource_manager.specs.Channel.{seen_of};
 ghost use Rattle.resource_manager.specs.Grant.{allocate_fault, release_fault, after_allocation, after_release};
-ghost use Rattle.heapless_c.specs.Registers.{registers_record, values_in, reply_record, seen_record, seen_in, grant_record, Grants, Attempts};
+ghost use Rattle.heapless_c.specs.Registers.{registers_record, values_in, reply_record, seen_record, seen_in, grant_record, AnswersGrant, Attempts};
 
 use crate::records::{GrantRecord, RegistersRecord, ReplyRecord, SeenRecord};
 use bus_manager::attempt;
@@ -175,7 +175,7 @@ pub extern "C" fn busconf_registers_allocate(
     units: u16,
     fault: &mut GrantRecord,
 ) -> u32
-    ensures { Grants channel units
+    ensures { AnswersGrant channel units
         (allocate_fault (values_in regs.old) (seen_in seen.now) channel units)
         (after_allocation (values_in regs.old) channel units) regs.old regs.new fault.old fault.new
         result }
@@ -205,7 +205,7 @@ pub extern "C" fn busconf_registers_release(
     units: u16,
     fault: &mut GrantRecord,
 ) -> u32
-    ensures { Grants channel units
+    ensures { AnswersGrant channel units
         (release_fault (values_in regs.old) (seen_in seen.now) channel units)
         (after_release (values_in regs.old) channel units) regs.old regs.new fault.old fault.new
         result }

@@ -49,7 +49,7 @@ use Rattle.script_lines.specs.Refusal.{kind_of}
 use Rattle.script_text.specs.Maps.{IsMapsText}
 use Rattle.script_text.proofs.Lemmas.{same_maps}
 use Rattle.script_told.specs.Bus.{Bus, ReportedTree, node_named, resets_shown, resets_of, tree_of, part_with, tree_with, values_at, after_access, put_look}
-use Rattle.script_told.specs.Step.{LineAnswer, AtNode, Named, AtTree, Settled, AtManager, Managed, HoldsWire, Turns, MapsOf, GivesMaps, ShowsMaps, Accesses, Looks, Grants, seen_by, Does, id_of, end_of}
+use Rattle.script_told.specs.Step.{LineAnswer, AtNode, Named, AtTree, Settled, AtManager, Managed, HoldsWire, Turns, MapsOf, GivesMaps, ShowsMaps, Accesses, Looks, DoesGrant, seen_by, Does, id_of, end_of}
 use Rattle.script_told.specs.Script.{Stage, fresh, StageAnswer, running, bus_of, onwards, DoesAtStage}
 use Rattle.script_told.specs.Run.{Entry}
 use Rattle.script_bus.specs.EachMaps.{KeepsReport, StandsIn, MapsShowOneTree}
@@ -215,7 +215,7 @@ module _ (stay : TreesStay) (names-one : IdsNameOneNode) (bus : Bus) where
   looked node manager = known (Ok (put_look node (Some (seen_of (values_at manager bus))) bus, [])) (record { report = refl; names = refl; trees = no-turn bus.world })
 
   granted : (node manager : NodeNumber) (a : Seen → Access) (text : Answer → List ℕ) →
-      AllKeep (Grants bus node manager a text)
+      AllKeep (DoesGrant bus node manager a text)
   granted node manager a text =
       let blind : Bus = put_look node None bus in
       let asks : Access = a (seen_by node manager bus) in

@@ -2,7 +2,7 @@
 ghost use Rattle.std.specs.Prelude.{◌≡◌, ◌<◌, ◌≤◌, ℕ, ◌==◌, Some, None, Ok, Err, List, codes, IfOk, IfErr, IfSome, OnOk, length, position};
 ghost use Rattle.resource_manager.specs.Access.{IsPermitted, answer_of};
 ghost use Rattle.script_told.specs.Bus.{values_at, put_values, after_access, put_look};
-ghost use Rattle.script_told.specs.Step.{Accesses, Bids, Grants, Looks, Managed, HasManager, seen_by, id_of};
+ghost use Rattle.script_told.specs.Step.{Accesses, Bids, DoesGrant, Looks, Managed, HasManager, seen_by, id_of};
 ghost use Rattle.script_text.specs.ReportText.{IsNamedTree};
 ghost use Rattle.script_text.specs.CommandText.{csr_text, grant_text};
 ghost use Rattle.script_bus.specs.Running.{IsAsked, Stops, nothing, reported};
@@ -183,7 +183,7 @@ impl Bus {
         requires channel { channel ≤ 63 }
         requires units { units ≤ 4915 }
         ensures done { IfOk result (λ text. Managed self.old name.now
-            (λ node id manager. Grants self.old node manager
+            (λ node id manager. DoesGrant self.old node manager
             (λ seen. access.Allocate seen channel units) (grant_text (codes "allocate ") name.now))
             (Ok (self.new, text.items))) }
         ensures stop { IfErr result
@@ -213,7 +213,7 @@ impl Bus {
         requires channel { channel ≤ 63 }
         requires units { units ≤ 4915 }
         ensures done { IfOk result (λ text. Managed self.old name.now
-            (λ node id manager. Grants self.old node manager
+            (λ node id manager. DoesGrant self.old node manager
             (λ seen. access.Release seen channel units) (grant_text (codes "release ") name.now))
             (Ok (self.new, text.items))) }
         ensures stop { IfErr result

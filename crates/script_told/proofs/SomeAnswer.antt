@@ -31,7 +31,7 @@ use Rattle.script_text.specs.CommandText.{csr_text, grant_text, bid_text}
 use Rattle.script_text.specs.SomeText.{HasReportText, QuietWorldsHaveTexts}
 use Rattle.script_text.specs.SomeMaps.{HasMapsText, MapsHaveTexts}
 use Rattle.script_told.specs.Bus.{Bus, ReportedTree, node_named, resets_of, values_at, after_access, put_look, tree_of, part_with, tree_with}
-use Rattle.script_told.specs.Step.{LineAnswer, AtNode, Named, AtTree, Settled, AtManager, Managed, id_of, Acts, HoldsWire, Within, Reports, Accesses, seen_by, Grants, Looks, MapsOf, GivesMaps, end_of, config_of, notes_after_act, notes_after_report, after_maps}
+use Rattle.script_told.specs.Step.{LineAnswer, AtNode, Named, AtTree, Settled, AtManager, Managed, id_of, Acts, HoldsWire, Within, Reports, Accesses, seen_by, DoesGrant, Looks, MapsOf, GivesMaps, end_of, config_of, notes_after_act, notes_after_report, after_maps}
 use Rattle.script_told.specs.SomeManager.{IsManaged, ReportedTreesAreManaged}
 use Rattle.script_told.specs.SomeAnswer.{IsOfReached, IsReachedBus, HasAnswer, CommandsHaveAnswers, BusesSettle}
 use Rattle.script_told.proofs.Turns.{after-turns}
@@ -170,7 +170,7 @@ accesses : (bus : Bus) (manager : NodeNumber) (a : Access) (text : Answer → Li
 accesses bus manager a text = known (Ok (after_access manager a bus, text (answer_of (values_at manager bus) a)))
 
 grants : (bus : Bus) (node manager : NodeNumber) (a : Seen → Access) (text : Answer → List ℕ) →
-    HasAnswer (Grants bus node manager a text)
+    HasAnswer (DoesGrant bus node manager a text)
 grants bus node manager a text = accesses (put_look node None bus) manager (a (seen_by node manager bus)) text
 
 looks : (bus : Bus) (node manager : NodeNumber) → HasAnswer (Looks bus node manager)

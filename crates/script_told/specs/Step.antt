@@ -160,9 +160,9 @@ abbrev pub seen_by : NodeNumber → NodeNumber → Bus → Seen
 seen_by node manager bus = unwrap_or (look_of node bus.notes) (seen_of (values_at manager bus))
 
 -- a grant or a release by what the node saw; it drops the node's look
-abbrev pub Grants :
+abbrev pub DoesGrant :
     Bus → NodeNumber → NodeNumber → (Seen → Access) → (Answer → List ℕ) → LineAnswer → Type 0
-Grants bus node manager a text answer =
+DoesGrant bus node manager a text answer =
     Accesses (put_look node None bus) manager (a (seen_by node manager bus)) text answer
 
 -- the node sees what the registers show now
@@ -261,10 +261,10 @@ Does bus (CsrLock name offset kind arg value) r = Managed bus name (λ node id m
     Accesses bus manager (access.Lock offset kind arg value) (csr_text name)) r
 Does bus (Look name) r = Managed bus name (λ node id manager. Looks bus node manager) r
 Does bus (Allocate name channel units) r = Managed bus name (λ node id manager.
-    Grants bus node manager (λ seen. access.Allocate seen channel units)
+    DoesGrant bus node manager (λ seen. access.Allocate seen channel units)
     (grant_text (codes "allocate ") name)) r
 Does bus (Release name channel units) r = Managed bus name (λ node id manager.
-    Grants bus node manager (λ seen. access.Release seen channel units)
+    DoesGrant bus node manager (λ seen. access.Release seen channel units)
     (grant_text (codes "release ") name)) r
 Does bus (Manager name) r = Managed bus name (λ node id manager.
     Bids bus name id manager) r

@@ -31,7 +31,7 @@ use Rattle.script_text.specs.CommandText.{csr_text, grant_text}
 use Rattle.std.specs.Option.{option_map}
 use Rattle.script_text.specs.Plan.{IsPlan, plan_line}
 use Rattle.script_told.specs.Bus.{Notes, Bus, ReportedTree, node_named, resets_of, tree_with, values_at}
-use Rattle.script_told.specs.Step.{LineAnswer, AtNode, Named, AtTree, Settled, AtManager, IsTreeOf, Managed, node_with, id_of, Acts, HoldsWire, Within, Reports, DoesSettle, Accesses, Looks, Grants, Bids, CarriesOut, Plans, PlansAs, MapsOf, GivesMaps, Does, end_of, config_of, notes_after_report}
+use Rattle.script_told.specs.Step.{LineAnswer, AtNode, Named, AtTree, Settled, AtManager, IsTreeOf, Managed, node_with, id_of, Acts, HoldsWire, Within, Reports, DoesSettle, Accesses, Looks, DoesGrant, Bids, CarriesOut, Plans, PlansAs, MapsOf, GivesMaps, Does, end_of, config_of, notes_after_report}
 use Rattle.script_lines.specs.Refusal.{kind_of}
 use Rattle.script_text.proofs.Lemmas.{one-text, same_maps}
 use Rattle.script_told.proofs.told.Cables.{IsCabled, turns-cabled, act-cabled, one-world}
@@ -368,11 +368,11 @@ does trees bus (Look name) h =
     managed trees bus name (λ node id manager. Looks bus node manager)
     (λ node id manager. call bus _ _ refl h)
 does trees bus (Allocate name channel units) h =
-    managed trees bus name (λ node id manager. Grants bus node manager
+    managed trees bus name (λ node id manager. DoesGrant bus node manager
     (λ seen. access.Allocate seen channel units) (grant_text (codes "allocate ") name))
     (λ node id manager. call bus _ _ refl h)
 does trees bus (Release name channel units) h =
-    managed trees bus name (λ node id manager. Grants bus node manager
+    managed trees bus name (λ node id manager. DoesGrant bus node manager
     (λ seen. access.Release seen channel units) (grant_text (codes "release ") name))
     (λ node id manager. call bus _ _ refl h)
 does trees bus (Manager name) h =

@@ -28,7 +28,7 @@ use Rattle.script_lines.specs.declared.command.Command.{Command}
 use Rattle.script_lines.specs.declared.command.Command.TheVariants.{Node, Plug, Pull, Reset, Turn, Hold, Settle, Config, CsrRead, CsrWrite, CsrLock, Look, Allocate, Release, Manager, Plan, Maps, Delay, Times}
 use Rattle.script_lines.specs.Range.{IsInRange}
 use Rattle.script_told.specs.Bus.{Bus, Notes, ReportedTree, node_named, values_at, after_access, put_look}
-use Rattle.script_told.specs.Step.{LineAnswer, AtNode, Acts, HoldsWire, Turns, Reports, Accesses, Grants, Looks, seen_by, Plans, GivesMaps, Does, end_of, config_of}
+use Rattle.script_told.specs.Step.{LineAnswer, AtNode, Acts, HoldsWire, Turns, Reports, Accesses, DoesGrant, Looks, seen_by, Plans, GivesMaps, Does, end_of, config_of}
 use Rattle.script_told.specs.Script.{Stage, StageAnswer, bus_of, ranges_of, onwards, DoesAtStage, DoesOnBus}
 use Rattle.script_told.specs.Run.{Entry}
 use Rattle.script_told.specs.ScriptEvents.{Declares, LeavesAlone, TakesNoTurn, IsActOf, IsPullOf, DoesEvents, RunsOn, ScriptsAreRuns}
@@ -166,7 +166,7 @@ module _ (bus : Bus) (command : Command) where
 
     granted :
         (node manager : NodeNumber) (a : Seen → Access) (text : Answer → List ℕ) (r : LineAnswer) →
-        Grants bus node manager a text r → Led bus command r
+        DoesGrant bus node manager a text r → Led bus command r
     granted node manager a text =
         let b : Bus = put_look node None bus in
         let x : Access = a (seen_by node manager bus) in

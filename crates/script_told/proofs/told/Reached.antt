@@ -41,7 +41,7 @@ use Rattle.root_plan.specs.declared.choice.RootPlan.{RootPlan}
 use Rattle.script_text.specs.Plan.{IsPlan}
 use Rattle.script_text.specs.CommandText.{csr_text, grant_text, bid_text}
 use Rattle.script_told.specs.Bus.{Bus, Notes, ReportedTree, node_named, tree_with, values_at, after_access, put_look}
-use Rattle.script_told.specs.Step.{LineAnswer, AtNode, Named, AtTree, Settled, AtManager, Managed, id_of, Acts, HoldsWire, Within, Turns, Reports, DoesSettle, Accesses, Grants, Looks, seen_by, Plans, GivesMaps, Does, end_of, config_of}
+use Rattle.script_told.specs.Step.{LineAnswer, AtNode, Named, AtTree, Settled, AtManager, Managed, id_of, Acts, HoldsWire, Within, Turns, Reports, DoesSettle, Accesses, DoesGrant, Looks, seen_by, Plans, GivesMaps, Does, end_of, config_of}
 use Rattle.script_told.specs.SomeAnswer.{IsOfReached, IsReachedBus}
 use Rattle.script_told.specs.Script.{Draft, Stage, fresh, declaring, running, StageAnswer, bus_of, first_draft, draft_with, new_node, times_of, coins_of, with_node, onwards}
 use Rattle.script_told.specs.Bus.{bus_of_nodes}
@@ -178,7 +178,7 @@ do-access : (bus : Bus) (manager : NodeNumber) (a : Access) (text : Answer → L
 do-access bus manager a text h = known (Ok (after_access manager a bus, text (answer_of (values_at manager bus) a))) (record { reached = h.reached; named = h.named; reported = h.reported })
 
 do-grant : (bus : Bus) (node manager : NodeNumber) (a : Seen → Access) (text : Answer → List ℕ) →
-    IsReachedBus bus → Leaves (Grants bus node manager a text)
+    IsReachedBus bus → Leaves (DoesGrant bus node manager a text)
 do-grant bus node manager a text h = do-access (put_look node None bus) manager (a (seen_by node manager bus)) text (record { reached = h.reached; named = h.named; reported = h.reported })
 
 do-look : (bus : Bus) (node manager : NodeNumber) → IsReachedBus bus →
