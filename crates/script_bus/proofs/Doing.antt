@@ -9,7 +9,7 @@ use Rattle.script_lines.specs.declared.kind.Kind.{Kind}
 use Rattle.script_lines.specs.declared.kind.LineStop.{LineStop}
 use Rattle.script_lines.specs.declared.kind.LineStop.TheVariants.{Fault, Memory}
 use Rattle.script_told.specs.Bus.{Bus, ReportedTree, node_named, tree_with}
-use Rattle.script_told.specs.Step.{LineAnswer, AtNode, AtTree, Named, Settled}
+use Rattle.script_told.specs.Step.{LineAnswer, AtNamedNode, AtTree, Named, Settled}
 use Rattle.script_bus.specs.Running.{Stops}
 
 -- ---- answers
@@ -42,7 +42,7 @@ pub named :
     Named bus name Comes r
 named bus name node Comes r e h = go (node_named bus.notes.names name) e
   where
-    go : (o : Option ℕ) → Ok node ≡ ok_or o (Fault Kind.NoNode) → AtNode o Comes r
+    go : (o : Option ℕ) → Ok node ≡ ok_or o (Fault Kind.NoNode) → AtNamedNode o Comes r
     go None e = absurd (subst is-there e tt)
     go (Some k) e = subst (λ n. Comes n r) (ap number e) h
 

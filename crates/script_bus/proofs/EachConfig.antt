@@ -37,7 +37,7 @@ use Rattle.script_lines.specs.declared.command.Command.{Command}
 use Rattle.script_lines.specs.declared.command.Command.TheVariants as command
 use Rattle.script_text.specs.ReportText.{Names, IsReportText}
 use Rattle.script_told.specs.Bus.{Bus, Notes, ReportedTree, node_named, tree_with}
-use Rattle.script_told.specs.Step.{LineAnswer, AtNode, AtTree, Settled, Acts, Reports, Does, config_of, node_with}
+use Rattle.script_told.specs.Step.{LineAnswer, AtNamedNode, AtTree, Settled, Acts, Reports, Does, config_of, node_with}
 use Rattle.script_told.specs.Script.{Stage, fresh, StageAnswer, running, bus_of, ranges_of, onwards, DoesAtStage}
 use Rattle.script_told.specs.Run.{Entry}
 use Rattle.script_told.specs.SomeAnswer.{IsReachedBus}
@@ -211,7 +211,7 @@ module _ (bus : Bus) (name : List ℕ) (id gap : Option ℕ) (sent : Bus) (text 
       record { node = node; named = named; tree = tree; settled = e; accepted = x.0; act = x.1 }
 
   with-node :
-      (o : Option NodeNumber) → node_named bus.notes.names name ≡ o → AtNode o (λ node. Settled bus node (Sends node)) sends →
+      (o : Option NodeNumber) → node_named bus.notes.names name ≡ o → AtNamedNode o (λ node. Settled bus node (Sends node)) sends →
       IsSent bus name id gap sent
   with-node None e x = no-fault Kind.NoNode x
   with-node (Some node) e x = with-tree node e (tree_with node bus.notes) refl x

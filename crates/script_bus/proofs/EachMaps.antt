@@ -49,7 +49,7 @@ use Rattle.script_lines.specs.Refusal.{kind_of}
 use Rattle.script_text.specs.Maps.{IsMapsText}
 use Rattle.script_text.proofs.Lemmas.{same_maps}
 use Rattle.script_told.specs.Bus.{Bus, ReportedTree, node_named, resets_shown, resets_of, tree_of, part_with, tree_with, values_at, after_access, put_look}
-use Rattle.script_told.specs.Step.{LineAnswer, AtNode, Named, AtTree, Settled, AtManager, Managed, HoldsWire, Turns, MapsOf, GivesMaps, ShowsMaps, Accesses, Looks, DoesGrant, seen_by, Does, id_of, end_of}
+use Rattle.script_told.specs.Step.{LineAnswer, AtNamedNode, Named, AtTree, Settled, AtManager, Managed, HoldsWire, Turns, MapsOf, GivesMaps, ShowsMaps, Accesses, Looks, DoesGrant, seen_by, Does, id_of, end_of}
 use Rattle.script_told.specs.Script.{Stage, fresh, StageAnswer, running, bus_of, onwards, DoesAtStage}
 use Rattle.script_told.specs.Run.{Entry}
 use Rattle.script_bus.specs.EachMaps.{KeepsReport, StandsIn, MapsShowOneTree}
@@ -157,7 +157,7 @@ module _ (stay : TreesStay) (names-one : IdsNameOneNode) (bus : Bus) where
   known x h r e = subst (AnswerKeeps bus) (sym e) h
 
   at-node : (o : Option NodeNumber) (Comes : NodeNumber → LineAnswer → Type 0) →
-      ((k : NodeNumber) → AllKeep (Comes k)) → AllKeep (AtNode o Comes)
+      ((k : NodeNumber) → AllKeep (Comes k)) → AllKeep (AtNamedNode o Comes)
   at-node None Comes some r e = known (Err Kind.NoNode) tt r e
   at-node (Some k) Comes some r e = some k r e
 
@@ -325,7 +325,7 @@ module _ (bus : Bus) (name : List ℕ) (tree : ReportedTree) (s : StandsIn bus n
       (subst (λ (u : ReportedTree). MapsOf bus u answer) (some-same t tree e) x)
 
   of-node : (o : Option NodeNumber) → o ≡ Some s.node →
-      AtNode o (λ node. Settled bus node (MapsOf bus)) answer → Shown
+      AtNamedNode o (λ node. Settled bus node (MapsOf bus)) answer → Shown
   of-node None e x = no-fault Kind.NoNode x
   of-node (Some k) e x =
       in-tree (tree_with s.node bus.notes) s.settled

@@ -5,7 +5,7 @@ use Rattle.root_plan.specs.declared.choice.RootPlan.{RootPlan}
 use Rattle.settle.specs.Report.{quiet_turns_of}
 use Rattle.script_lines.specs.declared.kind.Kind.{Kind}
 use Rattle.script_told.specs.Bus.{Bus, ReportedTree, tree_with, values_at}
-use Rattle.script_told.specs.Step.{LineAnswer, HasManager, AtNode, AtTree, AtManager, Managed, CarriesOut, Plans, PlansAs, Settled, Within, id_of}
+use Rattle.script_told.specs.Step.{LineAnswer, HasManager, AtNamedNode, AtTree, AtManager, Managed, CarriesOut, Plans, PlansAs, Settled, Within, id_of}
 use Rattle.script_bus.specs.Running.{IsAsked}
 use Rattle.script_bus.specs.codings.Standing.{IsPlanned, IsSent}
 
@@ -15,7 +15,7 @@ pub asked-comes :
     (Comes : ℕ → ℕ → ℕ → LineAnswer → Type 0) (r : LineAnswer) → Comes node id manager r →
     Managed bus name Comes r
 asked-comes bus name node id manager is Comes r h =
-    subst (λ (o : Option ℕ). AtNode o At r) (sym is.named)
+    subst (λ (o : Option ℕ). AtNamedNode o At r) (sym is.named)
     (subst (λ (o : Option ReportedTree). AtTree o (In node) r) (sym is.settled)
     (Some manager, is.managed, subst (λ (i : ℕ). Comes node i manager r) is.id_is h))
   where

@@ -31,7 +31,7 @@ use Rattle.script_text.specs.Plan.{plan_line}
 use Rattle.script_text.specs.SomePlan.{HasPlan, PlansExist}
 use Rattle.script_text.specs.SomeText.{HasReportText, QuietWorldsHaveTexts}
 use Rattle.script_told.specs.Bus.{Bus, ReportedTree, node_named, tree_with, values_at}
-use Rattle.script_told.specs.Step.{LineAnswer, HasManager, AtNode, AtTree, AtManager, Plans, PlansAs, Settled, Within, id_of, node_with, notes_after_act, notes_after_report}
+use Rattle.script_told.specs.Step.{LineAnswer, HasManager, AtNamedNode, AtTree, AtManager, Plans, PlansAs, Settled, Within, id_of, node_with, notes_after_act, notes_after_report}
 use Rattle.script_told.specs.SomeManager.{IsManaged, ReportedTreesAreManaged}
 use Rattle.script_told.specs.SomeAnswer.{IsOfReached, IsReachedBus, HasAnswer, PlansHaveAnswers}
 use Rattle.script_told.proofs.Lemmas.{known, within, if-test, act-leads, tree-managed}
@@ -189,7 +189,7 @@ module _
 
   by-node :
       (bus : Bus) → IsReachedBus bus → (name : List ℕ) (o : Option NodeNumber) → node_named bus.notes.names name ≡ o →
-      HasAnswer (AtNode o (λ node. Settled bus node (Inner bus name node)))
+      HasAnswer (AtNamedNode o (λ node. Settled bus node (Inner bus name node)))
   by-node bus h name None e = known (Err Kind.NoNode)
   by-node bus h name (Some node) e =
       let found = position-Some (bytes_eq name) bus.notes.names node [] e in

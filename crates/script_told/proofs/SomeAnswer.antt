@@ -31,7 +31,7 @@ use Rattle.script_text.specs.CommandText.{csr_text, grant_text, bid_text}
 use Rattle.script_text.specs.SomeText.{HasReportText, QuietWorldsHaveTexts}
 use Rattle.script_text.specs.SomeMaps.{HasMapsText, MapsHaveTexts}
 use Rattle.script_told.specs.Bus.{Bus, ReportedTree, node_named, resets_of, values_at, after_access, put_look, tree_of, part_with, tree_with}
-use Rattle.script_told.specs.Step.{LineAnswer, AtNode, Named, AtTree, Settled, AtManager, Managed, id_of, Acts, HoldsWire, Within, Reports, Accesses, seen_by, DoesGrant, Looks, MapsOf, GivesMaps, end_of, config_of, notes_after_act, notes_after_report, after_maps}
+use Rattle.script_told.specs.Step.{LineAnswer, AtNamedNode, Named, AtTree, Settled, AtManager, Managed, id_of, Acts, HoldsWire, Within, Reports, Accesses, seen_by, DoesGrant, Looks, MapsOf, GivesMaps, end_of, config_of, notes_after_act, notes_after_report, after_maps}
 use Rattle.script_told.specs.SomeManager.{IsManaged, ReportedTreesAreManaged}
 use Rattle.script_told.specs.SomeAnswer.{IsOfReached, IsReachedBus, HasAnswer, CommandsHaveAnswers, BusesSettle}
 use Rattle.script_told.proofs.Turns.{after-turns}
@@ -42,7 +42,7 @@ pub known : (r : LineAnswer) → HasAnswer (λ answer. answer ≡ r)
 known r = record { answer = r; is = refl }
 
 at-node : (o : Option NodeNumber) (Comes : NodeNumber → LineAnswer → Type 0) →
-    ((k : NodeNumber) → HasAnswer (Comes k)) → HasAnswer (AtNode o Comes)
+    ((k : NodeNumber) → HasAnswer (Comes k)) → HasAnswer (AtNamedNode o Comes)
 at-node None Comes some = known (Err Kind.NoNode)
 at-node (Some k) Comes some = let a = some k in record { answer = a.answer; is = a.is }
 

@@ -41,12 +41,13 @@ LineAnswer = Result (Bus × List ℕ) Kind
 -- ---- what has to be there first
 
 -- the node with a name, else `NoNode`
-abbrev pub AtNode : Option NodeNumber → (NodeNumber → LineAnswer → Type 0) → LineAnswer → Type 0
-AtNode None comes answer = answer ≡ Err NoNode
-AtNode (Some node) comes answer = comes node answer
+abbrev pub AtNamedNode :
+    Option NodeNumber → (NodeNumber → LineAnswer → Type 0) → LineAnswer → Type 0
+AtNamedNode None comes answer = answer ≡ Err NoNode
+AtNamedNode (Some node) comes answer = comes node answer
 
 abbrev pub Named : Bus → List ℕ → (NodeNumber → LineAnswer → Type 0) → LineAnswer → Type 0
-Named bus name comes answer = AtNode (node_named bus.notes.names name) comes answer
+Named bus name comes answer = AtNamedNode (node_named bus.notes.names name) comes answer
 
 -- the tree in which a node stands settled, else `NotSettled`
 abbrev pub AtTree : Option ReportedTree → (ReportedTree → LineAnswer → Type 0) → LineAnswer → Type 0

@@ -24,7 +24,7 @@ use Rattle.script_made.specs.declared.made.End.{End}
 use Rattle.script_lines.specs.declared.kind.Kind.TheVariants.{TooManyTurns}
 use Rattle.script_lines.specs.declared.command.Command.TheVariants.{Turn}
 use Rattle.script_told.specs.Bus.{Notes, Bus, node_named}
-use Rattle.script_told.specs.Step.{LineAnswer, AtNode, Named, Acts, Within, Reports, DoesSettle, Does, end_of}
+use Rattle.script_told.specs.Step.{LineAnswer, AtNamedNode, Named, Acts, Within, Reports, DoesSettle, Does, end_of}
 use Rattle.script_made.specs.Made.{end}
 use Rattle.script_made.specs.MadeRead.{made_name, plugs, pulls}
 use Rattle.script_told.proofs.Lemmas.{AfterTurns, after-turns, nodes-after-turns, IsCabled, act-cabled, act-adds, act-takes, not-refused}
@@ -100,7 +100,7 @@ module _ (n turns : ℕ) (bus : Bus) (P : Bus → Type 0) (few : n ≤ 63) (h : 
       let found : node_named bus.notes.names (made_name node) ≡ Some node =
       ap (λ (names : List (List ℕ)). node_named names (made_name node)) h.names
       ∙ is-found n node few less in
-      subst (λ (o : Option NodeNumber). AtNode o Comes r) found x
+      subst (λ (o : Option NodeNumber). AtNamedNode o Comes r) found x
 
   -- an act that isn't refused leaves the names, the ports and the turns
   acts :

@@ -5,7 +5,7 @@ use Rattle.std.specs.Prelude.{Err, MatchBool, nat_lt}
 use Rattle.cable_world.specs.World.{NodeNumber}
 use Rattle.script_lines.specs.declared.kind.Kind.{Kind}
 use Rattle.script_told.specs.Bus.{Bus, ReportedTree, node_named, tree_with}
-use Rattle.script_told.specs.Step.{LineAnswer, AtNode, AtTree, Settled, AtManager, Managed, id_of, Within}
+use Rattle.script_told.specs.Step.{LineAnswer, AtNamedNode, AtTree, Settled, AtManager, Managed, id_of, Within}
 
 module _ (P : LineAnswer → Type 0) (fault : (kind : Kind) → P (Err kind)) where
   -- each answer that comes so
@@ -16,13 +16,13 @@ module _ (P : LineAnswer → Type 0) (fault : (kind : Kind) → P (Err kind)) wh
   is-known x h r e = subst P (sym e) h
 
   pub each-node : (o : Option NodeNumber) (Comes : NodeNumber → LineAnswer → Type 0) →
-      ((k : NodeNumber) (r : LineAnswer) → Comes k r → P r) → (r : LineAnswer) → AtNode o Comes r → P r
+      ((k : NodeNumber) (r : LineAnswer) → Comes k r → P r) → (r : LineAnswer) → AtNamedNode o Comes r → P r
   each-node None Comes some r e = is-known (Err Kind.NoNode) (fault Kind.NoNode) r e
   each-node (Some k) Comes some r e = some k r e
 
   -- and this is the node
   pub each-node-at : (o : Option NodeNumber) (Comes : NodeNumber → LineAnswer → Type 0) →
-      ((k : NodeNumber) → o ≡ Some k → (r : LineAnswer) → Comes k r → P r) → (r : LineAnswer) → AtNode o Comes r → P r
+      ((k : NodeNumber) → o ≡ Some k → (r : LineAnswer) → Comes k r → P r) → (r : LineAnswer) → AtNamedNode o Comes r → P r
   each-node-at None Comes some r e = is-known (Err Kind.NoNode) (fault Kind.NoNode) r e
   each-node-at (Some k) Comes some r e = some k refl r e
 

@@ -31,7 +31,7 @@ use Rattle.script_text.specs.CommandText.{csr_text, grant_text}
 use Rattle.std.specs.Option.{option_map}
 use Rattle.script_text.specs.Plan.{IsPlan, plan_line}
 use Rattle.script_told.specs.Bus.{Notes, Bus, ReportedTree, node_named, resets_of, tree_with, values_at}
-use Rattle.script_told.specs.Step.{LineAnswer, AtNode, Named, AtTree, Settled, AtManager, IsTreeOf, Managed, node_with, id_of, Acts, HoldsWire, Within, Reports, DoesSettle, Accesses, Looks, DoesGrant, Bids, CarriesOut, Plans, PlansAs, MapsOf, GivesMaps, Does, end_of, config_of, notes_after_report}
+use Rattle.script_told.specs.Step.{LineAnswer, AtNamedNode, Named, AtTree, Settled, AtManager, IsTreeOf, Managed, node_with, id_of, Acts, HoldsWire, Within, Reports, DoesSettle, Accesses, Looks, DoesGrant, Bids, CarriesOut, Plans, PlansAs, MapsOf, GivesMaps, Does, end_of, config_of, notes_after_report}
 use Rattle.script_lines.specs.Refusal.{kind_of}
 use Rattle.script_text.proofs.Lemmas.{one-text, same_maps}
 use Rattle.script_told.proofs.told.Cables.{IsCabled, turns-cabled, act-cabled, one-world}
@@ -53,7 +53,7 @@ known r a b h x y = (x ∙ sym y, subst LeavesCabled (sym x) h)
 
 at-node :
     (node : Option NodeNumber) (Comes : NodeNumber → LineAnswer → Type 0) →
-    ((k : NodeNumber) → IsOne (Comes k)) → IsOne (AtNode node Comes)
+    ((k : NodeNumber) → IsOne (Comes k)) → IsOne (AtNamedNode node Comes)
 at-node None Comes one a b x y = known (Err Kind.NoNode) a b tt x y
 at-node (Some k) Comes one a b x y = one k a b x y
 

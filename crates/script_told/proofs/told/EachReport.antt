@@ -20,7 +20,7 @@ use Rattle.script_lines.specs.declared.command.Command.TheVariants.{Settle, Plan
 use Rattle.script_text.specs.ReportText.{IsReportText}
 use Rattle.script_text.specs.Plan.{plan_line}
 use Rattle.script_told.specs.Bus.{Notes, Bus, ReportedTree, node_named, tree_with, values_at}
-use Rattle.script_told.specs.Step.{LineAnswer, AtNode, AtTree, AtManager, Settled, Within, Reports, DoesSettle, Plans, PlansAs, Does, id_of, node_with}
+use Rattle.script_told.specs.Step.{LineAnswer, AtNamedNode, AtTree, AtManager, Settled, Within, Reports, DoesSettle, Plans, PlansAs, Does, id_of, node_with}
 use Rattle.script_told.specs.Script.{Stage, running, StageAnswer, bus_of, onwards, DoesAtStage}
 use Rattle.script_told.specs.Run.{Entry}
 use Rattle.script_told.specs.EachReport.{EachComponentCameTo, DoesReport, IsBeforeReport, IsReportedAt, ReportsAreSettled}
@@ -79,7 +79,7 @@ module _ (Before : List ℕ → Type 0) where
 
   at-node :
       (node : Option NodeNumber) (Comes : NodeNumber → LineAnswer → Type 0) →
-      ((k : NodeNumber) → AllSay Before (Comes k)) → AllSay Before (AtNode node Comes)
+      ((k : NodeNumber) → AllSay Before (Comes k)) → AllSay Before (AtNamedNode node Comes)
   at-node None Comes f r h = fault Kind.NoNode r h
   at-node (Some k) Comes f r h = f k r h
 

@@ -28,7 +28,7 @@ use Rattle.script_lines.specs.declared.command.Command.{Command}
 use Rattle.script_lines.specs.declared.command.Command.TheVariants.{Node, Plug, Pull, Reset, Turn, Hold, Settle, Config, CsrRead, CsrWrite, CsrLock, Look, Allocate, Release, Manager, Plan, Maps, Delay, Times}
 use Rattle.script_lines.specs.Range.{IsInRange}
 use Rattle.script_told.specs.Bus.{Bus, Notes, ReportedTree, node_named, values_at, after_access, put_look}
-use Rattle.script_told.specs.Step.{LineAnswer, AtNode, Acts, HoldsWire, Turns, Reports, Accesses, DoesGrant, Looks, seen_by, Plans, GivesMaps, Does, end_of, config_of}
+use Rattle.script_told.specs.Step.{LineAnswer, AtNamedNode, Acts, HoldsWire, Turns, Reports, Accesses, DoesGrant, Looks, seen_by, Plans, GivesMaps, Does, end_of, config_of}
 use Rattle.script_told.specs.Script.{Stage, StageAnswer, bus_of, ranges_of, onwards, DoesAtStage, DoesOnBus}
 use Rattle.script_told.specs.Run.{Entry}
 use Rattle.script_told.specs.ScriptEvents.{Declares, LeavesAlone, TakesNoTurn, IsActOf, IsPullOf, DoesEvents, RunsOn, ScriptsAreRuns}
@@ -228,7 +228,7 @@ pulled :
 pulled bus name port r x = go (node_named bus.notes.names name) refl x
   where
     go :
-        (o : Option NodeNumber) → node_named bus.notes.names name ≡ o → AtNode o (λ node. Acts bus (act.Pull (end_of node port))) r →
+        (o : Option NodeNumber) → node_named bus.notes.names name ≡ o → AtNamedNode o (λ node. Acts bus (act.Pull (end_of node port))) r →
         Led bus (Pull name port) r
     go None e y = is-known (Led bus (Pull name port)) (λ k. tt) (Err Kind.NoNode) tt r y
     go (Some node) e y = acted bus (Pull name port) (act.Pull (end_of node port)) tt (λ h. h) (λ end same.

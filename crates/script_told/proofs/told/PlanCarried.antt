@@ -6,7 +6,7 @@ use Rattle.settle.specs.Report.{quiet_turns_of}
 use Rattle.script_lines.specs.declared.kind.Kind.{Kind}
 use Rattle.script_lines.specs.declared.command.Command.TheVariants.{Plan}
 use Rattle.script_told.specs.Bus.{Bus, ReportedTree, node_named, tree_with, values_at}
-use Rattle.script_told.specs.Step.{LineAnswer, AtNode, AtTree, AtManager, HasManager, Settled, Within, Plans, PlansAs, Does, id_of}
+use Rattle.script_told.specs.Step.{LineAnswer, AtNamedNode, AtTree, AtManager, HasManager, Settled, Within, Plans, PlansAs, Does, id_of}
 use Rattle.script_told.specs.EachPlan.{IsCarriedOut}
 
 module _ (bus : Bus) (name : List ℕ) (after : Bus) (text : List ℕ) where
@@ -54,7 +54,7 @@ module _ (bus : Bus) (name : List ℕ) (after : Bus) (text : List ℕ) where
   with-tree node named (Some tree) x = with-manager node named (id_of tree node) x.0 x.2
 
   with-node : (o : Option NodeNumber) → node_named bus.notes.names name ≡ o →
-      AtNode o (λ node. Settled bus node (Asks node)) done → IsSo
+      AtNamedNode o (λ node. Settled bus node (Asks node)) done → IsSo
   with-node None e x = no-fault Kind.NoNode x
   with-node (Some node) e x = with-tree node e (tree_with node bus.notes) x
 

@@ -41,7 +41,7 @@ use Rattle.root_plan.specs.declared.choice.RootPlan.{RootPlan}
 use Rattle.script_text.specs.Plan.{IsPlan}
 use Rattle.script_text.specs.CommandText.{csr_text, grant_text, bid_text}
 use Rattle.script_told.specs.Bus.{Bus, Notes, ReportedTree, node_named, tree_with, values_at, after_access, put_look}
-use Rattle.script_told.specs.Step.{LineAnswer, AtNode, Named, AtTree, Settled, AtManager, Managed, id_of, Acts, HoldsWire, Within, Turns, Reports, DoesSettle, Accesses, DoesGrant, Looks, seen_by, Plans, GivesMaps, Does, end_of, config_of}
+use Rattle.script_told.specs.Step.{LineAnswer, AtNamedNode, Named, AtTree, Settled, AtManager, Managed, id_of, Acts, HoldsWire, Within, Turns, Reports, DoesSettle, Accesses, DoesGrant, Looks, seen_by, Plans, GivesMaps, Does, end_of, config_of}
 use Rattle.script_told.specs.SomeAnswer.{IsOfReached, IsReachedBus}
 use Rattle.script_told.specs.Script.{Draft, Stage, fresh, declaring, running, StageAnswer, bus_of, first_draft, draft_with, new_node, times_of, coins_of, with_node, onwards}
 use Rattle.script_told.specs.Bus.{bus_of_nodes}
@@ -80,7 +80,7 @@ known : (x : LineAnswer) → LeavesReached x → Leaves (λ r. r ≡ x)
 known x h r e = subst LeavesReached (sym e) h
 
 at-node : (o : Option NodeNumber) (Comes : NodeNumber → LineAnswer → Type 0) →
-    ((k : NodeNumber) → Leaves (Comes k)) → Leaves (AtNode o Comes)
+    ((k : NodeNumber) → Leaves (Comes k)) → Leaves (AtNamedNode o Comes)
 at-node None Comes some r e = known (Err Kind.NoNode) tt r e
 at-node (Some k) Comes some r e = some k r e
 
