@@ -10,6 +10,7 @@ use Rattle.self_id.specs.Node.{Node, IsNode, IsOf, is_width_of, ups}
 use Rattle.self_id.specs.Group.{group}
 use Rattle.self_id.specs.Refused.{GroupRefused}
 pub use Rattle.self_id.specs.codings.Reading.{read_at}
+use Rattle.self_id.proofs.Results.{not_both, same_fault}
 use Rattle.self_id.proofs.Taken.{refuses_end, refuses_other, refuses_owner, refuses_order}
 use Rattle.self_id.proofs.Sound.{stopped, grouped, reading, three, eleven, sixteen, nineteen, full, width_of}
 pub use Rattle.self_id.proofs.Again.{field_below, group3, group11, group16}
@@ -25,12 +26,6 @@ pub use Rattle.self_id.specs.codings.Node.{node_code}
 abbrev ok_node : Node → Result Node GroupFault
 ok_node n = Ok n
 
-abbrev read_err : GroupFault → Result Node GroupFault
-read_err f = Err f
-
-same_fault : (f g : GroupFault) → read_err f ≡ read_err g → f ≡ g
-same_fault f g e = cc
-
 single_ok : (at : ℕ) (b : Bool) (m n : Node) → cond b (Ok m) (Err (TwoParents at)) ≡ ok_node n →
     (b ≡ true) × (m ≡ n)
 single_ok at true m n e = (refl, cc)
@@ -45,7 +40,7 @@ pub group-read_at : (standard : Standard) (at id : ℕ) (l : List ℕ) (n : Node
     read_at standard at id l ≡ Ok n →
     IsNode n × IsOf standard n × (l ≡ group n id ++ drop (length (group n id)) l)
 group-read_at standard at id l n e = elim (reading standard at id l) [
-  | stopped f is why ↦ absurd (let x : ok_node n ≡ Err f = sym e ∙ is in cc)
+  | stopped f is why ↦ absurd (not_both n f (sym e ∙ is))
   | grouped m form is_of parts is ↦
       let p = single_ok at (leb (ups m.ports) 1) m n (sym is ∙ e) in
       let P : Node → Type 0 = λ (k : Node). IsNode k × IsOf standard k × (l ≡ group k id ++ drop (length (group k id)) l) in
@@ -55,7 +50,9 @@ group-read_at standard at id l n e = elim (reading standard at id l) [
 pub refused-read_at : (standard : Standard) (at id : ℕ) (l : List ℕ) (f : GroupFault) →
     0 < length l → read_at standard at id l ≡ Err f → GroupRefused standard at id l f
 refused-read_at standard at id l f some e = elim (reading standard at id l) [
-  | stopped g is why ↦ subst (λ (h : GroupFault). GroupRefused standard at id l h) (let x : Err g ≡ read_err f = sym is ∙ e in same_fault g f x) (why some)
+  | stopped g is why ↦
+      subst (λ (h : GroupFault). GroupRefused standard at id l h) (same_fault g f (sym is ∙ e))
+      (why some)
   | grouped m form is_of parts is ↦
       let p = single_err at (leb (ups m.ports) 1) m f (sym is ∙ e) in
       subst (λ (h : GroupFault). GroupRefused standard at id l h) p.1 (m, drop (length (group m id)) l, form, is_of, parts, let lt = leb-false _ _ p.0 in omega arith, refl)

@@ -3,6 +3,7 @@ pub mod Fields
 pub mod Lemmas
 pub mod Public
 pub mod Quads
+pub mod Results
 pub mod Sound
 pub mod Steps
 pub mod Summed

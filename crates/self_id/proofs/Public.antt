@@ -7,6 +7,7 @@ use Rattle.self_id.specs.Node.{Node}
 use Rattle.self_id.specs.Group.{group, BeginsWith, StandsAt}
 use Rattle.self_id.specs.Refused.{GroupRefused}
 use Rattle.self_id.specs.codings.Reading.{read_at, Gives}
+use Rattle.self_id.proofs.Results.{not_both, same_fault, same_read}
 use Rattle.self_id.proofs.Lemmas.{group-read_at, refused-read_at, read_at-group, read_at-refused}
 
 -- what was read of the list q at a place: a node, and the place after it or a fault
@@ -14,21 +15,6 @@ abbrev pub Taken : Standard → ℕ → ℕ → List ℕ → Node → Result ℕ
 Taken standard at id q n r =
     MatchResult r (λ x. Gives standard at id (drop at q) n x)
     (λ f. read_at standard at id (drop at q) ≡ Err f)
-
-abbrev ok_node : Node → Result Node GroupFault
-ok_node n = Ok n
-
-abbrev bad : GroupFault → Result Node GroupFault
-bad f = Err f
-
-same_node : (m n : Node) → ok_node m ≡ ok_node n → m ≡ n
-same_node m n e = cc
-
-same_fault : (f g : GroupFault) → bad f ≡ bad g → f ≡ g
-same_fault f g e = cc
-
-apart : (n : Node) (f : GroupFault) → ok_node n ≡ bad f → ⊥
-apart n f e = cc
 
 pub found : (standard : Standard) (at id : ℕ) (q : List ℕ) (n : Node) (r : Result ℕ GroupFault) →
     at < length q → Taken standard at id q n r → IfOk r (λ x. StandsAt standard q at id n x)
@@ -47,10 +33,10 @@ pub only : (standard : Standard) (at id : ℕ) (q : List ℕ) (m : Node) (r : Re
     id ≤ 62 → Taken standard at id q m r → (n : Node) → BeginsWith standard (drop at q) id n →
     IsOkAnd r (λ x. m ≡ n)
 only standard at id q m (Ok after) lt t n h =
-    same_node m n (sym t.read ∙ ap (read_at standard at id) h.parts
+    same_read m n (sym t.read ∙ ap (read_at standard at id) h.parts
     ∙ read_at-group standard n at id h.rest h.is_node h.is_of lt)
 only standard at id q m (Err f) lt t n h =
-    absurd (apart n f (sym (read_at-group standard n at id h.rest h.is_node h.is_of lt)
+    absurd (not_both n f (sym (read_at-group standard n at id h.rest h.is_node h.is_of lt)
     ∙ ap (read_at standard at id) (sym h.parts) ∙ t))
 
 pub refused : (standard : Standard) (at id : ℕ) (q : List ℕ) (n : Node) (r : Result ℕ GroupFault) →
@@ -64,6 +50,6 @@ pub exact : (standard : Standard) (at id : ℕ) (q : List ℕ) (n : Node) (r : R
     id ≤ 62 → Taken standard at id q n r → (f : GroupFault) →
     GroupRefused standard at id (drop at q) f → IsErrOf r f
 exact standard at id q n (Ok after) lt t f is =
-    absurd (apart n f (sym t.read ∙ read_at-refused standard at id (drop at q) f lt is))
+    absurd (not_both n f (sym t.read ∙ read_at-refused standard at id (drop at q) f lt is))
 exact standard at id q n (Err g) lt t f is =
     ap (λ (h : GroupFault). Err h) (same_fault g f (sym t ∙ read_at-refused standard at id (drop at q) f lt is))

@@ -14,6 +14,7 @@ use Rattle.self_id.specs.Node.{FitBits, status_bits}
 use Rattle.self_id.specs.Refused.{is_in_order, LeadsTo, GroupRefused}
 use Rattle.self_id.specs.codings.Reading.{taken, packet_at, zero_in, further_in}
 use Rattle.self_id.proofs.Fields.{status_bits-status_of}
+use Rattle.self_id.proofs.Results.{same_read}
 
 -- packet number j of the ID's group is at the front of a list
 pub record Found (id j : ℕ) (l : List ℕ) (p : PhyPacket) : Type 0 where
@@ -34,19 +35,13 @@ if_err : {C : Type 0} (b : Bool) (x : Result PhyPacket GroupFault) (f g : GroupF
 if_err true x f g e t u = t refl e
 if_err false x f g e t u = u refl cc
 
-abbrev ok_packet : PhyPacket → Result PhyPacket GroupFault
-ok_packet p = Ok p
-
-same_packet : (p q : PhyPacket) → ok_packet p ≡ ok_packet q → p ≡ q
-same_packet p q e = cc
-
 pub found : (at id j : ℕ) (l : List ℕ) (p : PhyPacket) → packet_at at id j l ≡ Ok p → Found id j l p
 unfolding packet_at
 found at id j [] p e = absurd cc
 found at id j (q ∷ qs) p e =
     let x = packet_of q in
     if_ok (is_self_id x) _ _ p e (λ self e1. if_ok (eqb (owner x) id) _ _ p e1 (λ own e2. if_ok (is_in_order j x) _ _ p e2 (λ order e3.
-    subst (λ (y : PhyPacket). Found id j (q ∷ qs) y) (same_packet x p e3)
+    subst (λ (y : PhyPacket). Found id j (q ∷ qs) y) (same_read x p e3)
     (record { quad = q; front = refl; shows = shows-self_id q self; self = self; own = eqb-true _ _ own; order = order }))))
 
 -- a packet that is in its place is taken

@@ -13,24 +13,13 @@ use Rattle.self_id.specs.Node.{Node, FitBits, HasForm, ups}
 use Rattle.self_id.specs.Group.{group}
 use Rattle.self_id.specs.Refused.{is_in_order}
 use Rattle.self_id.specs.codings.Reading.{packet_at, owned_at, and_then, zero_in, further_in, zero_from, further_from, node3, node11, node16, node19, node27, node_of_three, goes_past, single, read_at, Gives}
+use Rattle.self_id.proofs.Results.{not_both, same_fault, same_read}
 use Rattle.self_id.proofs.Taken.{found, ZeroSaid, zero_said, FurtherSaid, further_said}
 use Rattle.self_id.proofs.Steps.{TakenAs, whole, fault, tests}
 use Rattle.self_id.proofs.Sound.{Fits, form11, form_three, form27}
 use Rattle.self_id.proofs.Again.{turn3, turn11, turn_three, turn27, stop_second, stop_third, stop_fourth, group3, group11, group16, group19, group27}
 
 -- ---- one packet
-
-abbrev ok_part : {A : Type 0} → A → Result A GroupFault
-ok_part x = Ok x
-
-abbrev err_part : {A : Type 0} → GroupFault → Result A GroupFault
-err_part f = Err f
-
-same_part : {A : Type 0} (x y : A) → ok_part x ≡ ok_part y → x ≡ y
-same_part x y e = cc
-
-same_err : {A : Type 0} (f g : GroupFault) → err_part {A = A} f ≡ err_part g → f ≡ g
-same_err f g e = cc
 
 zero_step : (at id : ℕ) (l : List ℕ) →
     TakenAs (packet_at at id 0 l) zero_in (and_then (owned_at at id l) (zero_from at))
@@ -58,29 +47,31 @@ pub record FurtherTaken (at id n : ℕ) (l : List ℕ) (a : FurtherPart) : Type 
 pub zero_ok : (at id : ℕ) (l : List ℕ) (z : ZeroPart) →
     Ok z ≡ and_then (owned_at at id l) (zero_from at) → ZeroTaken at id l z
 zero_ok at id l z e = elim (zero_step at id l) [
-  | whole p is part ↦ record { packet = p; taken = is; part = same_part (zero_in p) z (sym part ∙ sym e) }
-  | fault f is part ↦ absurd (let x : ok_part z ≡ Err f = e ∙ part in cc)
+  | whole p is part ↦
+      record { packet = p; taken = is; part = same_read (zero_in p) z (sym part ∙ sym e) }
+  | fault f is part ↦ absurd (not_both z f (e ∙ part))
 ]
 
 pub zero_err : (at id : ℕ) (l : List ℕ) (f : GroupFault) →
     Err f ≡ and_then (owned_at at id l) (zero_from at) → packet_at at id 0 l ≡ Err f
 zero_err at id l f e = elim (zero_step at id l) [
-  | whole p is part ↦ absurd (let x : ok_part (zero_in p) ≡ Err f = sym part ∙ sym e in cc)
-  | fault g is part ↦ is ∙ ap (λ (h : GroupFault). Err h) (same_err g f (sym part ∙ sym e))
+  | whole p is part ↦ absurd (not_both (zero_in p) f (sym part ∙ sym e))
+  | fault g is part ↦ is ∙ ap (λ (h : GroupFault). Err h) (same_fault g f (sym part ∙ sym e))
 ]
 
 pub further_ok : (at id n : ℕ) (l : List ℕ) (a : FurtherPart) →
     Ok a ≡ and_then (owned_at at id l) (further_from at n) → FurtherTaken at id n l a
 further_ok at id n l a e = elim (further_step at id n l) [
-  | whole p is part ↦ record { packet = p; taken = is; part = same_part (further_in p) a (sym part ∙ sym e) }
-  | fault f is part ↦ absurd (let x : ok_part a ≡ Err f = e ∙ part in cc)
+  | whole p is part ↦
+      record { packet = p; taken = is; part = same_read (further_in p) a (sym part ∙ sym e) }
+  | fault f is part ↦ absurd (not_both a f (e ∙ part))
 ]
 
 pub further_err : (at id n : ℕ) (l : List ℕ) (f : GroupFault) →
     Err f ≡ and_then (owned_at at id l) (further_from at n) → packet_at at id (suc n) l ≡ Err f
 further_err at id n l f e = elim (further_step at id n l) [
-  | whole p is part ↦ absurd (let x : ok_part (further_in p) ≡ Err f = sym part ∙ sym e in cc)
-  | fault g is part ↦ is ∙ ap (λ (h : GroupFault). Err h) (same_err g f (sym part ∙ sym e))
+  | whole p is part ↦ absurd (not_both (further_in p) f (sym part ∙ sym e))
+  | fault g is part ↦ is ∙ ap (λ (h : GroupFault). Err h) (same_fault g f (sym part ∙ sym e))
 ]
 
 pub zero_facts : (at id : ℕ) (l : List ℕ) (z : ZeroPart) (h : ZeroTaken at id l z) →
@@ -252,8 +243,8 @@ stopped_fourth at id q z a b f t more e =
 
 -- ---- what a group that was taken gives
 
-single_is : (at : ℕ) (b : Bool) (m n : Node) → ok_part n ≡ cond b (Ok m) (Err (TwoParents at)) →
-    m ≡ n
+single_is : (at : ℕ) (b : Bool) (m n : Node) →
+    ◌≡◌ {A = Result Node GroupFault} (Ok n) (cond b (Ok m) (Err (TwoParents at))) → m ≡ n
 single_is at true m n e = cc
 single_is at false m n e = absurd cc
 

@@ -1,13 +1,8 @@
-use Rattle.std.proofs.Common.{◌≡◌, ℕ, Result, Err, ap}
+use Rattle.std.proofs.Common.{Err, ap}
 use Rattle.std.proofs.lemmas.Result.{err_from_is_err_and}
 use Rattle.self_id.specs.declared.fault.GroupFault.{GroupFault}
+use Rattle.self_id.proofs.Results.{same_fault}
 use Rattle.self_id.proofs.group.read_group_of.Goals as goal
-
-abbrev bad : GroupFault → Result ℕ GroupFault
-bad f = Err f
-
-same_fault : (f g : GroupFault) → bad f ≡ bad g → f ≡ g
-same_fault f g e = cc
 
 pub returns-in_err-after-clause-only : goal.returns-in_err-after-clause-only
 returns-in_err-after-clause-only c =
