@@ -1,8 +1,9 @@
 //! The kinds of fault that a capture can have.
 ghost use Rattle.std.specs.Prelude.{◌≡◌, ◌↔◌, Some, IfSome};
-ghost use Rattle.flawed_capture.specs.Flaw.{flaw_word, least_nodes};
+ghost use Rattle.flawed_capture.specs.Flaw.{FaultsHaveTheirKindsWord, flaw_word, least_nodes};
 ghost use Rattle.flawed_capture.specs.declared.flaw.Flaw.{Flaw};
 
+use capture_reading::CaptureFault;
 use self_id::GroupFault;
 use std::alloc::{AllocError, AllocFailed};
 use thiserror::Error;
@@ -73,6 +74,20 @@ impl From<TreeFault> for Flaw {
     }
 }
 
+impl From<CaptureFault> for Flaw {
+    ghost use Rattle.flawed_capture.specs.Flaw.{of_capture};
+
+    ghost from_gives = { λ fault flaw. flaw ≡ of_capture fault };
+
+    fn from(fault: CaptureFault) -> Flaw {
+        match fault {
+            CaptureFault::BadLength { .. } => Flaw::BadLength,
+            CaptureFault::BadInverse { .. } => Flaw::BadInverse,
+            CaptureFault::Tree(fault) => Flaw::from(fault),
+        }
+    }
+}
+
 impl Flaw {
     /// The kind that is called by this word. `None` exactly where none is.
     pub fn of_word(word: &str) -> Option<Flaw>
@@ -107,6 +122,11 @@ impl Flaw {
         }
     }
 }
+
+/// A law: each fault of a capture is named by the word of its kind.
+pub fn faults_have_their_kinds_word()
+    ensures { FaultsHaveTheirKindsWord }
+{}
 
 /// Why no capture with a flaw was made.
 #[derive(Debug, Drop, Error)]

@@ -11,7 +11,7 @@ mod made;
 mod node;
 
 pub use few::few_nodes_have_no_such_flaw;
-pub use flaw::{Flaw, FlawStop};
+pub use flaw::{Flaw, FlawStop, faults_have_their_kinds_word};
 pub use flawed::flawed_capture;
 pub use judged::flaw_of;
 pub use topology_stack::OutOfMemory;

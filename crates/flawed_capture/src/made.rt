@@ -1,16 +1,17 @@
 //! Buses that are made of a number of nodes and words.
 ghost use Rattle.std.specs.Prelude.{◌≡◌, ◌*◌, ◌<◌, ◌≤◌, ℕ, length, Err, IfOk};
+ghost use Rattle.self_id.specs.declared.standard.Standard.{Standard};
+ghost use Rattle.topology_stack.specs.Tree.{IsBusTreeOf, emits};
 ghost use Rattle.flawed_capture.specs.Spoilt.{IsListOfBus};
 
 use crate::flaw::FlawStop;
-use crate::judged::read_by;
 use crate::node::{made_group, most_slots};
 use quad_lanes::QuadList;
 use rand_core::utils::NextWord;
 use rand_pcg::Pcg32;
 use self_id::Standard;
 use std::alloc::Global;
-use topology_stack::{OutOfMemory, TreeStop};
+use topology_stack::{BusTree, OutOfMemory, TreeStop, read_tree, read_tree95};
 
 /// How the nodes of a bus are joined.
 #[derive(Clone, Copy, Debug)]
@@ -81,6 +82,16 @@ fn made_list(
         waiting = waiting + 1 - children;
     }
     Ok(list)
+}
+
+/// The bus tree of a standard that emits a list.
+fn read_by(alloc: Global, standard: Standard, quads: &[u32]) -> Result<BusTree, TreeStop>
+    ensures { IfOk result (λ t. IsBusTreeOf standard t × (emits t ≡ quads.now)) }
+{
+    match standard {
+        Standard::Ieee1995 => read_tree95(alloc, quads),
+        Standard::Ieee2000 => read_tree(alloc, quads),
+    }
 }
 
 /// The list of a bus of a standard with so many nodes, 1 to 63, which the words make.
