@@ -1,5 +1,5 @@
 -- A world by its parts: what a lawful one gives to the code, and its turn.
-use Rattle.std.proofs.Common.{◌≡◌, Bool, true, false, ℕ, ◌+◌, ◌-◌, ◌<◌, ◌≤◌, List, [], ◌∷◌, All, map, length, slice_index_or, slice_set, is_some, None, get_or, refl, sym, ◌∙◌, ap, arith, subst}
+use Rattle.std.proofs.Common.{◌≡◌, true, ℕ, ◌+◌, ◌-◌, ◌<◌, ◌≤◌, List, [], ◌∷◌, All, map, length, slice_index_or, slice_set, is_some, None, get_or, refl, sym, ◌∙◌, ap, arith, subst}
 use Rattle.std.specs.List.{AllByRecursion}
 use Rattle.std.specs.Prelude.{Vec, Result, Err}
 use Rattle.std.specs.Vec.{with_items}
@@ -33,10 +33,6 @@ use Rattle.cable_world.proofs.running.AllNodes.{turns-are}
 
 pub lawful-now : (w : CableWorld) → ∥ IsReached w ∥₁ → IsLawful w
 lawful-now w r = ∥∥₁_elim r (lawful_prop w) (reached-lawful w)
-
-pub not-spent : (spent : Bool) → (spent ≡ true → false ≡ true) → spent ≡ false
-not-spent true h = sym (h refl)
-not-spent false h = refl
 
 -- ---- what the code asks of it
 

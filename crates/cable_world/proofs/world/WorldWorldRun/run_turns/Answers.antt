@@ -1,7 +1,7 @@
 use Rattle.std.proofs.Common.{◌∙◌, refl, sym, ap, arith}
+use Rattle.std.proofs.lemmas.Bool.{false_from_ne_true, false≢true}
 use Rattle.cable_world.specs.Turn.{turn}
 use Rattle.cable_world.proofs.turns.ByNumber.{no-turns, one-more}
-use Rattle.cable_world.proofs.running.Whole.{not-spent}
 use Rattle.cable_world.proofs.world.WorldWorldRun.run_turns.Goals as goal
 
 pub turn-requires : goal.turn-requires
@@ -19,7 +19,7 @@ loop-preserved g c =
     let step = c.in_ok-turn.ensures in
     let before = c.loop.invariant in
     record {
-      good = not-spent c.turn.new.self.spent step.spent.1;
+      good = false_from_ne_true c.turn.new.self.spent (λ spent. false≢true (step.spent.1 spent));
       reached = step.done ∙ ap turn before.reached ∙ sym (one-more c.loop.counter _);
       passed = record {
         nodes = step.passed.nodes ∙ before.passed.nodes;
