@@ -37,10 +37,6 @@ use Rattle.settle.proofs.Suited.{from-there, tree-there, packet-fits, loopless-f
 
 -- ---- answers
 
-pub on-ok : {A E : Type 0} → (r : Result A E) (P : Type 0) → P → OnOk r P
-on-ok (Ok x) P p = p
-on-ok (Err e) P p = tt
-
 pub on-both : {A E : Type 0} → (r : Result A E) (P Q : Type 0) → OnOk r P → OnOk r Q →
     OnOk r (P × Q)
 on-both (Ok x) P Q p q = (p, q)

@@ -1,4 +1,5 @@
 use Rattle.std.proofs.Common.{◌≡◌, true, Some, Err, sym, ◌∙◌, subst}
+use Rattle.std.proofs.lemmas.Result.{on_ok_weaker}
 use Rattle.cable_world.specs.declared.act.Act.TheVariants.{Config}
 use Rattle.cable_world.specs.declared.act.ActStop.{ActStop}
 use Rattle.cable_world.specs.Act.{act_fault}
@@ -7,7 +8,7 @@ use Rattle.cable_world.proofs.Lemmas.{none-some, lawful-now}
 use Rattle.settle.specs.Report.{IsReport, IsAfterQuiet}
 use Rattle.settle.specs.Hops.{HopsStay}
 use Rattle.settle.proofs.Suited.{not-refused, packet-fits, has-id, its-small}
-use Rattle.settle.proofs.Carried.{on-ok, on-both, if-ok, gap-wanted, tree-from, gap-of}
+use Rattle.settle.proofs.Carried.{on-both, if-ok, gap-wanted, tree-from, gap-of}
 use Rattle.settle.proofs.carrying.settle_plan.Goals as goal
 
 pub act-requires : goal.act-requires
@@ -38,7 +39,11 @@ pub returns-in-Ok-clause-one : goal.returns-in-Ok-clause-one
 returns-in-Ok-clause-one g c =
     let w = g.W.WorldRun.world c.args.world.now in
     let l = lawful-now w (g.met.W.WorldRun.reached c.args.world.now (sym c.spent.ensures ∙ c.if-spent.false)) in
-    on-ok c.settle.result _ (has-id w l c.args.from c.args.plan.now c.requires.suits c.requires.suits.set c.requires.suits.component (its-small w l c.args.from c.args.plan.now c.requires.suits))
+    let set = c.requires.suits.set in
+    let small = its-small w l c.args.from c.args.plan.now c.requires.suits in
+    on_ok_weaker c.settle.result (λ quiet.
+    has-id w l c.args.from c.args.plan.now c.requires.suits set c.requires.suits.component small)
+    c.settle.ensures.quiet
 
 pub returns-in-Ok-clause-gaps : goal.returns-in-Ok-clause-gaps
 returns-in-Ok-clause-gaps g c =
