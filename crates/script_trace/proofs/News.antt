@@ -28,6 +28,7 @@ use Rattle.cable_world.proofs.Lemmas.{none-some, some-same, still-silent}
 use Rattle.world_agenda.specs.Alone.{TurnLeavesAlone, LeavesAloneBut}
 use Rattle.world_agenda.proofs.Lemmas.{still-turn}
 use Rattle.script_text.specs.ReportText.{Names}
+use Rattle.script_trace.proofs.Shown.{older}
 use Rattle.script_trace.specs.Event.{Seen, head, enters, state_number, state_line, timeout_line, parent_line, child_lines, coin_line, id_line, sent_line, sent_lines, all_sent_lines, lines_at, node_lines}
 use Rattle.script_trace.specs.Step.{all_lines, seen_before_turn}
 use Rattle.script_trace.specs.News.{ShowsNothingNew, IsNewWithin}
@@ -208,12 +209,9 @@ drop-old zero ts h = h
 drop-old (suc n) [] h = h
 drop-old (suc n) (t ∷ ts) h = drop-old n ts (All-tail IsOld t ts h)
 
-one-older : (n : ℕ) → (n + 1 == 0) ≡ false
-one-older n = grind (arith, nat_tests)
-
 all-older : (ts : List Travelling) → All IsOld (map age_signal ts)
 all-older [] i d h = absurd (omega (arith, h))
-all-older (t ∷ ts) zero d h = one-older t.age
+all-older (t ∷ ts) zero d h = older t.age
 all-older (t ∷ ts) (suc i) d h = all-older ts i d (omega (arith, h))
 
 -- on a wire on which nothing is sent

@@ -13,7 +13,7 @@ use Rattle.script_trace.specs.Event.{head, sent_line, sent_lines}
 use Rattle.script_trace.specs.Shown.{signal_lines, TurnsShowWhatIsSent}
 
 -- a signal that has been under way for a turn isn't shown
-older : (n : ℕ) → (n + 1 == 0) ≡ false
+pub older : (n : ℕ) → (n + 1 == 0) ≡ false
 older n = grind (arith, nat_tests)
 
 pub new-lines :

@@ -1,6 +1,5 @@
 -- Turns, one after the other, as a voice tells them.
-use Rattle.std.proofs.Common.{◌≡◌, Bool, true, false, ℕ, zero, suc, ◌+◌, ◌-◌, ◌<◌, ◌≤◌, List, [], ◌++◌, length, map, refl, sym, ◌∙◌, ap, arith}
-use Rattle.std.specs.Prelude.{Result, Ok, Err, OnOk}
+use Rattle.std.proofs.Common.{◌≡◌, ℕ, zero, suc, ◌+◌, ◌-◌, ◌<◌, ◌≤◌, List, [], ◌++◌, length, map, refl, sym, ◌∙◌, ap, arith}
 use Rattle.std.proofs.lemmas.List.{append_assoc, length-map}
 use Rattle.port_state.specs.Idle.{after_ticks}
 use Rattle.cable_world.specs.World.{CableWorld}
@@ -32,15 +31,6 @@ mute-told voice legend zero w h = refl
 mute-told voice legend (suc k) w h =
     both-none (voice.since legend (map seen_before_turn w.nodes) (turn w)) (turns_told voice legend k (turn w))
     (h legend (map seen_before_turn w.nodes) (turn w)) (mute-told voice legend k (turn w) h)
-
-pub not-spent : (spent : Bool) → (spent ≡ true → false ≡ true) → spent ≡ false
-not-spent true h = sym (h refl)
-not-spent false h = refl
-
--- what holds whatever comes
-pub always : {A E : Type 0} → (r : Result A E) (P : Type 0) → P → OnOk r P
-always (Ok x) P p = p
-always (Err e) P p = tt
 
 module _ (voice : Voice) (legend : Legend) where
   abbrev told : ℕ → CableWorld → List ℕ
