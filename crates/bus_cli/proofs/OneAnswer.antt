@@ -23,6 +23,7 @@ use Rattle.script_told.specs.Bus.{Bus}
 use Rattle.script_told.specs.Script.{ScriptResult}
 use Rattle.script_told.specs.Run.{printed, unless_stopped, IsResult}
 use Rattle.script_told.specs.OneTold.{ScriptsTellOneThing}
+use Rattle.script_told.proofs.Lemmas.{not-both, same-end, same-fault}
 use Rattle.script_bus.specs.SomeRun.{HasRun, EachScriptHasARun}
 use Rattle.script_advice.specs.Advice.{IsAdvice, EndsWithoutLoop}
 use Rattle.script_advice.specs.OneAdvice.{ScriptsHaveOneAdvice, AdvicesEndWithoutLoop}
@@ -119,24 +120,17 @@ module _ (one : HasOneReading) where
       (λ a b x y. rom_apart bytes x.0 y.0 x.1 y.1)
       (λ a b x y. x.2 ∙ ap (λ (f : RomFault). rom_line f) (rom_fault_is bytes x.0 y.0 x.1 y.1) ∙ sym y.2)
 
-  same_text : (a b : List ℕ) → ◌≡◌ {A = ScriptResult} (Ok a) (Ok b) → a ≡ b
-  same_text a b e = cc
-
   -- one telling at most is one text or one fault
   one_told : (Tells : ScriptResult → Type 0) → ((x y : ScriptResult) → Tells x → Tells y → x ≡ y) →
       (valid : List ℕ → Type 0) →
       ((a : List ℕ) → valid a → Tells (Ok a)) →
       AreOne (ValidOrRefused valid (λ text. (f : ScriptFault) × Tells (Err f) × (text ≡ script_line f)))
   one_told Tells same valid tells = one_of_two _ _
-      (λ a b x y. same_text a b (same (Ok a) (Ok b) (tells a x) (tells b y)))
-      (λ a b x y. apart a y.0 (same (Ok a) (Err y.0) (tells a x) y.1))
-      (λ a b x y. x.2 ∙ ap (λ (f : ScriptFault). script_line f) (faults x.0 y.0 (same (Err x.0) (Err y.0) x.1 y.1)) ∙ sym y.2)
-    where
-      apart : (a : List ℕ) (f : ScriptFault) → ◌≡◌ {A = ScriptResult} (Ok a) (Err f) → ⊥
-      apart a f e = absurd cc
-
-      faults : (f g : ScriptFault) → ◌≡◌ {A = ScriptResult} (Err f) (Err g) → f ≡ g
-      faults f g e = cc
+      (λ a b x y. same-end a b (same (Ok a) (Ok b) (tells a x) (tells b y)))
+      (λ a b x y. not-both a y.0 (same (Ok a) (Err y.0) (tells a x) y.1))
+      (λ a b x y.
+      x.2 ∙ ap (λ (f : ScriptFault). script_line f)
+      (same-fault x.0 y.0 (same (Err x.0) (Err y.0) x.1 y.1)) ∙ sym y.2)
 
   pub prints_told : (bytes text : List ℕ) → PrintsRun bytes text → IsResult bytes (Ok text)
   prints_told bytes text x =
@@ -156,7 +150,8 @@ module _ (one : HasOneReading) where
   one_made nodes seed s r a b x y =
       let script : List ℕ = made_script nodes seed in
       let whole : x.1.0 ≡ y.1.0 =
-      same_text x.1.0 y.1.0 (one.script script (Ok x.1.0) (Ok y.1.0) (prints_told script x.1.0 x.1.1) (prints_told script y.1.0 y.1.1)) in
+      same-end x.1.0 y.1.0 (one.script script (Ok x.1.0) (Ok y.1.0)
+      (prints_told script x.1.0 x.1.1) (prints_told script y.1.0 y.1.1)) in
       (x.0 ∙ sym y.0, x.1.2 ∙ ap (λ (t : List ℕ). summary t) whole ∙ sym y.1.2)
 
   one_form_answer : (form : Form) (bytes : List ℕ) → AreOne (AnswersForm form bytes)

@@ -20,6 +20,7 @@ use Rattle.script_run.specs.Listed.{listed_at, IsListed}
 use Rattle.script_run.specs.Viewed.{IsPictured, AreReported}
 use Rattle.script_run.specs.OneViewed.{ScriptsHaveOnePicture, PicturedScriptsAreTold, ScriptsHaveOneReporting, ReportedScriptsAreTold}
 use Rattle.script_told.specs.OneTold.{ScriptsHaveOneRun, ScriptsTellOneThing}
+use Rattle.script_told.proofs.Lemmas.{same-fault}
 use Rattle.script_trace.specs.Trace.{IsTrace}
 use Rattle.script_trace.specs.OneTrace.{ScriptsHaveOneTrace, TracedScriptsAreTold}
 use Rattle.script_trace.specs.waves.Waves.{IsWaves}
@@ -119,9 +120,6 @@ is-ok : ScriptResult → Bool
 is-ok (Ok text) = true
 is-ok (Err fault) = false
 
-same_fault : (g h : ScriptFault) → ◌≡◌ {A = ScriptResult} (Err g) (Err h) → g ≡ h
-same_fault g h e = cc
-
 -- a script with a text has no fault
 no-fault : HasOneReading → (bytes text : List ℕ) (fault : ScriptFault) → IsResult bytes (Ok text) →
     IsResult bytes (Err fault) → ⊥
@@ -141,8 +139,10 @@ same_trace one bytes s r a b (traced e x) (traced f y) =
     (e ∙ sym f, ap trace-text (one.traces bytes (Ok a) (Ok b) x y))
 same_trace one bytes s r a b (traced e x) (at_fault g f y t) = absurd (apart one bytes a g x y)
 same_trace one bytes s r a b (at_fault g e x t) (traced f y) = absurd (apart one bytes b g y x)
-same_trace one bytes s r a b (at_fault g e x t) (at_fault h f y u) =
-    (e ∙ sym f, t ∙ ap (explanation bytes) (same_fault g h (one.told bytes (Err g) (Err h) x y)) ∙ sym u)
+same_trace one bytes s r a b (at_fault g e x t) (at_fault h f y u) = (
+  e ∙ sym f,
+  t ∙ ap (explanation bytes) (same-fault g h (one.told bytes (Err g) (Err h) x y)) ∙ sym u,
+)
 
 -- ---- a script has one fault or none
 
@@ -158,7 +158,7 @@ same_explanation one bytes s r a b (has_text p e x t) (has_fault g f y u) =
 same_explanation one bytes s r a b (has_fault g e x t) (has_text p f y u) =
     absurd (listed-apart p g (one.told bytes (Ok p) (Err g) y x))
 same_explanation one bytes s r a b (has_fault g e x t) (has_fault h f y u) =
-    let same : g ≡ h = same_fault g h (one.told bytes (Err g) (Err h) x y) in
+    let same : g ≡ h = same-fault g h (one.told bytes (Err g) (Err h) x y) in
     (e ∙ sym f, one_explained (feed_lines bytes) h a b (subst (λ (k : ScriptFault). IsExplained (feed_lines bytes) k a) same t) u)
 
 -- ---- a script has one dump
@@ -175,8 +175,10 @@ same_waves one bytes s r a b (dumped e x) (dumped f y) =
     (e ∙ sym f, ap trace-text (one.dumps bytes (Ok a) (Ok b) x y))
 same_waves one bytes s r a b (dumped e x) (not_dumped g f y t) = absurd (dump-apart one bytes a g x y)
 same_waves one bytes s r a b (not_dumped g e x t) (dumped f y) = absurd (dump-apart one bytes b g y x)
-same_waves one bytes s r a b (not_dumped g e x t) (not_dumped h f y u) =
-    (e ∙ sym f, t ∙ ap (explanation bytes) (same_fault g h (one.told bytes (Err g) (Err h) x y)) ∙ sym u)
+same_waves one bytes s r a b (not_dumped g e x t) (not_dumped h f y u) = (
+  e ∙ sym f,
+  t ∙ ap (explanation bytes) (same-fault g h (one.told bytes (Err g) (Err h) x y)) ∙ sym u,
+)
 
 -- ---- a script has one graph
 
@@ -192,8 +194,10 @@ same_graph one bytes s r a b (pictured e x) (pictured f y) =
     (e ∙ sym f, ap trace-text (one.pictures bytes (Ok a) (Ok b) x y))
 same_graph one bytes s r a b (pictured e x) (not_pictured g f y t) = absurd (graph-apart one bytes a g x y)
 same_graph one bytes s r a b (not_pictured g e x t) (pictured f y) = absurd (graph-apart one bytes b g y x)
-same_graph one bytes s r a b (not_pictured g e x t) (not_pictured h f y u) =
-    (e ∙ sym f, t ∙ ap (explanation bytes) (same_fault g h (one.told bytes (Err g) (Err h) x y)) ∙ sym u)
+same_graph one bytes s r a b (not_pictured g e x t) (not_pictured h f y u) = (
+  e ∙ sym f,
+  t ∙ ap (explanation bytes) (same-fault g h (one.told bytes (Err g) (Err h) x y)) ∙ sym u,
+)
 
 -- ---- a script has one list of reports
 
@@ -210,7 +214,7 @@ same_reports one bytes s r a b (reported e x) (reported f y) =
 same_reports one bytes s r a b (reported e x) (not_reported g f y t) = absurd (reports-apart one bytes a g x y)
 same_reports one bytes s r a b (not_reported g e x t) (reported f y) = absurd (reports-apart one bytes b g y x)
 same_reports one bytes s r a b (not_reported g e x t) (not_reported h f y u) =
-    let same : g ≡ h = same_fault g h (one.told bytes (Err g) (Err h) x y) in
+    let same : g ≡ h = same-fault g h (one.told bytes (Err g) (Err h) x y) in
     (e ∙ sym f, t ∙ ap (λ (k : ScriptFault). json_line (line_refusal_value k.line (kind_word k.kind))) same ∙ sym u)
 
 -- ---- a script lists one thing of a node
@@ -232,8 +236,10 @@ same_list one name bytes s r a b (has_list l e x t) (has_none g f y u) =
     absurd (listed-apart l g (one_listed one bytes name (Ok l) (Err g) x y))
 same_list one name bytes s r a b (has_none g e x t) (has_list l f y u) =
     absurd (listed-apart l g (one_listed one bytes name (Ok l) (Err g) y x))
-same_list one name bytes s r a b (has_none g e x t) (has_none h f y u) =
-    (e ∙ sym f, t ∙ ap script_line (same_fault g h (one_listed one bytes name (Err g) (Err h) x y)) ∙ sym u)
+same_list one name bytes s r a b (has_none g e x t) (has_none h f y u) = (
+  e ∙ sym f,
+  t ∙ ap script_line (same-fault g h (one_listed one bytes name (Err g) (Err h) x y)) ∙ sym u,
+)
 
 same_view : HasOneReading → (form : ViewForm) (bytes : List ℕ) (s r : ℕ) (a b : List ℕ) →
     IsView form bytes s a → IsView form bytes r b → (s ≡ r) × (a ≡ b)

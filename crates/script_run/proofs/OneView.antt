@@ -15,22 +15,11 @@ use Rattle.script_told.specs.Script.{Stage, ScriptResult, bus_of}
 use Rattle.script_told.specs.Run.{Entry, ScriptRun, printed, unless_stopped}
 use Rattle.script_told.specs.OneTold.{ScriptsHaveOneRun}
 use Rattle.script_told.specs.EachReport.{DoesReport, IsReportedAt, ReportsAreSettled}
-use Rattle.script_told.proofs.Lemmas.{IsDone, IsEnd, IsSound, each-done}
+use Rattle.script_told.proofs.Lemmas.{IsDone, IsEnd, IsSound, each-done, not-both, same-end, same-fault}
 use Rattle.script_bus.specs.Viewed.{IsGraphOf, IsLineOf}
 use Rattle.script_run.specs.Viewed.{IsPictureOf, IsLineAfter, AreLines, AreLinesOf}
 use Rattle.script_run.specs.OneViewed.{ScriptsHaveOnePicture, PicturedScriptsAreTold, PictureFaultsAreTold, HasPicture, RunsHavePictures, ScriptsHaveOneReporting, ReportedScriptsAreTold, ReportingFaultsAreTold, HasReporting, RunsHaveReportings}
 use Rattle.script_run.proofs.NamedEnd.{named-end}
-
--- ---- a run has one end
-
-same-bus : (a b : Bus) → ◌≡◌ {A = Result Bus ScriptFault} (Ok a) (Ok b) → a ≡ b
-same-bus a b e = cc
-
-same-fault : (a b : ScriptFault) → ◌≡◌ {A = Result Bus ScriptFault} (Err a) (Err b) → a ≡ b
-same-fault a b e = cc
-
-not-both : (run : ScriptRun) (bus : Bus) (fault : ScriptFault) → run.end ≡ Ok bus → run.end ≡ Err fault → ⊥
-not-both run bus fault is also = absurd cc
 
 -- ---- the last report of a bus
 
@@ -70,10 +59,10 @@ same-picture : ReportsHaveOneGraph → (run : ScriptRun) (one other : ScriptResu
     IsPictureOf run one →
     IsPictureOf run other → one ≡ other
 same-picture one run (Ok a) (Ok b) x y =
-    let bus = same-bus y.0 x.0 (sym y.1 ∙ x.1) in
+    let bus = same-end y.0 x.0 (sym y.1 ∙ x.1) in
     ap Ok (one-graph one x.0 a b x.2 (subst (λ (v : Bus). IsGraphOf v b) bus y.2))
-same-picture one run (Ok a) (Err g) x y = absurd (not-both run x.0 g x.1 y)
-same-picture one run (Err f) (Ok b) x y = absurd (not-both run y.0 f y.1 x)
+same-picture one run (Ok a) (Err g) x y = absurd (not-both x.0 g (sym x.1 ∙ y))
+same-picture one run (Err f) (Ok b) x y = absurd (not-both y.0 f (sym y.1 ∙ x))
 same-picture one run (Err f) (Err g) x y = ap Err (same-fault f g (sym x ∙ y))
 
 pub one-picture : ScriptsHaveOneRun → ReportsHaveOneGraph → ScriptsHaveOnePicture
@@ -148,8 +137,8 @@ same-reporting : ReportsHaveOneLine → (run : ScriptRun) (one other : ScriptRes
     AreLinesOf run one →
     AreLinesOf run other → one ≡ other
 same-reporting one run (Ok a) (Ok b) x y = ap Ok (same-lines one run.entries a b x.2 y.2)
-same-reporting one run (Ok a) (Err g) x y = absurd (not-both run x.0 g x.1 y)
-same-reporting one run (Err f) (Ok b) x y = absurd (not-both run y.0 f y.1 x)
+same-reporting one run (Ok a) (Err g) x y = absurd (not-both x.0 g (sym x.1 ∙ y))
+same-reporting one run (Err f) (Ok b) x y = absurd (not-both y.0 f (sym y.1 ∙ x))
 same-reporting one run (Err f) (Err g) x y = ap Err (same-fault f g (sym x ∙ y))
 
 pub one-reporting : ScriptsHaveOneRun → ReportsHaveOneLine → ScriptsHaveOneReporting

@@ -13,6 +13,7 @@ use Rattle.script_told.specs.Step.{DoesSettle}
 use Rattle.script_told.specs.Script.{Stage, ScriptResult, fresh, running, bus_of, script_lines}
 use Rattle.script_told.specs.Run.{Entry, ScriptRun, IsRun, RunsFrom, done, behind, last_run}
 use Rattle.script_told.specs.OneTold.{ScriptsHaveOneRun}
+use Rattle.script_told.proofs.Lemmas.{same-fault}
 use Rattle.script_bus.specs.Viewed.{IsGraphOf, IsLineOf, IsReadLineOf}
 use Rattle.script_run.specs.Answered.{IsRefused, IsOnlyFault}
 use Rattle.script_run.specs.Viewed.{IsPictured, IsLineAfter, AreLines, AreReported, IsReadAfter, AreReadLines, AreReadBack, prints_report}
@@ -135,20 +136,13 @@ ends-so : ScriptsHaveOneRun → (bytes : List ℕ) (fault : ScriptFault) (end : 
 ends-so one bytes fault end run (other, is, told) too at =
     sym at ∙ ap (λ (r : ScriptRun). r.end) (one bytes run other too is) ∙ end-is other fault other.end refl told
 
-same-fault : (a b : ScriptFault) → ◌≡◌ {A = Result Bus ScriptFault} (Err a) (Err b) →
-    ◌≡◌ {A = ScriptResult} (Err a) (Err b)
-same-fault a b e = ap Err (inside e)
-  where
-    inside : ◌≡◌ {A = Result Bus ScriptFault} (Err a) (Err b) → a ≡ b
-    inside e = cc
-
 pub only-picture : ScriptsHaveOneRun → (bytes : List ℕ) (r : ScriptStop) → IsRefused bytes r →
     (told : ScriptResult) → IsPictured bytes told → IsOnlyFault told r
 only-picture one bytes (script.Memory e) h told is = tt
 only-picture one bytes (script.Fault fault) h (Ok text) (run, is, ends) =
     absurd (let e = ends-so one bytes fault (Ok ends.0) run h is ends.1 in cc)
 only-picture one bytes (script.Fault fault) h (Err other) (run, is, ends) =
-    same-fault other fault (ends-so one bytes fault (Err other) run h is ends)
+    ap Err (same-fault other fault (ends-so one bytes fault (Err other) run h is ends))
 
 pub only-lines : ScriptsHaveOneRun → (bytes : List ℕ) (r : ScriptStop) → IsRefused bytes r →
     (told : ScriptResult) → AreReported bytes told → IsOnlyFault told r
@@ -156,7 +150,7 @@ only-lines one bytes (script.Memory e) h told is = tt
 only-lines one bytes (script.Fault fault) h (Ok text) (run, is, ends) =
     absurd (let e = ends-so one bytes fault (Ok ends.0) run h is ends.1 in cc)
 only-lines one bytes (script.Fault fault) h (Err other) (run, is, ends) =
-    same-fault other fault (ends-so one bytes fault (Err other) run h is ends)
+    ap Err (same-fault other fault (ends-so one bytes fault (Err other) run h is ends))
 
 -- ---- a command that is done
 

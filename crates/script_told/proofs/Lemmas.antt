@@ -18,6 +18,8 @@ pub use Rattle.script_told.proofs.told.EachReport.{Says, is-none, settled-so, se
 pub use Rattle.script_told.proofs.told.Lines.{cabled, one-run, one-told, says}
 -- The parts of answers.
 pub use Rattle.script_told.proofs.told.Parts.{printed-in, stage-in, text-in}
+-- How runs and their results end: well or with a fault, and in one way.
+pub use Rattle.script_told.proofs.told.Ends.{not-both, same-end, same-fault}
 -- The events of each command.
 pub use Rattle.script_told.proofs.told.EntryRuns.{scripts-are-runs, runs-on}
 -- A tree of a report stands in its text.

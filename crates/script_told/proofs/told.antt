@@ -5,8 +5,9 @@
 -- `Lines`: what follows at a stage, and that lines have one run. `EachDone`: what holds of each command
 -- of a run. `EachReport`: what reports say. `ReachedRuns`: the worlds of a run. `Answers`:
 -- a fact of each answer. `EntryRuns`: the events of each command. `PrintedTree`: a
--- tree in what was printed. `PlanCarried`: what stands behind a plan.
+-- tree in what was printed. `PlanCarried`: what stands behind a plan. `Ends`: runs end in one way.
 pub mod Parts
+pub mod Ends
 pub mod Cables
 pub mod Commands
 pub mod Fitting

@@ -15,7 +15,7 @@ use Rattle.script_told.specs.Step.{LineAnswer, CarriesOut, Does}
 use Rattle.script_told.specs.Script.{Stage, fresh, declaring, running, DoesOnBus, DoesAtStage, onwards, ScriptResult, bus_of}
 use Rattle.script_told.specs.Run.{Entry, ScriptRun, printed, unless_stopped}
 use Rattle.script_told.specs.EachPlan.{IsCarriedOut}
-use Rattle.script_told.proofs.Lemmas.{stage-in, IsCabled, same-plan, same-sent, IsSound, cabled, one-run, IsDone, each-done, plan-carried}
+use Rattle.script_told.proofs.Lemmas.{stage-in, IsCabled, same-plan, same-sent, IsSound, cabled, one-run, IsDone, each-done, plan-carried, not-both, same-fault}
 use Rattle.script_trace.specs.Voice.{Voice, legend_of}
 use Rattle.script_trace.specs.Trace.{act_trace, quiet_trace, TracesPlan, Traces, TracesAt, AllTrace, IsTraceOf, trace_voice}
 use Rattle.script_trace.specs.OneTelling.{RunsAreToldOnce, RunsAreTold}
@@ -81,13 +81,6 @@ one-trace-of trees v (e ∷ entries) xs ys h x y =
     let one = one-at trees v e.before e.command e.after x.0 y.0 sound x.2 y.2 in
     let more = one-trace-of trees v entries x.1 y.1 (All-tail IsDone e entries h) x.3 y.3 in
     x.4 ∙ ap (λ (l : List ℕ). l ++ x.1) one ∙ ap (λ (l : List ℕ). y.0 ++ l) more ∙ sym y.4
-
--- an end is a bus or a fault, and not both
-pub not-both : (bus : Bus) (fault : ScriptFault) → Ok bus ≡ Err fault → ⊥
-not-both bus fault e = absurd cc
-
-pub same-fault : (a b : ScriptFault) → ◌≡◌ {A = Result Bus ScriptFault} (Err a) (Err b) → a ≡ b
-same-fault a b e = cc
 
 same-told :
     NoListHasTwoTrees → (run : ScriptRun) (one other : ScriptResult) → All IsDone run.entries →

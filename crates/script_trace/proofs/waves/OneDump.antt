@@ -6,8 +6,8 @@ use Rattle.script_told.specs.Bus.{Bus}
 use Rattle.script_told.specs.Script.{ScriptResult}
 use Rattle.script_told.specs.Run.{ScriptRun, IsRun, printed, unless_stopped}
 use Rattle.script_told.specs.OneTold.{ScriptsHaveOneRun}
+use Rattle.script_told.proofs.Lemmas.{not-both, same-end, same-fault}
 use Rattle.script_trace.specs.OneTelling.{RunsAreToldOnce, RunsAreTold}
-use Rattle.script_trace.proofs.OneTrace.{not-both, same-fault}
 use Rattle.script_trace.specs.waves.Moment.{waves_voice}
 use Rattle.script_trace.specs.Voice.{legend_of}
 use Rattle.script_trace.specs.waves.Head.{head}
@@ -15,10 +15,7 @@ use Rattle.script_trace.specs.waves.Waves.{IsWavesOf}
 use Rattle.script_trace.specs.waves.OneDump.{ScriptsHaveOneDump, DumpedScriptsAreTold, DumpFaultsAreTold, HasDump, RunsHaveDumps}
 
 one-end : (run : ScriptRun) (bus other : Bus) → run.end ≡ Ok bus → run.end ≡ Ok other → bus ≡ other
-one-end run bus other is also = same (sym is ∙ also)
-  where
-    same : ◌≡◌ {A = Result Bus ScriptFault} (Ok bus) (Ok other) → bus ≡ other
-    same e = cc
+one-end run bus other is also = same-end bus other (sym is ∙ also)
 
 same-dump :
     RunsAreToldOnce → (bytes : List ℕ) (run : ScriptRun) (one other : ScriptResult) →
