@@ -1,8 +1,9 @@
 -- Words are those of one form at most.
-use Rattle.std.proofs.Common.{cond, Option, Some, None, ◌⊎◌, inl, inr, Bool, true, false, eqb, ◌≡◌, ◌≤◌, ℕ, List, [], ◌∷◌, refl, sym, ap, subst, ◌∙◌, arith}
+use Rattle.std.proofs.Common.{cond, Option, Some, None, ◌⊎◌, inl, inr, Bool, true, false, ◌≡◌, ◌≤◌, ℕ, List, [], ◌∷◌, refl, sym, ap, subst, ◌∙◌, arith}
 use Rattle.std.specs.Prelude.{String, map, string_bytes, codes, nat_lt}
-use Rattle.std.proofs.lemmas.Bool.{eqb-true, eq-eqb}
 use Rattle.std.proofs.lemmas.Bool.Decides.{nat_tests}
+use Rattle.std.proofs.lemmas.Slice.Eq.{bytes_eq-Decides}
+use Rattle.std.specs.Str.{bytes_eq}
 use Rattle.std.specs.Global.{Global}
 use Rattle.about.specs.declared.asked.About.TheVariants.{Help, Version}
 use Rattle.script_lines.specs.Number.{number_of}
@@ -10,27 +11,21 @@ use Rattle.bus_cli.specs.declared.form.Form.{Form}
 use Rattle.bus_cli.specs.declared.form.Form.TheVariants.{Capture, Rom, Run, Advice, Make, OfItself}
 use Rattle.bus_cli.specs.declared.form.CaptureForm.TheVariants.{Read, Read95, Maps}
 use Rattle.bus_cli.specs.Form.{AreWordsOf, AreMakeWords, Asks, IsForm}
-use Rattle.top_call.proofs.Lemmas.{both_true}
+use Rattle.bus_cli.specs.codings.Reading.{AsksFewNodes}
 
 -- ---- the form of words, found by trying them all
 
-same : List ℕ → List ℕ → Bool
-same [] [] = true
-same [] (y ∷ ys) = false
-same (x ∷ xs) [] = false
-same (x ∷ xs) (y ∷ ys) = cond (eqb x y) (same xs ys) false
-
 abbrev of_word : List ℕ → Option Form
 of_word word =
-    cond (same word (codes "read")) (Some (Capture Read))
-    (cond (same word (codes "read95")) (Some (Capture Read95))
-    (cond (same word (codes "maps")) (Some (Capture Maps))
-    (cond (same word (codes "rom")) (Some Rom)
-    (cond (same word (codes "run")) (Some Run)
-    (cond (same word (codes "advice")) (Some Advice)
-    (cond (same word (codes "--help")) (Some (OfItself Help))
-    (cond (same word (codes "-h")) (Some (OfItself Help))
-    (cond (same word (codes "--version")) (Some (OfItself Version)) None))))))))
+    cond (bytes_eq word (codes "read")) (Some (Capture Read))
+    (cond (bytes_eq word (codes "read95")) (Some (Capture Read95))
+    (cond (bytes_eq word (codes "maps")) (Some (Capture Maps))
+    (cond (bytes_eq word (codes "rom")) (Some Rom)
+    (cond (bytes_eq word (codes "run")) (Some Run)
+    (cond (bytes_eq word (codes "advice")) (Some Advice)
+    (cond (bytes_eq word (codes "--help")) (Some (OfItself Help))
+    (cond (bytes_eq word (codes "-h")) (Some (OfItself Help))
+    (cond (bytes_eq word (codes "--version")) (Some (OfItself Version)) None))))))))
 
 of_make : Option ℕ → Option ℕ → Option Form
 of_make (Some nodes) (Some seed) = Some (Make nodes seed)
@@ -42,23 +37,13 @@ form_of (word ∷ []) = of_word word
 form_of (word ∷ next ∷ []) = None
 form_of (word ∷ nodes ∷ seed ∷ words) = of_make (number_of nodes) (number_of seed)
 
-same-true : (xs ys : List ℕ) → same xs ys ≡ true → xs ≡ ys
-unfolding same
-same-true [] [] e = refl
-same-true [] (y ∷ ys) e = absurd cc
-same-true (x ∷ xs) [] e = absurd cc
-same-true (x ∷ xs) (y ∷ ys) e =
-    let p = both_true _ _ e in
-    let head : x ≡ y = eqb-true x y p.0 in
-    rw (head, same-true xs ys p.1) refl
-
 from_numbers : (a b : Option ℕ) (nodes seed : ℕ) → a ≡ Some nodes → b ≡ Some seed →
     of_make a b ≡ Some (Make nodes seed)
 unfolding of_make
 from_numbers a b nodes seed x y = rw (x, y) refl
 
 is_found : (form : Form) (words : List (List ℕ)) → AreWordsOf form words → form_of words ≡ Some form
-unfolding same form_of
+unfolding form_of
 is_found (Capture Read) words e = ap (λ (ws : List (List ℕ)). form_of ws) e
 is_found (Capture Read95) words e = ap (λ (ws : List (List ℕ)). form_of ws) e
 is_found (Capture Maps) words e = ap (λ (ws : List (List ℕ)). form_of ws) e
@@ -80,14 +65,6 @@ pub one_form : (words : List (String Global)) (a b : Form) → Asks words a → 
 one_form words a b x y =
     same_form a b (form_of (map string_bytes words)) (is_found a (map string_bytes words) x) (is_found b (map string_bytes words) y)
 
-same-itself : (zs : List ℕ) → same zs zs ≡ true
-unfolding same
-same-itself [] = refl
-same-itself (z ∷ zs) = rw (eq-eqb z z refl, same-itself zs) refl
-
-same-is : (xs ys : List ℕ) → xs ≡ ys → same xs ys ≡ true
-same-is xs ys e = subst (λ (zs : List ℕ). same xs zs ≡ true) e (same-itself xs)
-
 -- ---- the word of each form
 
 abbrev IsWordOf : List ℕ → Form → Type 0
@@ -100,8 +77,8 @@ tried : (test : Bool) (word : List ℕ) (first form : Form) (rest : Option Form)
 tried true word first form rest is go e = let f : first ≡ form = cc in subst (λ (g : Form). IsWordOf word g) f (is refl)
 tried false word first form rest is go e = go e
 
-alone : (word wanted : List ℕ) → same word wanted ≡ true → word ∷ [] ≡ wanted ∷ []
-alone word wanted e = ap (λ (w : List ℕ). w ∷ []) (same-true word wanted e)
+alone : (word wanted : List ℕ) → bytes_eq word wanted ≡ true → word ∷ [] ≡ wanted ∷ []
+alone word wanted e = ap (λ (w : List ℕ). w ∷ []) ((bytes_eq-Decides word wanted).0 e)
 
 is_word_of : (word : List ℕ) (form : Form) → of_word word ≡ Some form → IsWordOf word form
 is_word_of word form =
@@ -181,9 +158,13 @@ parts_of a b c words m = split a b c words m.2.nodes_word m.2.seed_word m.2.word
     split a b c words n s e = (cc, cc, cc, cc)
 
 three_words : (a b c : List ℕ) → AreMake (a ∷ b ∷ c ∷ []) ⊎ (AreMake (a ∷ b ∷ c ∷ []) → ⊥)
-three_words a b c = by (same a (codes "make")) refl (nodes_word b (number_of b) refl) (seed_word c (number_of c) refl)
+three_words a b c =
+    by (bytes_eq a (codes "make")) refl (nodes_word b (number_of b) refl)
+    (seed_word c (number_of c) refl)
   where
-    by : (t : Bool) → same a (codes "make") ≡ t → ((n : ℕ) × (number_of b ≡ Some n) × (1 ≤ n) × (n ≤ 63)) ⊎ ((n : ℕ) → number_of b ≡ Some n → 1 ≤ n → n ≤ 63 → ⊥) →
+    by : (t : Bool) → bytes_eq a (codes "make") ≡ t →
+        ((n : ℕ) × (number_of b ≡ Some n) × (1 ≤ n) × (n ≤ 63)) ⊎
+        ((n : ℕ) → number_of b ≡ Some n → 1 ≤ n → n ≤ 63 → ⊥) →
         ((n : ℕ) × (number_of c ≡ Some n)) ⊎ ((n : ℕ) → number_of c ≡ Some n → ⊥) → AreMake (a ∷ b ∷ c ∷ []) ⊎ (AreMake (a ∷ b ∷ c ∷ []) → ⊥)
     by true e (inl n) (inl s) = inl (
       n.0,
@@ -191,7 +172,7 @@ three_words a b c = by (same a (codes "make")) refl (nodes_word b (number_of b) 
       record {
         nodes_word = b;
         seed_word = c;
-        words_are = ap (λ (w : List ℕ). w ∷ b ∷ c ∷ []) (same-true a (codes "make") e);
+        words_are = ap (λ (w : List ℕ). w ∷ b ∷ c ∷ []) ((bytes_eq-Decides a (codes "make")).0 e);
         nodes_are = n.1;
         some_nodes = n.2;
         few_nodes = n.3;
@@ -200,9 +181,10 @@ three_words a b c = by (same a (codes "make")) refl (nodes_word b (number_of b) 
     )
     by true e (inl n) (inr none) = inr (λ m. none m.1 (subst (λ (w : List ℕ). number_of w ≡ Some m.1) (parts_of a b c [] m).2 m.2.seed_is))
     by true e (inr none) s = inr (λ m. none m.0 (subst (λ (w : List ℕ). number_of w ≡ Some m.0) (parts_of a b c [] m).1 m.2.nodes_are) m.2.some_nodes m.2.few_nodes)
-    by false e n s = inr (λ m. let h = same-is a (codes "make") (parts_of a b c [] m).0 in apart h)
+    by false e n s =
+        inr (λ m. apart ((bytes_eq-Decides a (codes "make")).1 (parts_of a b c [] m).0))
       where
-        apart : same a (codes "make") ≡ true → ⊥
+        apart : bytes_eq a (codes "make") ≡ true → ⊥
         apart h = cc
 
 make_or_none : (words : List (List ℕ)) → AreMake words ⊎ (AreMake words → ⊥)
@@ -224,3 +206,12 @@ are_form (a ∷ b ∷ c ∷ words) (inr none) = inr (λ is. only_make a b c word
 -- words are those of a form, or of none
 pub form_or_none : (words : List (String Global)) → IsForm words ⊎ (IsForm words → ⊥)
 form_or_none words = are_form (map string_bytes words) (make_or_none (map string_bytes words))
+
+-- with the words of `make` there are 1 to 63 nodes
+pub few_nodes : (words : List (String Global)) (form : Form) → Asks words form → AsksFewNodes form
+few_nodes words (Capture form) asks = tt
+few_nodes words Rom asks = tt
+few_nodes words Run asks = tt
+few_nodes words Advice asks = tt
+few_nodes words (Make nodes seed) asks = (asks.some_nodes, asks.few_nodes)
+few_nodes words (OfItself about) asks = tt

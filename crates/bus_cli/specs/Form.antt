@@ -1,11 +1,11 @@
 -- The words that the program is asked with.
-use Rattle.std.specs.Prelude.{◌≡◌, ◌⊎◌, ℕ, ◌≤◌, List, [], ◌∷◌, map, codes, string_bytes, String, Some}
+use Rattle.std.specs.Prelude.{◌≡◌, ℕ, ◌≤◌, List, [], ◌∷◌, map, codes, string_bytes, String, Some}
 use Rattle.std.specs.Global.{Global}
 use Rattle.self_id.specs.declared.standard.Standard.{Standard}
 use Rattle.self_id.specs.declared.standard.Standard.TheVariants.{Ieee1995, Ieee2000}
-use Rattle.about.specs.declared.asked.About.{About}
 use Rattle.about.specs.Asked.{AreWordsFor}
 use Rattle.script_lines.specs.Number.{number_of}
+use Rattle.top_call.specs.Asked.{AsksUnread}
 use Rattle.bus_cli.specs.declared.form.Form.{Form}
 use Rattle.bus_cli.specs.declared.form.Form.TheVariants.{Capture, Rom, Run, Advice, Make, OfItself}
 use Rattle.bus_cli.specs.declared.form.CaptureForm.{CaptureForm}
@@ -46,14 +46,12 @@ Asks words form = AreWordsOf form (map string_bytes words)
 abbrev pub IsForm : List (String Global) → Type 0
 IsForm words = (form : Form) × Asks words form
 
--- the words ask for the script of some nodes and seed to be made
-abbrev pub AsksMake : List (String Global) → Type 0
-AsksMake words = (nodes : ℕ) × (seed : ℕ) × Asks words (Make nodes seed)
-
--- the words ask for the program's help or its version
-abbrev pub AsksOfItself : List (String Global) → Type 0
-AsksOfItself words = (about : About) × Asks words (OfItself about)
+-- nothing is read with this form
+abbrev pub IsUnread : Form → Type 0
+IsUnread (Make nodes seed) = Unit {0}
+IsUnread (OfItself about) = Unit {0}
+IsUnread form = ⊥
 
 -- with these words nothing is read
 abbrev pub AsksNoInput : List (String Global) → Type 0
-AsksNoInput words = AsksMake words ⊎ AsksOfItself words
+AsksNoInput words = AsksUnread (Asks words) IsUnread

@@ -1,7 +1,7 @@
 //! What the program can be asked for, and how it answers.
-ghost use Rattle.bus_cli.specs.Form.{Asks};
+ghost use Rattle.bus_cli.specs.Form.{Asks, IsUnread};
 ghost use Rattle.bus_cli.specs.Answer.{AnswersForm};
-ghost use Rattle.bus_cli.specs.codings.Reading.{AsksFewNodes, IsUnread, WantsMemory};
+ghost use Rattle.bus_cli.specs.codings.Reading.{AsksFewNodes, WantsMemory};
 ghost use Rattle.bus_cli.specs.codings.Asked.{few_status, unread_alone, unread_status};
 
 use crate::answer::{Answer, answer_of_itself, answer_to};

@@ -1,6 +1,7 @@
 -- Words are those of one form at most.
-use Rattle.std.proofs.Common.{◌≡◌, ◌≤◌, ◌⊎◌, inl, inr, ℕ, Bool, true, false, cond, eqb, Option, Some, None, List, [], ◌∷◌, refl, ap, subst, ◌∙◌, arith}
+use Rattle.std.proofs.Common.{◌≡◌, ◌≤◌, ◌⊎◌, inl, inr, ℕ, Bool, true, false, cond, Option, Some, None, List, [], ◌∷◌, refl, ap, subst, ◌∙◌, arith}
 use Rattle.std.specs.Prelude.{String, map, string_bytes, codes, nat_lt}
+use Rattle.std.specs.Str.{bytes_eq}
 use Rattle.std.specs.Global.{Global}
 use Rattle.about.specs.declared.asked.About.TheVariants.{Help, Version}
 use Rattle.self_id.specs.declared.standard.Standard.{Standard}
@@ -14,30 +15,12 @@ use Rattle.bus_view.specs.declared.form.ViewForm.{ViewForm}
 use Rattle.bus_view.specs.declared.form.ViewForm.TheVariants.{Capture, Trace, Waves, DotRun, JsonRun, Script, ListOf, Explain, Resets, Nosy, OfItself}
 use Rattle.script_lines.specs.Name.{is_name}
 use Rattle.script_lines.specs.Number.{number_of}
-use Rattle.bus_view.specs.Form.{standard_words, AreWordsOf, Asks, AsksLog, AsksNoInput, IsForm}
-use Rattle.bus_view.specs.codings.Reading.{IsUnread, IsHeld}
-use Rattle.top_call.specs.Asked.{AsksUnread}
-use Rattle.std.proofs.lemmas.Bool.{eqb-true}
+use Rattle.bus_view.specs.Form.{standard_words, AreWordsOf, Asks, AsksLog, AsksNoInput, IsForm, IsUnread}
+use Rattle.bus_view.specs.codings.Reading.{IsHeld}
 use Rattle.std.proofs.lemmas.Bool.Decides.{nat_tests}
-use Rattle.top_call.proofs.Lemmas.{both_true}
+use Rattle.std.proofs.lemmas.Slice.Eq.{bytes_eq-Decides}
 
 -- ---- the form of words, found by trying them all
-
-same : List ℕ → List ℕ → Bool
-same [] [] = true
-same [] (y ∷ ys) = false
-same (x ∷ xs) [] = false
-same (x ∷ xs) (y ∷ ys) = cond (eqb x y) (same xs ys) false
-
-same-true : (xs ys : List ℕ) → same xs ys ≡ true → xs ≡ ys
-unfolding same
-same-true [] [] e = refl
-same-true [] (y ∷ ys) e = absurd cc
-same-true (x ∷ xs) [] e = absurd cc
-same-true (x ∷ xs) (y ∷ ys) e =
-    let p = both_true _ _ e in
-    let head : x ≡ y = eqb-true x y p.0 in
-    rw (head, same-true xs ys p.1) refl
 
 -- 1 to 63 nodes, and a seed
 abbrev ranged : Bool → Bool → ℕ → ℕ → Option ViewForm
@@ -55,10 +38,10 @@ view_word Json = codes "json"
 
 abbrev view_of : List ℕ → Option CaptureView
 view_of word =
-    cond (same word (codes "packets")) (Some Packets)
-    (cond (same word (codes "tree")) (Some Tree)
-    (cond (same word (codes "dot")) (Some Dot)
-    (cond (same word (codes "json")) (Some Json) None)))
+    cond (bytes_eq word (codes "packets")) (Some Packets)
+    (cond (bytes_eq word (codes "tree")) (Some Tree)
+    (cond (bytes_eq word (codes "dot")) (Some Dot)
+    (cond (bytes_eq word (codes "json")) (Some Json) None)))
 
 capture_of : Option CaptureView → Standard → Option ViewForm
 capture_of None standard = None
@@ -71,28 +54,30 @@ named test name = cond test (Some (ListOf name)) None
 -- a log or a dump in a form, or something else
 abbrev log_of : List ℕ → LogForm → Option ViewForm → Option ViewForm
 log_of word form rest =
-    cond (same word (codes "resets")) (Some (Resets form))
-    (cond (same word (codes "nosy")) (Some (Nosy form)) rest)
+    cond (bytes_eq word (codes "resets")) (Some (Resets form))
+    (cond (bytes_eq word (codes "nosy")) (Some (Nosy form)) rest)
 
 form_of : List (List ℕ) → Option ViewForm
 form_of [] = None
 form_of (word ∷ []) =
-    cond (same word (codes "trace")) (Some Trace)
-    (cond (same word (codes "waves")) (Some Waves)
-    (cond (same word (codes "dot-run")) (Some DotRun)
-    (cond (same word (codes "json-run")) (Some JsonRun)
-    (cond (same word (codes "explain")) (Some Explain)
-    (cond (same word (codes "--help")) (Some (OfItself Help))
-    (cond (same word (codes "-h")) (Some (OfItself Help))
-    (cond (same word (codes "--version")) (Some (OfItself Version))
+    cond (bytes_eq word (codes "trace")) (Some Trace)
+    (cond (bytes_eq word (codes "waves")) (Some Waves)
+    (cond (bytes_eq word (codes "dot-run")) (Some DotRun)
+    (cond (bytes_eq word (codes "json-run")) (Some JsonRun)
+    (cond (bytes_eq word (codes "explain")) (Some Explain)
+    (cond (bytes_eq word (codes "--help")) (Some (OfItself Help))
+    (cond (bytes_eq word (codes "-h")) (Some (OfItself Help))
+    (cond (bytes_eq word (codes "--version")) (Some (OfItself Version))
     (log_of word (Text Ieee2000) (capture_of (view_of word) Ieee2000)))))))))
 form_of (word ∷ next ∷ []) =
-    cond (same word (codes "capture")) (named (is_name next) next)
-    (cond (same next (codes "--1995")) (log_of word (Text Ieee1995) (capture_of (view_of word) Ieee1995))
-    (cond (same next (codes "--json")) (log_of word (Lines Ieee2000) None) None))
+    cond (bytes_eq word (codes "capture")) (named (is_name next) next)
+    (cond (bytes_eq next (codes "--1995"))
+    (log_of word (Text Ieee1995) (capture_of (view_of word) Ieee1995))
+    (cond (bytes_eq next (codes "--json")) (log_of word (Lines Ieee2000) None) None))
 form_of (word ∷ a ∷ b ∷ []) =
-    cond (same word (codes "script")) (of_numbers (number_of a) (number_of b))
-    (cond (same a (codes "--1995")) (cond (same b (codes "--json")) (log_of word (Lines Ieee1995) None) None) None)
+    cond (bytes_eq word (codes "script")) (of_numbers (number_of a) (number_of b))
+    (cond (bytes_eq a (codes "--1995"))
+    (cond (bytes_eq b (codes "--json")) (log_of word (Lines Ieee1995) None) None) None)
 form_of (word ∷ a ∷ b ∷ c ∷ words) = None
 
 in_range : (low high : Bool) (nodes seed : ℕ) → nat_lt 0 nodes ≡ low → nat_lt nodes 64 ≡ high →
@@ -112,7 +97,7 @@ found_name test name e = rw e refl
 
 is_found : (form : ViewForm) (words : List (List ℕ)) → AreWordsOf form words →
     form_of words ≡ Some form
-unfolding same form_of capture_of
+unfolding form_of capture_of
 is_found (Capture Packets Ieee1995) words e = ap (λ (ws : List (List ℕ)). form_of ws) e
 is_found (Capture Packets Ieee2000) words e = ap (λ (ws : List (List ℕ)). form_of ws) e
 is_found (Capture Tree Ieee1995) words e = ap (λ (ws : List (List ℕ)). form_of ws) e
@@ -168,10 +153,10 @@ tried false word first view rest is go e = go e
 
 view_is : (word : List ℕ) (view : CaptureView) → view_of word ≡ Some view → word ≡ view_word view
 view_is word view e =
-    tried (same word (codes "packets")) word Packets view _ (same-true word (codes "packets"))
-    (tried (same word (codes "tree")) word Tree view _ (same-true word (codes "tree"))
-    (tried (same word (codes "dot")) word Dot view _ (same-true word (codes "dot"))
-    (tried (same word (codes "json")) word Json view None (same-true word (codes "json")) (λ none. absurd cc)))) e
+    tried _ word Packets view _ (bytes_eq-Decides word (codes "packets")).0
+    (tried _ word Tree view _ (bytes_eq-Decides word (codes "tree")).0
+    (tried _ word Dot view _ (bytes_eq-Decides word (codes "dot")).0
+    (tried _ word Json view None (bytes_eq-Decides word (codes "json")).0 (λ none. absurd cc)))) e
 
 of_capture : (found : Option CaptureView) (standard : Standard) (word : List ℕ) (form : ViewForm) →
     ((view : CaptureView) → found ≡ Some view → word ≡ view_word view) →
@@ -191,31 +176,32 @@ or_rest true words first form rest is go e =
     let f : first ≡ form = cc in subst (λ (g : ViewForm). AreWordsOf g words) f (is refl)
 or_rest false words first form rest is go e = go e
 
-with_standard : (standard : Standard) (word wanted : List ℕ) → same word wanted ≡ true →
+with_standard : (standard : Standard) (word wanted : List ℕ) → bytes_eq word wanted ≡ true →
     word ∷ standard_words standard ≡ wanted ∷ standard_words standard
-with_standard standard word wanted e = ap (λ (w : List ℕ). w ∷ standard_words standard) (same-true word wanted e)
+with_standard standard word wanted e =
+    ap (λ (w : List ℕ). w ∷ standard_words standard) ((bytes_eq-Decides word wanted).0 e)
 
 log_words : (word : List ℕ) (log : LogForm) (form : ViewForm) (rest : Option ViewForm) →
     (rest ≡ Some form → AreWordsOf form (word ∷ options log)) →
     log_of word log rest ≡ Some form → AreWordsOf form (word ∷ options log)
 log_words word log form rest go =
-    or_rest (same word (codes "resets")) (word ∷ options log) (Resets log) form _
-    (λ e. ap (λ (w : List ℕ). w ∷ options log) (same-true word (codes "resets") e))
-    (or_rest (same word (codes "nosy")) (word ∷ options log) (Nosy log) form rest
-    (λ e. ap (λ (w : List ℕ). w ∷ options log) (same-true word (codes "nosy") e)) go)
+    or_rest (bytes_eq word (codes "resets")) (word ∷ options log) (Resets log) form _
+    (λ e. ap (λ (w : List ℕ). w ∷ options log) ((bytes_eq-Decides word (codes "resets")).0 e))
+    (or_rest (bytes_eq word (codes "nosy")) (word ∷ options log) (Nosy log) form rest
+    (λ e. ap (λ (w : List ℕ). w ∷ options log) ((bytes_eq-Decides word (codes "nosy")).0 e)) go)
 
 no_form : (form : ViewForm) (P : Type 0) → None ≡ Some form → P
 no_form form P e = absurd cc
 
 one_word : (word : List ℕ) (form : ViewForm) →
-    cond (same word (codes "trace")) (Some Trace)
-    (cond (same word (codes "waves")) (Some Waves)
-    (cond (same word (codes "dot-run")) (Some DotRun)
-    (cond (same word (codes "json-run")) (Some JsonRun)
-    (cond (same word (codes "explain")) (Some Explain)
-    (cond (same word (codes "--help")) (Some (OfItself Help))
-    (cond (same word (codes "-h")) (Some (OfItself Help))
-    (cond (same word (codes "--version")) (Some (OfItself Version))
+    cond (bytes_eq word (codes "trace")) (Some Trace)
+    (cond (bytes_eq word (codes "waves")) (Some Waves)
+    (cond (bytes_eq word (codes "dot-run")) (Some DotRun)
+    (cond (bytes_eq word (codes "json-run")) (Some JsonRun)
+    (cond (bytes_eq word (codes "explain")) (Some Explain)
+    (cond (bytes_eq word (codes "--help")) (Some (OfItself Help))
+    (cond (bytes_eq word (codes "-h")) (Some (OfItself Help))
+    (cond (bytes_eq word (codes "--version")) (Some (OfItself Version))
     (log_of word (Text Ieee2000) (capture_of (view_of word) Ieee2000))))))))) ≡ Some form →
     AreWordsOf form (word ∷ [])
 one_word word form =
@@ -290,9 +276,11 @@ are_words [] form e = absurd cc
 are_words (word ∷ []) form e =
     one_word word form e
 are_words (word ∷ next ∷ []) form e =
-    two_words _ _ _ word next form (same-true word (codes "capture")) (same-true next (codes "--1995")) (same-true next (codes "--json")) e
+    two_words _ _ _ word next form (bytes_eq-Decides word (codes "capture")).0
+    (bytes_eq-Decides next (codes "--1995")).0 (bytes_eq-Decides next (codes "--json")).0 e
 are_words (word ∷ a ∷ b ∷ []) form e =
-    three_words _ _ _ word a b form (same-true word (codes "script")) (same-true a (codes "--1995")) (same-true b (codes "--json")) e
+    three_words _ _ _ word a b form (bytes_eq-Decides word (codes "script")).0
+    (bytes_eq-Decides a (codes "--1995")).0 (bytes_eq-Decides b (codes "--json")).0 e
 are_words (word ∷ a ∷ b ∷ c ∷ words) form e = absurd cc
 
 pub form_or_none : (words : List (String Global)) → IsForm words ⊎ (IsForm words → ⊥)
@@ -316,9 +304,10 @@ log_apart words form held asks (shown, inr dump) =
 
 -- nor is one that reads nothing
 pub input_apart : (words : List (String Global)) → AsksNoInput words → AsksLog words → ⊥
-input_apart words (inl script) log =
-    log_apart words (Script script.0 script.1) (script.2.some_nodes, script.2.few_nodes) script.2 log
-input_apart words (inr itself) log = log_apart words (OfItself itself.0) tt itself.1 log
+input_apart words (form, asks, unread) (shown, inl log) =
+    subst IsUnread (one_form words form (Resets shown) asks log) unread
+input_apart words (form, asks, unread) (shown, inr dump) =
+    subst IsUnread (one_form words form (Nosy shown) asks dump) unread
 
 -- the forms of a log's words are one, and so are those of a dump's
 pub one_resets : (words : List (String Global)) (a b : LogForm) → Asks words (Resets a) → Asks words (Resets b) → a ≡ b
@@ -330,28 +319,6 @@ one_nosy words a b x y = let e : Nosy a ≡ Nosy b = one_form words (Nosy a) (No
 -- and they are apart
 pub no_dump : (words : List (String Global)) (a b : LogForm) → Asks words (Resets a) → Asks words (Nosy b) → ⊥
 no_dump words a b x y = let e : Resets a ≡ Nosy b = one_form words (Resets a) (Nosy b) x y in cc
-
--- words with which nothing is read are those of such a form
-pub unread_form : (words : List (String Global)) → AsksNoInput words → AsksUnread (Asks words) IsUnread
-unread_form words (inl script) = (Script script.0 script.1, script.2, tt)
-unread_form words (inr itself) = (OfItself itself.0, itself.1, tt)
-
--- and only they are
-pub form_unread : (words : List (String Global)) → AsksUnread (Asks words) IsUnread → AsksNoInput words
-form_unread words (form, asks, unread) = go form asks unread
-  where
-    go : (form : ViewForm) → Asks words form → IsUnread form → AsksNoInput words
-    go (Script nodes seed) asks unread = inl (nodes, seed, asks)
-    go (OfItself about) asks unread = inr (about, asks)
-    go (Capture view standard) asks unread = absurd unread
-    go Trace asks unread = absurd unread
-    go Waves asks unread = absurd unread
-    go DotRun asks unread = absurd unread
-    go JsonRun asks unread = absurd unread
-    go Explain asks unread = absurd unread
-    go (ListOf name) asks unread = absurd unread
-    go (Resets form) asks unread = absurd unread
-    go (Nosy form) asks unread = absurd unread
 
 -- with words whose input isn't shown as it comes a text is made, and with those of `script` there are 1 to
 -- 63 nodes

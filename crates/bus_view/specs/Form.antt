@@ -1,12 +1,12 @@
 -- The words that the program is asked with.
 use Rattle.std.specs.Prelude.{◌≡◌, ◌⊎◌, ℕ, ◌≤◌, Some, IsTrue, List, [], ◌∷◌, map, codes, string_bytes, String}
 use Rattle.std.specs.Global.{Global}
-use Rattle.about.specs.declared.asked.About.{About}
 use Rattle.about.specs.Asked.{AreWordsFor}
 use Rattle.self_id.specs.declared.standard.Standard.{Standard}
 use Rattle.self_id.specs.declared.standard.Standard.TheVariants.{Ieee1995, Ieee2000}
 use Rattle.script_lines.specs.Name.{is_name}
 use Rattle.script_lines.specs.Number.{number_of}
+use Rattle.top_call.specs.Asked.{AsksUnread}
 use Rattle.reset_log.specs.declared.form.LogForm.{LogForm}
 use Rattle.reset_log.specs.Form.{AreWordsBy as AreResetsWords}
 use Rattle.nosy_dump.specs.Form.{AreWordsBy as AreNosyWords}
@@ -54,17 +54,15 @@ Asks words form = AreWordsOf form (map string_bytes words)
 abbrev pub IsForm : List (String Global) → Type 0
 IsForm words = (form : ViewForm) × Asks words form
 
--- the words ask for the script that is made for some nodes and seed
-abbrev pub AsksScript : List (String Global) → Type 0
-AsksScript words = (nodes : ℕ) × (seed : ℕ) × Asks words (Script nodes seed)
-
--- the words ask for the program's help or its version
-abbrev pub AsksOfItself : List (String Global) → Type 0
-AsksOfItself words = (about : About) × Asks words (OfItself about)
+-- nothing is read with this form
+abbrev pub IsUnread : ViewForm → Type 0
+IsUnread (Script nodes seed) = Unit {0}
+IsUnread (OfItself about) = Unit {0}
+IsUnread form = ⊥
 
 -- with these words nothing is read
 abbrev pub AsksNoInput : List (String Global) → Type 0
-AsksNoInput words = AsksScript words ⊎ AsksOfItself words
+AsksNoInput words = AsksUnread (Asks words) IsUnread
 
 -- with these words the input is shown as it comes, without a limit
 abbrev pub AsksLog : List (String Global) → Type 0

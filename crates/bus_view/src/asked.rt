@@ -1,10 +1,10 @@
 //! What the program can be asked for, and how it answers. Logs and dumps, which are written as they come,
 //! are answered elsewhere.
-ghost use Rattle.bus_view.specs.Form.{Asks};
+ghost use Rattle.bus_view.specs.Form.{Asks, IsUnread};
 ghost use Rattle.bus_view.specs.Answer.{IsView};
 ghost use Rattle.bus_view.specs.ReadBack.{ReadsBack};
 ghost use Rattle.bus_view.specs.codings.Asked.{few_status, unread_alone, unread_status};
-ghost use Rattle.bus_view.specs.codings.Reading.{IsHeld, IsUnread};
+ghost use Rattle.bus_view.specs.codings.Reading.{IsHeld};
 
 use crate::answer::{View, view_all, view_of_itself, view_script};
 use crate::form::ViewForm;

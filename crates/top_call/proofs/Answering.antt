@@ -72,28 +72,6 @@ unread_written left reads written writes takes Unread Answers status source read
     go s text is (inr (inl start)) = absurd (let four = start.0 in cc)
     go s text is (inr (inr five)) = absurd cc
 
--- it may be said in another way that nothing is read
-pub unread_as : {S K : Type 0} (left : S → Option (List ℕ)) (reads : S → ℕ) (written : K → Option (List ℕ)) (writes : K → ℕ)
-    (takes : K → ℕ → Type 0) (Unread Other : Type 0) (Answers : List ℕ → ℕ → List ℕ → Type 0) (status : ℕ) (source read : S) (sink wrote : K) →
-    (Unread → Other) → (Other → Unread) →
-    KeepsStreams left reads written writes takes Unread Answers status source read sink wrote →
-    KeepsStreams left reads written writes takes Other Answers status source read sink wrote
-unread_as left reads written writes takes Unread Other Answers status source read sink wrote to from keeps = record {
-  few = keeps.few;
-  answer = keeps.answer;
-  end = λ which none. keeps.end which (λ un. none (to un));
-  read_fault = keeps.read_fault;
-  write_fault = keeps.write_fault;
-  too_long = keeps.too_long;
-  unread = λ which. keeps.unread (elim which [ inl two ↦ inl two | inr other ↦ inr (from other) ]);
-  unwritten = keeps.unwritten;
-  part = keeps.part;
-  exact = keeps.exact;
-  complete = keeps.complete;
-  sure = keeps.sure;
-  alone = λ other. keeps.alone (from other);
-}
-
 -- ---- one answer
 
 -- where each thing that can be asked for has an answer to all bytes, so has what is asked for

@@ -1,4 +1,2 @@
 -- What crates above use of the proofs of this one.
-pub use Rattle.top_call.proofs.Answering.{each_answered, none_twice, of_answer, of_asked, some_left, unread_as, unread_written}
--- Two tests, one behind the other.
-pub use Rattle.top_call.proofs.Words.{both_true}
+pub use Rattle.top_call.proofs.Answering.{each_answered, none_twice, of_answer, of_asked, some_left, unread_written}

@@ -6,7 +6,7 @@ use Rattle.bus_cli.specs.declared.form.Form.{Form}
 use Rattle.bus_cli.specs.declared.form.Form.TheVariants.{Capture, Rom, Run, Advice, Make, OfItself}
 use Rattle.bus_cli.specs.declared.form.CaptureForm.TheVariants.{Read, Read95, Maps}
 use Rattle.bus_cli.specs.Answer.{AnswersForm}
-use Rattle.bus_cli.specs.codings.Reading.{IsUnread}
+use Rattle.bus_cli.specs.Form.{IsUnread}
 
 few : (Valid Refused : Type 0) (status : ℕ) → ((status ≡ 0) × Valid) ⊎ ((status ≡ 1) × Refused) →
     (status ≡ 0) ⊎ (status ≡ 1)

@@ -16,15 +16,6 @@ use Rattle.capture_reading.specs.declared.fault.CaptureStop.{CaptureStop}
 use Rattle.capture_reading.specs.declared.fault.CaptureStop.TheVariants.{Fault, Memory}
 use Rattle.capture_reading.specs.Capture.{Spells, CaptureRefused}
 
--- nothing is read with this form
-abbrev pub IsUnread : Form → Type 0
-IsUnread (Capture form) = ⊥
-IsUnread Rom = ⊥
-IsUnread Run = ⊥
-IsUnread Advice = ⊥
-IsUnread (Make nodes seed) = Unit {0}
-IsUnread (OfItself about) = Unit {0}
-
 -- the form asks for 1 to 63 nodes, where it asks for nodes
 abbrev pub AsksFewNodes : Form → Type 0
 AsksFewNodes (Capture form) = Unit {0}

@@ -6,7 +6,7 @@ use Rattle.bus_view.specs.declared.form.ViewForm.{ViewForm}
 use Rattle.bus_view.specs.declared.form.ViewForm.TheVariants.{Capture, Trace, Waves, DotRun, JsonRun, Script, ListOf, Explain, Resets, Nosy, OfItself}
 use Rattle.bus_view.specs.Answer.{Reading, spelt, refused, status_of, traced, at_fault, dumped, not_dumped, pictured, not_pictured, reported, not_reported, has_list, has_none, IsView, has_text, has_fault}
 use Rattle.bus_view.specs.Log.{status_if}
-use Rattle.bus_view.specs.codings.Reading.{IsUnread}
+use Rattle.bus_view.specs.Form.{IsUnread}
 
 of_reading : (reading : Reading) (status : ℕ) → status ≡ status_of reading → (status ≡ 0) ⊎ (status ≡ 1)
 of_reading (spelt t) status is = inl is

@@ -17,20 +17,6 @@ IsReadWhole (Resets form) = ⊥
 IsReadWhole (Nosy form) = ⊥
 IsReadWhole (OfItself about) = ⊥
 
--- nothing is read with this form
-abbrev pub IsUnread : ViewForm → Type 0
-IsUnread (Capture view standard) = ⊥
-IsUnread Trace = ⊥
-IsUnread Waves = ⊥
-IsUnread DotRun = ⊥
-IsUnread JsonRun = ⊥
-IsUnread Explain = ⊥
-IsUnread (Script nodes seed) = Unit {0}
-IsUnread (ListOf name) = ⊥
-IsUnread (Resets form) = ⊥
-IsUnread (Nosy form) = ⊥
-IsUnread (OfItself about) = Unit {0}
-
 -- the form is answered by a text that is made before anything is written, and where it asks for nodes, for
 -- 1 to 63
 abbrev pub IsHeld : ViewForm → Type 0

@@ -1,8 +1,8 @@
 use Rattle.bus_cli.specs.declared.form.Form.TheVariants.{Capture, Rom, Run, Advice, Make, OfItself}
 use Rattle.bus_cli.specs.declared.form.CaptureForm.TheVariants.{Read, Read95, Maps}
 use Rattle.std.proofs.Common.{[], refl}
-use Rattle.top_call.proofs.Lemmas.{unread_as, unread_written}
-use Rattle.bus_cli.proofs.Unread.{few_nodes, unread_form, form_unread}
+use Rattle.top_call.proofs.Lemmas.{unread_written}
+use Rattle.bus_cli.proofs.Forms.{few_nodes}
 use Rattle.bus_cli.proofs.Ends.{form_written, of_form}
 use Rattle.bus_cli.proofs.Cables.{cabled, accepted}
 use Rattle.bus_cli.proofs.top.bus_main.Goals as goal
@@ -15,10 +15,6 @@ answer-requires-clause-some g c = c.one_answer.ensures.some c.args.words.now
 
 pub answer-requires-clause-one : goal.answer-requires-clause-one
 answer-requires-clause-one g c = c.one_answer.ensures.one c.args.words.now
-
-pub returns-clause-streams : goal.returns-clause-streams
-returns-clause-streams g c =
-    unread_as _ _ _ _ _ _ _ _ _ _ _ _ _ (form_unread c.args.words.now) (unread_form c.args.words.now) c.answer.ensures.streams
 
 pub returns-clause-read : goal.returns-clause-read
 returns-clause-read g c = λ asks. form_written c.args.words.now (Capture Read) asks _ _ _ _ c.answer.ensures.streams.answer
@@ -49,9 +45,6 @@ returns-clause-run g c = λ asks. form_written c.args.words.now Run asks _ _ _ _
 
 pub returns-clause-advice : goal.returns-clause-advice
 returns-clause-advice g c = λ asks. form_written c.args.words.now Advice asks _ _ _ _ c.answer.ensures.streams.answer
-
-pub returns-clause-unfailing : goal.returns-clause-unfailing
-returns-clause-unfailing g c = λ none. c.answer.ensures.unfailing (unread_form c.args.words.now none)
 
 pub returns-clause-make : goal.returns-clause-make
 returns-clause-make g c = λ nodes seed asks zero.

@@ -4,13 +4,13 @@ use Rattle.bus_json.proofs.Lemmas.{one_line}
 use Rattle.reset_log.specs.declared.form.LogForm.{LogForm}
 use Rattle.reset_log.specs.declared.form.LogForm.TheVariants.{Json as Lines}
 use Rattle.nosy_dump.specs.Dump.{IsBegun}
-use Rattle.top_call.proofs.Lemmas.{unread_as, unread_written}
+use Rattle.top_call.proofs.Lemmas.{unread_written}
 use Rattle.bus_view.specs.declared.form.ViewForm.TheVariants.{Capture, JsonRun, Script, Resets, Nosy, OfItself}
 use Rattle.bus_view.specs.Log.{IsLogView, IsDumpView, IsLogBegun, ShowsAsItComes}
 use Rattle.bus_view.proofs.Ends.{of_form}
 use Rattle.bus_view.specs.declared.form.CaptureView.TheVariants.{Json}
 use Rattle.bus_view.proofs.ReadBack.{read_reports}
-use Rattle.bus_view.proofs.Forms.{log_apart, input_apart, is_held, one_resets, one_nosy, no_dump, unread_form, form_unread}
+use Rattle.bus_view.proofs.Forms.{log_apart, input_apart, is_held, one_resets, one_nosy, no_dump}
 use Rattle.bus_view.proofs.top.view_asked.Goals as goal
 
 pub returns-in-Some-clause-streams : goal.returns-in-Some-clause-streams
@@ -48,12 +48,12 @@ returns-in-Some-clause-unfailing g c = λ input.
 pub returns-in-Some-clause-script : goal.returns-in-Some-clause-script
 returns-in-Some-clause-script g c = λ nodes seed script zero.
     let asks = (c.in-Some.ensures c.in-Some.form).0 refl in
-    absurd (input_apart c.args.words.now (inl (nodes, seed, script)) (c.in-Some.form, inl asks))
+    absurd (input_apart c.args.words.now (Script nodes seed, script, tt) (c.in-Some.form, inl asks))
 
 pub returns-in-Some-clause-itself : goal.returns-in-Some-clause-itself
 returns-in-Some-clause-itself g c = λ about itself zero.
     let asks = (c.in-Some.ensures c.in-Some.form).0 refl in
-    absurd (input_apart c.args.words.now (inr (about, itself)) (c.in-Some.form, inl asks))
+    absurd (input_apart c.args.words.now (OfItself about, itself, tt) (c.in-Some.form, inl asks))
 
 pub returns-in-Some-dump_form-clause-streams : goal.returns-in-Some-dump_form-clause-streams
 returns-in-Some-dump_form-clause-streams g c = λ no_log.
@@ -90,13 +90,14 @@ returns-in-Some-dump_form-clause-unfailing g c = λ input.
 pub returns-in-Some-dump_form-clause-script : goal.returns-in-Some-dump_form-clause-script
 returns-in-Some-dump_form-clause-script g c = λ nodes seed script zero.
     let asks = (c.in-Some-dump_form.ensures c.in-Some-dump_form.form).0 refl in
-    absurd (input_apart c.args.words.now (inl (nodes, seed, script))
+    absurd (input_apart c.args.words.now (Script nodes seed, script, tt)
     (c.in-Some-dump_form.form, inr asks))
 
 pub returns-in-Some-dump_form-clause-itself : goal.returns-in-Some-dump_form-clause-itself
 returns-in-Some-dump_form-clause-itself g c = λ about itself zero.
     let asks = (c.in-Some-dump_form.ensures c.in-Some-dump_form.form).0 refl in
-    absurd (input_apart c.args.words.now (inr (about, itself)) (c.in-Some-dump_form.form, inr asks))
+    absurd (input_apart c.args.words.now (OfItself about, itself, tt)
+    (c.in-Some-dump_form.form, inr asks))
 
 pub answer-requires-clause-held : goal.answer-requires-clause-held
 answer-requires-clause-held g c =
@@ -112,13 +113,7 @@ pub answer-requires-clause-one : goal.answer-requires-clause-one
 answer-requires-clause-one g c = c.one_view.ensures.one c.args.words.now
 
 pub returns-clause-streams : goal.returns-clause-streams
-returns-clause-streams g c = λ no_log.
-    unread_as _ _ _ _ _ _ _ _ _ _ _ _ _ (form_unread c.args.words.now)
-    (unread_form c.args.words.now) c.answer.ensures.streams
-
-pub returns-clause-unfailing : goal.returns-clause-unfailing
-returns-clause-unfailing g c =
-    λ none. c.answer.ensures.unfailing (unread_form c.args.words.now none)
+returns-clause-streams g c = λ no_log. c.answer.ensures.streams
 
 pub returns-clause-script : goal.returns-clause-script
 returns-clause-script g c = λ nodes seed asks zero.
