@@ -1,5 +1,5 @@
 //! Acts, over the parts of a world, and why holds are refused.
-ghost use Rattle.std.specs.Prelude.{◌≡◌, ◌<◌, ◌≤◌, ◌↔◌, ◌⊎◌, ℕ, None, Some, [], length, map, slice_index_or, IfNone, IfOk, IfSome, OnOk, if◌then◌else◌};
+ghost use Rattle.std.specs.Prelude.{◌≡◌, ◌<◌, ◌≤◌, ◌↔◌, ◌⊎◌, ℕ, None, Some, [], length, map, slice_index_or, IfNone, IfOk, IfSome, IsTrue, OnOk, if◌then◌else◌};
 ghost use Rattle.std.specs.Option.{ForSome};
 ghost use Rattle.cabling.specs.NodeSet.{Holds};
 ghost use Rattle.cabling.specs.Change.{pull_fault};
@@ -301,6 +301,13 @@ pub fn act_world<M: PortMachine>(
         wires.old wires.new) }
 {
     do_act(act, cabling, machines, wires, changed, turns, out)
+}
+
+/// Whether an act found no memory.
+pub fn is_memory<T>(done: &Result<T, ActStop>) -> bool
+    ensures { IsMemory done.now ↔ IsTrue result }
+{
+    matches!(*done, Err(ActStop::Memory(_)))
 }
 
 /// Why a hold of the wire that leaves an end is refused, if it is: no cable is there.

@@ -9,7 +9,7 @@ ghost use Rattle.cable_world.specs.Run.{IsReached};
 ghost use Rattle.cable_world.specs.Parts.{world_record};
 
 use crate::act::{Act, ActStop};
-use crate::acting::{act_world, hold_fault};
+use crate::acting::{act_world, hold_fault, is_memory};
 use crate::all_nodes::turn_world;
 use crate::rows::{ArrivalRow, WireRow};
 use crate::run::{ShowsWires, WorldRun};
@@ -114,19 +114,9 @@ impl<M: PortMachine> WorldRun for World<M> {
             self.turns,
             &mut self.out,
         );
-        match done {
-            Ok(_) => {
-                self.spent = false;
-                Ok(())
-            }
-            Err(stop) => match stop {
-                ActStop::Fault(fault) => {
-                    self.spent = false;
-                    Err(ActStop::Fault(fault))
-                }
-                ActStop::Memory(stop) => Err(ActStop::Memory(stop)),
-            },
-        }
+        self.spent = is_memory(&done);
+        done?;
+        Ok(())
     }
 
     fn hold(&mut self, end: End, turns: u16) -> Result<(), ActStop> {

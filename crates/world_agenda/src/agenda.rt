@@ -17,7 +17,7 @@ use crate::node::AgendaNode;
 use crate::nodes::{Agenda, act_agenda, due_nodes, turn_agenda};
 use crate::still::TellsStillTurns;
 use cable_world::parts::{
-    ArrivalRow, WireRow, arrival_rows, hold_fault, no_changes, port_counts, wire_rows,
+    ArrivalRow, WireRow, arrival_rows, hold_fault, is_memory, no_changes, port_counts, wire_rows,
 };
 use cable_world::{
     Act, ActStop, ShowsWires, Travelling, WorldRun, still_turns_pass, worlds_stay_lawful,
@@ -209,19 +209,8 @@ impl<M: PortMachine> WorldRun for AgendaWorld<M> {
             &mut self.live,
         );
         self.level = self.turns;
-        match done {
-            Ok(()) => {
-                self.spent = false;
-                Ok(())
-            }
-            Err(stop) => match stop {
-                ActStop::Fault(fault) => {
-                    self.spent = false;
-                    Err(ActStop::Fault(fault))
-                }
-                ActStop::Memory(stop) => Err(ActStop::Memory(stop)),
-            },
-        }
+        self.spent = is_memory(&done);
+        done
     }
 
     fn hold(&mut self, end: End, turns: u16) -> Result<(), ActStop> {

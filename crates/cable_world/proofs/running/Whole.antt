@@ -1,7 +1,7 @@
 -- A world by its parts: what a lawful one gives to the code, and its turn.
-use Rattle.std.proofs.Common.{◌≡◌, true, ℕ, ◌+◌, ◌-◌, ◌<◌, ◌≤◌, List, [], ◌∷◌, All, map, length, slice_index_or, slice_set, is_some, None, get_or, refl, sym, ◌∙◌, ap, arith, subst}
+use Rattle.std.proofs.Common.{◌≡◌, Bool, true, ℕ, ◌+◌, ◌-◌, ◌<◌, ◌≤◌, List, [], ◌∷◌, All, map, length, slice_index_or, slice_set, is_some, None, get_or, refl, sym, ◌∙◌, ap, arith, subst, true≢false}
 use Rattle.std.specs.List.{AllByRecursion}
-use Rattle.std.specs.Prelude.{Vec, Result, Err}
+use Rattle.std.specs.Prelude.{Vec, Result, Ok, Err, ◌↔◌, IsTrue, IsFalse, OnOk}
 use Rattle.std.specs.Vec.{with_items}
 use Rattle.std.proofs.lemmas.List.{get_or_default, length-map, length-set, with_items_is}
 use Rattle.std.proofs.Math.Seq.{map-set_same}
@@ -15,8 +15,8 @@ use Rattle.cabling.specs.declared.cable.CableFault.{CableFault}
 use Rattle.port_state.specs.declared.timing.Timing.{Timing}
 use Rattle.port_state.specs.Machine.{PortNode, NodeStep}
 use Rattle.cable_world.specs.declared.act.ActStop.{ActStop}
-use Rattle.cable_world.specs.declared.act.ActStop.TheVariants.{Fault}
-use Rattle.cable_world.specs.Answer.{IfFault}
+use Rattle.cable_world.specs.declared.act.ActStop.TheVariants.{Fault, Memory}
+use Rattle.cable_world.specs.Answer.{IfFault, IsMemory}
 use Rattle.cable_world.specs.Wire.{Travelling, Wire, empty_wire, arrives, stays}
 use Rattle.cable_world.specs.World.{CableWorld, put, wire_of}
 use Rattle.cable_world.specs.Turn.{node_turns, all_wires_after_sends, last_changes, turn}
@@ -163,6 +163,16 @@ vectors-same f d most c k t machines wires changed ms nms ws nws cs ncs m w h sa
     ap (λ z. world_record d most z (map f nms) nws ncs t) same.0 ∙ ap (λ xs. world_record d most c (map f xs) nws ncs t) same.1
     ∙ ap (λ rows. world_record d most c (map f ms) rows ncs t) same.2 ∙ ap (λ ns. world_record d most c (map f ms) ws ns t) same.3 in
     vectors-related (λ u v. v ≡ u) f f d most c k t t machines wires changed ms nms ws nws cs ncs m w h e
+
+-- an act that found memory was done, or it was refused
+pub settled :
+    {A D N L S Q : Type 0} → (r : Result A ActStop) (spent : Bool) →
+    (IsMemory r ↔ IsTrue spent) → IsFalse spent →
+    OnOk r D → OnOk r N → OnOk r L → IfFault r (λ f. S) → (D → N → L → Q) → (S → Q) → Q
+settled (Ok x) spent memory fine d n l s done same = done d n l
+settled (Err (Fault f)) spent memory fine d n l s done same = same s
+settled (Err (Memory e)) spent memory fine d n l s done same =
+    absurd (true≢false (sym (memory.0 tt) ∙ fine))
 
 -- what a refusal says
 pub fault-of :
