@@ -10,6 +10,9 @@ use Rattle.port_state.specs.declared.states.NodeState.{NodeState}
 use Rattle.port_state.specs.Machine.{PortNode}
 use Rattle.cable_world.specs.Wire.{Wire, empty_wire}
 use Rattle.cable_world.specs.Times.{Suits, CanBeForced, longest_in_range}
+-- the number of a node, from 0, and a set of such numbers
+pub use Rattle.cabling.specs.Wiring.{NodeNumber}
+pub use Rattle.cabling.specs.NodeSet.{Nodes as NodeSet}
 
 pub record CableWorld : Type 0 where
   -- d: a cable delays a signal by at most so many turns
@@ -26,14 +29,6 @@ pub record CableWorld : Type 0 where
   pub changed : List ℕ
   -- the number of turns done
   pub turns : ℕ
-
--- the number of a node, from 0
-abbrev pub NodeNumber : Type 0
-NodeNumber = ℕ
-
--- a set of nodes: node number k is in it where bit k is 1
-abbrev pub NodeSet : Type 0
-NodeSet = ℕ
 
 -- this holds of the two ends of each cable, and of the nodes there
 abbrev pub AtCables : CableWorld → (End → NodeState → End → NodeState → Type 0) → Type 0
