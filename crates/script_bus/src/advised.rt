@@ -7,7 +7,7 @@ ghost use Rattle.script_advice.specs.Advice.{advice_text, all_pulls, AreAdvices,
 ghost use Rattle.script_advice.specs.Advising.{ArePullable};
 ghost use Rattle.script_bus.specs.Running.{Stops};
 
-use crate::bus::Bus;
+use crate::bus::{Bus, buses_are_sound};
 use crate::listener::Silent;
 use crate::planned::joined;
 use cable_world::Act;
@@ -25,7 +25,7 @@ impl Bus {
     {
         let mut bus = self;
         for cable in cables {
-            bus.is_sound();
+            buses_are_sound(&bus);
             bus = bus.act_done(&Act::Pull { end: cable.a })?;
         }
         Ok(bus)
@@ -38,7 +38,7 @@ impl Bus {
     {
         let mut bus = self;
         for advice in advices {
-            bus.is_sound();
+            buses_are_sound(&bus);
             bus = bus.pull_each(advice.advice.pulls.as_slice())?;
         }
         Ok(bus)
@@ -66,7 +66,7 @@ impl Bus {
         ensures pulls { IfOk result (λ r.
             ArePullable self.now.world.cabling (all_pulls r.0.items)) }
     {
-        self.is_sound();
+        buses_are_sound(self);
         let advices = self.advices(alloc)?;
         let text = advice_text(alloc, self.names(), &advices)?;
         Ok((advices, text))

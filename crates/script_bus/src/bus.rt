@@ -214,8 +214,15 @@ impl Notes {
     }
 }
 
-/// A world that isn't spent is reached.
-pub(crate) fn is_reached<W: WorldRun>(world: &W)
+/// A law: what holds of each bus.
+pub(crate) fn buses_are_sound(bus: &Bus)
+    ensures { IsBus bus.now }
+{
+    let _ = &bus.notes;
+}
+
+/// A law: a world that isn't spent is reached.
+pub(crate) fn worlds_are_reached<W: WorldRun>(world: &W)
     requires { IsFalse (W.is_spent world.now) }
     ensures { ∥ IsReached (W.world world.now) ∥₁ }
 {}
@@ -232,7 +239,7 @@ fn hold_boxed<W: WorldRun>(world: &mut Box<W>, end: End, turns: u16) -> Result<(
     ensures reached { OnOk result (∥ IsReached (W.world world.new.value) ∥₁) }
 {
     world.hold(end, turns)?;
-    is_reached(&**world);
+    worlds_are_reached(&**world);
     Ok(())
 }
 
@@ -260,17 +267,10 @@ impl Bus {
     {
         let nodes = machines.len();
         let world = AgendaWorld::with_times(alloc, machines, delay, times.ranges.most)?;
-        is_reached(&world);
+        worlds_are_reached(&world);
         let notes = Box::new(alloc, Notes::new(alloc, times, names, nodes)?)?;
         let world = Box::new(alloc, world)?;
         Ok(Bus { world, notes })
-    }
-
-    /// What holds of each bus.
-    pub(crate) fn is_sound(&self)
-        ensures { IsBus self.now }
-    {
-        let _ = &self.notes;
     }
 
     /// The world, which isn't spent.
@@ -287,7 +287,7 @@ impl Bus {
         ensures some { 1 ≤ result }
         ensures few { result ≤ 16 }
     {
-        self.is_sound();
+        buses_are_sound(self);
         self.world().delay()
     }
 
@@ -360,7 +360,7 @@ impl Bus {
         ensures past { IfErr result (λ stop. (stop ≡ LineStop.Fault Kind.TooManyTurns)
             × (nat_lt 2000000 (self.now.world.turns + turns) ≡ true)) }
     {
-        self.is_sound();
+        buses_are_sound(self);
         if turns > MAX_TURNS - self.turns() {
             return Err(LineStop::Fault(Kind::TooManyTurns));
         }
@@ -379,7 +379,7 @@ impl Bus {
             mut notes,
         } = self;
         world.act(act)?;
-        is_reached(&*world);
+        worlds_are_reached(&*world);
         notes.drop_after_act();
         Ok(Bus { world, notes })
     }

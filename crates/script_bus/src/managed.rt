@@ -9,7 +9,7 @@ ghost use Rattle.script_bus.specs.Running.{IsAsked, Stops, nothing, reported};
 ghost use Rattle.resource_manager.specs.declared.access.Access.TheVariants as access;
 
 use crate::bank::Bank;
-use crate::bus::{Bus, ReportedTree};
+use crate::bus::{Bus, ReportedTree, buses_are_sound};
 use bus_manager::{Bid, attempt};
 use resource_manager::{Access, Answer, Registers, Seen, look, serve};
 use script_lines::{Kind, LineStop};
@@ -56,7 +56,7 @@ impl Bus {
         ensures within { IfOk result (λ manager.
             IfSome manager (λ node. node < length self.now.world.nodes)) }
     {
-        self.is_sound();
+        buses_are_sound(self);
         let shown = tree_of(alloc, tree.list)?;
         one_tree();
         let order = tree.order.as_slice();

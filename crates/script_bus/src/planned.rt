@@ -17,7 +17,7 @@ ghost use Rattle.script_bus.specs.codings.Standing.{StandsAs, IsPlanned, IsPacke
 ghost use Rattle.script_bus.specs.codings.Doing.{IsReady};
 ghost use Rattle.script_lines.specs.declared.command.Command.TheVariants as command;
 
-use crate::bus::{Bus, ReportedTree};
+use crate::bus::{Bus, ReportedTree, buses_are_sound};
 use crate::managed::Asked;
 use cable_world::{Act, acts_keep};
 use cabling::{NodeSet, Walk, components_exist};
@@ -93,7 +93,7 @@ impl Bus {
         requires settled { tree_with node self.now.notes ≡ Some (reported tree) }
         ensures { StandsAs self.now.world node (reported tree.entry) }
     {
-        self.is_sound();
+        buses_are_sound(self);
         trees_stay();
         components_exist();
     }
@@ -106,7 +106,7 @@ impl Bus {
             (node_with (reported tree.entry) plan.now.root_id) result }
         ensures nodes { All (λ k. k < length self.now.notes.names) result }
     {
-        self.is_sound();
+        buses_are_sound(self);
         match expect(self.cabling(), tree.order, plan) {
             Ok(walk) => walk,
             Err(_) => unreachable!(),
@@ -130,7 +130,7 @@ impl Bus {
         ensures suits { IfOk result (λ planned.
             SuitsTree self.now.world node planned.plan) }
     {
-        self.is_sound();
+        buses_are_sound(self);
         one_tree();
         self.stands(node, tree);
         plans_suit(self.world(), node);
@@ -170,7 +170,7 @@ impl Bus {
             (config_of node (Some plan.now.root_id) (Some plan.now.gap)) (Ok (bus, []))) }
         ensures passed { IfOk result (λ bus. TurnsPass 0 self.world bus.world) }
     {
-        self.is_sound();
+        buses_are_sound(&self);
         components_exist();
         self.act_done(&Act::Config {
             from: node,
@@ -194,7 +194,7 @@ impl Bus {
             (L.written listener.old) (L.written listener.new)) }
         ensures passed { IfOk result (λ bus. TurnsPass 0 self.world bus.world) }
     {
-        self.is_sound();
+        buses_are_sound(&self);
         let touched = NodeSet::first(self.cabling().nodes());
         let seen = self.tell_packet(alloc, name, plan, touched, listener)?;
         let bus = self.send_packet(node, plan)?;
@@ -217,9 +217,9 @@ impl Bus {
             r.1.items (L.written listener.old) (L.written listener.new)) }
     {
         acts_keep();
-        self.is_sound();
+        buses_are_sound(&self);
         let sent = self.send(alloc, name, node, plan, listener)?;
-        sent.is_sound();
+        buses_are_sound(&sent);
         let settled = sent.pass(alloc, listener)?;
         Ok(settled)
     }

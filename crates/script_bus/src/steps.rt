@@ -11,7 +11,7 @@ ghost use Rattle.script_bus.specs.codings.Standing.{IsQuestion};
 ghost use Rattle.script_bus.specs.codings.Doing.{IsActOf};
 ghost use Rattle.script_lines.specs.declared.command.Command.TheVariants as command;
 
-use crate::bus::{Bus, end_of};
+use crate::bus::{Bus, buses_are_sound, end_of};
 use cable_world::Act;
 use resource_manager::Access;
 use script_lines::{Command, Kind, LineStop};
@@ -99,7 +99,7 @@ impl Bus {
             ++ act_trace L.voice (legend_of bus.notes) command.now self.world bus.world) }
         ensures stop { IfErr result (Stops (Acts self act.now)) }
     {
-        self.is_sound();
+        buses_are_sound(&self);
         let touched = touched_by(self.cabling(), act);
         let seen = self.tell_before(alloc, command, touched, listener)?;
         let bus = self.act(act)?;

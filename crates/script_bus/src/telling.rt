@@ -5,7 +5,7 @@ ghost use Rattle.script_trace.specs.Step.{seen_before_act};
 ghost use Rattle.script_trace.specs.Event.{Seen};
 ghost use Rattle.script_trace.specs.News.{picked, IsEnough};
 
-use crate::bus::Bus;
+use crate::bus::{Bus, buses_are_sound};
 use cabling::NodeSet;
 use script_lines::Command;
 use script_trace::{Listener, Seen, see_before_act};
@@ -26,7 +26,7 @@ impl Bus {
         ensures written { OnOk result (L.written listener.new ≡ L.written listener.old
             ++ L.voice.command self.now.world.turns command.now) }
     {
-        self.is_sound();
+        buses_are_sound(self);
         listener.command(self.turns(), command)?;
         let nodes = self.names().len();
         let seen = see_before_act(alloc, self.world(), nodes, touched, &*listener)?;
@@ -45,7 +45,7 @@ impl Bus {
             L.written listener.new ≡ L.written listener.old
             ++ L.voice.since (legend_of self.now.notes) all self.now.world) }
     {
-        self.is_sound();
+        buses_are_sound(self);
         listener.since(&self.legend(), touched, seen, self.world())?;
         Ok(())
     }

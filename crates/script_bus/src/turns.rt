@@ -11,7 +11,7 @@ ghost use Rattle.script_bus.specs.Running.{Stops};
 ghost use Rattle.script_bus.specs.Heard.{Hears};
 ghost use Rattle.script_bus.specs.codings.Standing.{IsReportedNow, IsPassed};
 
-use crate::bus::{Bus, is_reached};
+use crate::bus::{Bus, buses_are_sound, worlds_are_reached};
 use cable_world::WorldRun;
 use script_lines::{Kind, LineStop};
 use script_text::{report_text, reports_can_be_shown};
@@ -43,7 +43,7 @@ fn turns_heard<W: TellsStillTurns, L: Listener>(
     ensures reached { OnOk result (∥ IsReached (W.world world.new.value) ∥₁) }
 {
     hear_turns(alloc, &mut **world, count, legend, listener)?;
-    is_reached(&**world);
+    worlds_are_reached(&**world);
     Ok(())
 }
 
@@ -88,7 +88,7 @@ impl Bus {
     fn quiet_turns(&self) -> u32
         ensures { result ≡ quiet_turns_of self.now.world }
     {
-        self.is_sound();
+        buses_are_sound(self);
         quiet_turns_for(self.cabling().nodes(), self.delay(), self.world().longest())
     }
 
@@ -129,7 +129,7 @@ impl Bus {
         ensures heard { OnOk result (IsPassed L.voice (legend_of self.notes) self.world
             (L.written listener.old) (L.written listener.new)) }
     {
-        self.is_sound();
+        buses_are_sound(&self);
         quiet_turns_settle();
         let quiet = self.quiet_turns();
         let mut bus = self.go(alloc, quiet, listener)?;

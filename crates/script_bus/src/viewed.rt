@@ -2,7 +2,7 @@
 ghost use Rattle.std.specs.Prelude.{IfOk};
 ghost use Rattle.script_bus.specs.Viewed.{IsGraphOf, IsReadLineOf};
 
-use crate::bus::Bus;
+use crate::bus::{Bus, buses_are_sound};
 use report_views::{report_graph, report_line};
 use std::alloc::Global;
 use topology_stack::OutOfMemory;
@@ -12,7 +12,7 @@ impl Bus {
     pub fn graph(&self, alloc: Global) -> Result<Vec<u8>, OutOfMemory>
         ensures { IfOk result (λ text. IsGraphOf self.now text.items) }
     {
-        self.is_sound();
+        buses_are_sound(self);
         match &self.notes.report {
             Some(report) => report_graph(alloc, self.names(), self.cabling(), report),
             None => Ok(Vec::new(alloc)),
@@ -23,7 +23,7 @@ impl Bus {
     pub fn line(&self, alloc: Global) -> Result<Vec<u8>, OutOfMemory>
         ensures { IfOk result (λ text. IsReadLineOf self.now text.items) }
     {
-        self.is_sound();
+        buses_are_sound(self);
         match &self.notes.report {
             Some(report) => report_line(alloc, self.names(), self.notes.reports, report),
             None => Ok(Vec::new(alloc)),

@@ -3,7 +3,7 @@ ghost use Rattle.std.specs.Prelude.{◌≡◌, ◌++◌, IfOk};
 ghost use Rattle.script_trace.specs.Voice.{legend_of};
 ghost use Rattle.script_trace.specs.waves.Head.{head};
 
-use crate::bus::Bus;
+use crate::bus::{Bus, buses_are_sound};
 use script_trace::Waves;
 use std::alloc::Global;
 use topology_stack::OutOfMemory;
@@ -14,7 +14,7 @@ impl Bus {
         ensures { IfOk result (λ dump. dump.items
             ≡ head (legend_of self.now.notes) self.now.world ++ waves) }
     {
-        self.is_sound();
+        buses_are_sound(self);
         waves.dump(alloc, &self.legend(), self.world())
     }
 }

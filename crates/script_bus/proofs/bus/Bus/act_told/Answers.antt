@@ -17,5 +17,5 @@ returns-clause-heard g c =
     (c.in_ok-tell_after.ensures all (record {
       count = seen-length w 0 w.nodes ∙ sym c.in_ok-bus.ensures.passed.nodes;
       picked = λ looks. c.deref.ensures.value ∙ c.in_ok-seen.ensures.seen looks;
-      others = c.touched_by-touched.ensures w bus.world (sym c.cabling.ensures) (c.requires, acts.0, acts.1) (lawful-now w c.is_sound.ensures.reached);
+      others = c.touched_by-touched.ensures w bus.world (sym c.cabling.ensures) (c.requires, acts.0, acts.1) (lawful-now w c.buses_are_sound.ensures.reached);
     }))

@@ -12,14 +12,14 @@ use Rattle.script_bus.proofs.bus.Bus.expected.Goals as goal
 pub expect-requires-clause-exist : goal.expect-requires-clause-exist
 expect-requires-clause-exist c =
     let w = c.args.self.now.world in
-    let lawful = lawful-now w c.is_sound.ensures.reached in
+    let lawful = lawful-now w c.buses_are_sound.ensures.reached in
     subst (λ (d : Wiring). All (λ k. k < length d) c.args.tree.order.now) (sym c.cabling.ensures)
     (all-there w lawful c.args.node (reported c.args.tree) c.requires.stands)
 
 pub unreachable-requires : goal.unreachable-requires
 unreachable-requires c =
     let w = c.args.self.now.world in
-    let lawful = lawful-now w c.is_sound.ensures.reached in
+    let lawful = lawful-now w c.buses_are_sound.ensures.reached in
     let s = c.requires.stands in
     let root = node_with (reported c.args.tree) c.args.plan.now.root_id in
     let core = subst (λ (d : Wiring). IsCoreOf d root s.stands.is.no_loop.core) (sym c.cabling.ensures)
@@ -30,8 +30,8 @@ unreachable-requires c =
 pub returns-clause-nodes : goal.returns-clause-nodes
 returns-clause-nodes c =
     let w = c.args.self.now.world in
-    let lawful = lawful-now w c.is_sound.ensures.reached in
+    let lawful = lawful-now w c.buses_are_sound.ensures.reached in
     let root = node_with (reported c.args.tree) c.args.plan.now.root_id in
     walk-there w lawful c.args.node (reported c.args.tree) c.requires.stands c.args.plan.now.root_id c.requires.place c.in-Ok.walk
-    (length c.args.self.now.notes.names) (c.is_sound.ensures.names ∙ lawful.well_formed.count)
+    (length c.args.self.now.notes.names) (c.buses_are_sound.ensures.names ∙ lawful.well_formed.count)
     (subst (λ (d : Wiring). IsWalk d root c.in-Ok.walk) c.cabling.ensures c.in-Ok.ensures.walk)

@@ -21,13 +21,13 @@ report-requires-clause-settled g c =
     let w = c.args.self.world in
     let quiet : c.in_ok-bus.bus.world ≡ turns_after (quiet_turns_of w) w =
     ap (λ (b : Bus). b.world) c.in_ok-bus.ensures.done ∙ ap (λ (n : ℕ). turns_after n w) c.quiet_turns-quiet.ensures in
-    ∥∥₁_map c.is_sound.ensures.reached (λ r. c.quiet_turns_settle.ensures.plain w c.in_ok-bus.bus.world r quiet)
+    ∥∥₁_map c.buses_are_sound.ensures.reached (λ r. c.quiet_turns_settle.ensures.plain w c.in_ok-bus.bus.world r quiet)
 
 pub report-requires-clause-few : goal.report-requires-clause-few
 report-requires-clause-few g c =
     let w = c.args.self.world in
-    let lawful = lawful-now w c.is_sound.ensures.reached in
-    omega (arith, c.is_sound.ensures.reports, ap (λ (b : Bus). b.notes.reports) c.in_ok-bus.ensures.done, c.in_ok-bus.ensures.passed.turns, c.quiet_turns-quiet.ensures, some-quiet w lawful.well_formed.some_delay)
+    let lawful = lawful-now w c.buses_are_sound.ensures.reached in
+    omega (arith, c.buses_are_sound.ensures.reports, ap (λ (b : Bus). b.notes.reports) c.in_ok-bus.ensures.done, c.in_ok-bus.ensures.passed.turns, c.quiet_turns-quiet.ensures, some-quiet w lawful.well_formed.some_delay)
 
 pub returns-clause-reports : goal.returns-clause-reports
 returns-clause-reports g c =

@@ -12,7 +12,7 @@ use Rattle.script_bus.proofs.bus.Bus.planned.Goals as goal
 pub plans_suit-requires-clause-there : goal.plans_suit-requires-clause-there
 plans_suit-requires-clause-there c =
     let w = c.args.self.now.world in
-    let lawful = lawful-now w c.is_sound.ensures.reached in
+    let lawful = lawful-now w c.buses_are_sound.ensures.reached in
     omega (arith, c.requires.there, lawful.well_formed.count, ap (λ (v : CableWorld). length v.cabling) c.world.ensures.is)
 
 pub chosen-plan-requires : goal.chosen-plan-requires
@@ -34,12 +34,12 @@ bounds-order-plan c =
 pub plan_line-requires-clause-root : goal.plan_line-requires-clause-root
 plan_line-requires-clause-root c =
     let w = c.args.self.now.world in
-    let lawful = lawful-now w c.is_sound.ensures.reached in
+    let lawful = lawful-now w c.buses_are_sound.ensures.reached in
     let place = plan-place c.one_tree.ensures c.args.self.now.notes.names (reported c.args.tree) c.requires.named c.in_ok-shown.shown
     c.in_ok-shown.ensures.tree.0 c.in_ok-shown.ensures.tree.1 c.chosen-plan.result c.chosen-plan.ensures in
     let there = its-there w lawful c.args.node (reported c.args.tree) c.stands.ensures c.chosen-plan.result.root_id place in
     let order = ap (λ (ns : List ℕ). get_or ns c.chosen-plan.result.root_id 0) c.as_slice-order.ensures.value in
-    omega (arith, there, order, get_or_default c.args.tree.order.now c.chosen-plan.result.root_id 0 0 place, c.is_sound.ensures.names, lawful.well_formed.count, ap length c.names.ensures)
+    omega (arith, there, order, get_or_default c.args.tree.order.now c.chosen-plan.result.root_id 0 0 place, c.buses_are_sound.ensures.names, lawful.well_formed.count, ap length c.names.ensures)
 
 pub plan_line-requires-clause-nodes : goal.plan_line-requires-clause-nodes
 plan_line-requires-clause-nodes c =
@@ -70,6 +70,6 @@ returns-clause-is c =
 pub returns-clause-suits : goal.returns-clause-suits
 returns-clause-suits c =
     let w = c.args.self.now.world in
-    let lawful = lawful-now w c.is_sound.ensures.reached in
+    let lawful = lawful-now w c.buses_are_sound.ensures.reached in
     plan-suits w lawful c.args.node (reported c.args.tree) c.stands.ensures (subst (λ (v : CableWorld). PlansSuit v c.args.node) c.world.ensures.is c.plans_suit.ensures) c.in_ok-shown.shown
     c.in_ok-shown.ensures.tree.0 c.in_ok-shown.ensures.tree.1 c.chosen-plan.result c.chosen-plan.ensures

@@ -28,7 +28,7 @@ pull_each-requires c =
 pub loop-advice-preserved : goal.loop-advice-preserved
 loop-advice-preserved c =
     let bus = c.loop-advice.bus in
-    let lawful = lawful-now bus.world c.is_sound.ensures.reached in
+    let lawful = lawful-now bus.world c.buses_are_sound.ensures.reached in
     let done = c.in_ok-bus.ensures in
     let rest = all_pulls (drop (c.loop-advice.advice-index + 1) c.args.advices.now) in
     let left = parted c.args.advices.now c.loop-advice.advice-index c.advice-item.result c.as_slice.result.now c.loop-advice-test.true c.advice-item.is c.as_slice.ensures in (

@@ -18,7 +18,7 @@ act_done-requires-clause-fits c =
 pub loop-cable-preserved : goal.loop-cable-preserved
 loop-cable-preserved c =
     let w = c.loop-cable.bus.world in
-    let lawful = lawful-now w c.is_sound.ensures.reached in
+    let lawful = lawful-now w c.buses_are_sound.ensures.reached in
     let done = c.in_ok-bus.ensures.done in
     let left = drop_more c.args.cables.now c.loop-cable.cable-index _ c.loop-cable-test.true in
     let here = subst (λ (xs : List Cable). ArePullable w.cabling xs) left c.loop-cable.invariant.0 in (

@@ -8,7 +8,7 @@ use Rattle.script_bus.proofs.bus.Bus.quiet_turns.Goals as goal
 pub returns : goal.returns
 returns c =
     let w = c.args.self.now.world in
-    let lawful = lawful-now w c.is_sound.ensures.reached in
+    let lawful = lawful-now w c.buses_are_sound.ensures.reached in
     c.quiet_turns_for.ensures w
     (sized w _ _ _ lawful (c.nodes.ensures.value ∙ ap (λ (k : Wiring). length k) c.cabling.ensures) c.delay.ensures.value
     (c.longest.ensures ∙ ap (λ (v : CableWorld). v.longest) c.world.ensures.is))

@@ -16,7 +16,7 @@ returns-clause-sent g c =
     let plan = c.args.plan.now in
     let voice = g.L.Listener.voice in
     let all = seen_before_act w 0 w.nodes in
-    let count = (lawful-now w c.is_sound.ensures.reached).well_formed.count in
+    let count = (lawful-now w c.buses_are_sound.ensures.reached).well_formed.count in
     record {
       sends = c.in_ok-bus.ensures.done;
       written = both-heard (voice.command w.turns (command.Config c.args.name.now (Some plan.root_id) (Some plan.gap))) (voice.since (legend_of bus.notes) all bus.world)

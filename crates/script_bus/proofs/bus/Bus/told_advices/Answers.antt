@@ -11,7 +11,7 @@ pub advice_text-requires : goal.advice_text-requires
 advice_text-requires c = λ i d within.
     let w = c.args.self.now.world in
     let names = c.args.self.now.notes.names in
-    let named = named-now w names c.args.self.now.notes.report c.in_ok-advices.advices.items c.is_sound.ensures.report c.requires c.in_ok-advices.ensures in
+    let named = named-now w names c.args.self.now.notes.report c.in_ok-advices.advices.items c.buses_are_sound.ensures.report c.requires c.in_ok-advices.ensures in
     let all = subst (λ (advices : List LoopAdvice). All (IsNamedAdvice names) advices) (sym c.deref.ensures.value) named in
     subst (λ (ns : Names). IsNamedAdvice ns (get_or c.deref.result.now i d)) (sym c.names.ensures) (all i d within)
 
@@ -23,5 +23,5 @@ returns-clause-text c =
 pub returns-clause-pulls : goal.returns-clause-pulls
 returns-clause-pulls c =
     let w = c.args.self.now.world in
-    let lawful = lawful-now w c.is_sound.ensures.reached in
+    let lawful = lawful-now w c.buses_are_sound.ensures.reached in
     pullable-now w c.args.self.now.notes.report c.in_ok-advices.advices.items lawful.well_formed.cabling c.requires c.in_ok-advices.ensures
