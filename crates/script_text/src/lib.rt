@@ -19,5 +19,5 @@ pub use laws::{
 };
 pub use maps::maps_text;
 pub use plan::plan_line;
-pub use report::{put_name, put_names, put_numbered, report_text, tree_of};
+pub use report::{names_in, put_name, put_names, put_numbered, report_text, tree_of};
 pub use topology_stack::{Name, NameList, OutOfMemory};

@@ -8,5 +8,5 @@ loop-node-preserved c =
     omega (arith, c.loop-node-test.true, c.loop-node.auto.node-index-end) in
     c.in_ok-push.ensures.ok
     ∙ names-more c.args.names.now c.args.order.now c.loop-node.node-index c.loop-node.list
-    c.copy_of.result c.index-names-node.result within (c.requires c.loop-node.node-index 0 within)
-    c.loop-node.invariant (c.copy_of.ensures ∙ c.index-names-node.is)
+    c.in_ok-clone.field-0 c.index-names-node.result within (c.requires c.loop-node.node-index 0 within)
+    c.loop-node.invariant (c.in_ok-clone.ensures.cases ∙ c.index-names-node.is)
