@@ -1,5 +1,6 @@
 //! Which cables are pulled.
 
+use crate::cables::plug_all;
 use cabling::{Cable, Cabling, End};
 use loop_advice::{Advice, CableList, OutOfMemory, advise, cables_of, check, pull_advised};
 use std::alloc::Global;
@@ -28,17 +29,6 @@ fn are(list: &CableList, cables: &[[u8; 4]]) -> bool {
     }
     for (one, ends) in list.as_slice().iter().zip(cables) {
         if *one != cable(*ends) {
-            return false;
-        }
-    }
-    true
-}
-
-/// Plugs cables, each given as node, port, node, port; whether all were plugged.
-fn plug_all(cabling: &mut Cabling, cables: &[[u8; 4]]) -> bool {
-    for ends in cables {
-        let one = cable(*ends);
-        if cabling.plug(one.a, one.b).is_err() {
             return false;
         }
     }

@@ -1,24 +1,13 @@
 //! Cables, cores, walks and the trees that cables describe.
 
+use crate::nodes::PLAIN;
 use cabling::{Cable, CableFault, Cabling, Cyclic, End, OutOfMemory, TreeFromFault};
-use self_id::Attrs;
 use std::alloc::Global;
 use std::test::Fail;
 use topology_stack::write_tree;
 
-/// The attributes of every node of these tests.
-const LINKED: Attrs = Attrs {
-    link: true,
-    gap: 63,
-    speed: 2,
-    delay: 0,
-    contender: false,
-    power: 0,
-    initiated: false,
-};
-
 /// Plugs cables, each given as node, port, node, port; whether all were plugged.
-fn plug_all(cabling: &mut Cabling, cables: &[[u8; 4]]) -> bool {
+pub fn plug_all(cabling: &mut Cabling, cables: &[[u8; 4]]) -> bool {
     for [a, p, b, q] in cables {
         let near = End { node: *a, port: *p };
         let far = End { node: *b, port: *q };
@@ -63,7 +52,7 @@ fn list_is(
     if cabling.nodes() != 3 || root >= 3 {
         return Ok(false);
     }
-    let tree = cabling.tree_from(alloc, root, &[LINKED; 3])?;
+    let tree = cabling.tree_from(alloc, root, &[PLAIN; 3])?;
     Ok(write_tree(alloc, &tree)?.as_slice() == list)
 }
 

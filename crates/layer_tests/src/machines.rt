@@ -1,9 +1,9 @@
 //! Two nodes become a tree, and contend.
 ghost use Rattle.phy_machine.specs.PowerOn.{IsSpec};
 
+use crate::nodes::PLAIN;
 use phy_machine::*;
 use port_state::{Coins, Phase, PortMachine, Sends, Signal, Timing};
-use self_id::Attrs;
 
 // A node of three ports that draws zeros.
 fn spec() -> NodeSpec
@@ -11,15 +11,7 @@ fn spec() -> NodeSpec
 {
     NodeSpec {
         ports: 3,
-        attrs: Attrs {
-            link: true,
-            gap: 63,
-            speed: 2,
-            delay: 0,
-            contender: false,
-            power: 0,
-            initiated: false,
-        },
+        attrs: PLAIN,
         timing: Timing::usual(1),
         force: false,
         coins: Coins::bits(0, 1),

@@ -2,7 +2,8 @@
 
 use self_id::{Attrs, PortStatus, QuadGroup, SelfId, write_group};
 
-const PLAIN: Attrs = Attrs {
+/// What a node of these tests says of itself.
+pub const PLAIN: Attrs = Attrs {
     link: true,
     gap: 63,
     speed: 2,
