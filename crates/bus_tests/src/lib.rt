@@ -18,6 +18,8 @@ mod hostile;
 #[cfg(test)]
 mod inputs;
 #[cfg(test)]
+mod more_nodes;
+#[cfg(test)]
 mod nodes;
 #[cfg(test)]
 mod plans;
@@ -32,8 +34,10 @@ mod settled;
 #[cfg(test)]
 mod spent;
 #[cfg(test)]
+mod steps;
+#[cfg(test)]
 mod texts;
 #[cfg(test)]
 mod traces;
 #[cfg(test)]
-mod worlds;
+mod two_nodes;

@@ -39,6 +39,12 @@ pub const ONES: Node = Node {
     ..USUAL
 };
 
+/// A node of three ports that draws zeros, and contends to be isochronous resource manager.
+pub const CONTENDER: Node = Node {
+    contender: true,
+    ..USUAL
+};
+
 /// A specification of a node whose cables delay by at most `d` turns.
 pub fn spec(node: Node, d: u8) -> NodeSpec
     requires some { 1 ≤ d }

@@ -1,5 +1,5 @@
 use Rattle.std.proofs.Common.{◌≡◌, length}
-use Rattle.bus_tests.proofs.worlds.take_all.Given as goal
+use Rattle.bus_tests.proofs.steps.take_all.Given as goal
 
 -- there are as many nodes
 abbrev pub invariant-loop-step : goal.invariant-loop-step
