@@ -1,62 +1,25 @@
 //! A bus manager's plans, carried out.
-ghost use Rattle.std.specs.Prelude.{◌≡◌, ◌≤◌, IsFalse, IfOk, IfSome, length};
-ghost use Rattle.cable_world.specs.World.{IsNodeAtPowerOn};
-ghost use Rattle.phy_machine.specs.Field.{field_node};
+ghost use Rattle.std.specs.Prelude.{IsFalse, IfOk, IfSome};
 ghost use Rattle.settle.specs.Report.{IsReport};
 
+use crate::nodes::{CONTENDER, Node, USUAL, world};
 use crate::quiet::can_settle;
 use cable_world::{Act, World, WorldRun};
 use cabling::{End, components_are_whole};
-use phy_machine::{FieldMachine, NodeSpec};
-use port_state::{Coins, Timing, power_on_is_valid, usual_in_range};
+use phy_machine::AnyMachine;
 use root_plan::{RootPlan, choose};
-use self_id::Attrs;
 use settle::{Outcome, Report, plans_suit, settle, settle_plan};
-use std::alloc::{AllocError, Global};
+use std::alloc::Global;
 use std::process::Abort;
 use std::test::Fail;
 use topology_stack::read_tree;
 
-/// A node of three ports, which may contend to be isochronous resource manager.
-fn machine(contender: bool) -> FieldMachine
-    ensures { IsNodeAtPowerOn 4 (field_node result).state }
-{
-    power_on_is_valid();
-    usual_in_range();
-    FieldMachine::new(NodeSpec {
-        ports: 3,
-        attrs: Attrs {
-            link: true,
-            gap: 63,
-            speed: 2,
-            delay: 0,
-            contender,
-            power: 0,
-            initiated: false,
-        },
-        timing: Timing::usual(4),
-        force: false,
-        coins: Coins::bits(0, 1),
-    })
-}
-
-/// A world of nodes, of which these contend, and no cable.
-fn world_of(alloc: Global, contenders: &[bool]) -> Result<World<FieldMachine>, AllocError>
-    requires { length contenders.now ≤ 63 }
-{
-    let mut machines = Vec::new(alloc);
-    for contender in contenders {
-        machines.push(machine(*contender))?;
-    }
-    World::new(alloc, machines, 4)
-}
-
-/// A line of nodes, of which these contend: a cable leads from each node's port 1, or the first
-/// one's port 0, to port 0 of the next.
-fn line(rt: &impl Abort, alloc: Global, contenders: &[bool]) -> Result<World<FieldMachine>, Fail> {
-    assert!(rt; 1 <= contenders.len() && contenders.len() <= 63);
-    let mut world = world_of(alloc, contenders)?;
-    for node in 1..contenders.len() as u8 {
+/// These nodes in a line: a cable leads from each node's port 1, or the first one's port 0, to port 0 of
+/// the next.
+fn line(rt: &impl Abort, alloc: Global, nodes: &[Node]) -> Result<World<AnyMachine>, Fail> {
+    assert!(rt; 1 <= nodes.len() && nodes.len() <= 63);
+    let mut world = world(rt, alloc, nodes, 4, false)?;
+    for node in 1..nodes.len() as u8 {
         let port = if node == 1 { 0 } else { 1 };
         world.act(&Act::Plug {
             a: End {
@@ -165,7 +128,7 @@ fn other_end_is_root(planned: &Option<(RootPlan, Report)>) -> bool {
 // the first of three nodes plans; both ends contend
 #[test]
 fn the_other_end_becomes_root(rt: HostRuntime) -> Result<(), Fail> {
-    let mut world = line(&rt, rt.alloc(), &[true, false, true])?;
+    let mut world = line(&rt, rt.alloc(), &[CONTENDER, USUAL, CONTENDER])?;
     let planned = settled_and_replanned(&rt, rt.alloc(), &mut world, 0)?;
     assert!(rt; other_end_is_root(&planned));
     Ok(())
@@ -197,7 +160,7 @@ fn middle_is_root(report: &Report) -> bool {
 // all of five nodes contend; a second plan follows the first, and finds the root in the middle
 #[test]
 fn the_middle_becomes_root_and_stays(rt: HostRuntime) -> Result<(), Fail> {
-    let mut world = line(&rt, rt.alloc(), &[true; 5])?;
+    let mut world = line(&rt, rt.alloc(), &[CONTENDER; 5])?;
     let Some((first, report)) = settled_and_replanned(&rt, rt.alloc(), &mut world, 4)? else {
         assert!(rt; false, "a plan");
         return Ok(());

@@ -1,56 +1,16 @@
 //! The report of a world that does one turn after the other.
-ghost use Rattle.std.specs.Prelude.{◌≡◌, ◌+◌, ◌≤◌, All, IfOk, IsFalse, length};
-ghost use Rattle.cable_world.specs.World.{IsNodeAtPowerOn};
-ghost use Rattle.phy_machine.specs.Field.{field_node};
+ghost use Rattle.std.specs.Prelude.{◌≡◌, ◌+◌, ◌≤◌, IsFalse, length};
 ghost use Rattle.settle.specs.Report.{quiet_turns_of};
 
+use crate::nodes::{ONES, USUAL, world};
 use crate::quiet::can_settle;
-use cable_world::{Act, World, WorldRun};
+use cable_world::{Act, WorldRun};
 use cabling::End;
-use phy_machine::{FieldMachine, NodeSpec};
-use port_state::{Coins, Timing, power_on_is_valid, usual_in_range};
 use script_text::{Name, report_text, reports_can_be_shown};
-use self_id::Attrs;
 use settle::settle;
 use std::alloc::{AllocError, Global};
 use std::test::Fail;
 use topology_stack::NameList;
-
-/// A node of three ports that draws the same coin over and over.
-fn machine(coin: u8) -> FieldMachine
-    ensures { IsNodeAtPowerOn 4 (field_node result).state }
-{
-    power_on_is_valid();
-    usual_in_range();
-    FieldMachine::new(NodeSpec {
-        ports: 3,
-        attrs: Attrs {
-            link: true,
-            gap: 63,
-            speed: 2,
-            delay: 0,
-            contender: false,
-            power: 0,
-            initiated: false,
-        },
-        timing: Timing::usual(4),
-        force: false,
-        coins: Coins::bits(u64::from(coin), 1),
-    })
-}
-
-/// A world of nodes with these coins, and no cable.
-fn world_of(alloc: Global, coins: &[u8]) -> Result<World<FieldMachine>, AllocError>
-    requires { length coins.now ≤ 63 }
-    ensures { IfOk result (λ w.
-        length (⟦<World<FieldMachine> as WorldRun>⟧.world w).nodes ≡ length coins.now) }
-{
-    let mut machines = Vec::new(alloc);
-    for coin in coins {
-        machines.push(machine(*coin))?;
-    }
-    World::new(alloc, machines, 4)
-}
 
 /// The text of the report that a world comes to, where each of its nodes has a name.
 fn told<W: WorldRun>(alloc: Global, world: &mut W, names: &NameList) -> Result<Vec<u8>, AllocError>
@@ -88,7 +48,7 @@ fn a_tree_is_told(rt: HostRuntime) -> Result<(), Fail> {
     let alloc = rt.alloc();
     let names = two_names(alloc)?;
     assert!(rt; names.as_slice().len() == 2);
-    let mut world = world_of(alloc, &[0, 1])?;
+    let mut world = world(&rt, alloc, &[USUAL, ONES], 4, false)?;
     world.act(&Act::Plug {
         a: End { node: 0, port: 0 },
         b: End { node: 1, port: 0 },

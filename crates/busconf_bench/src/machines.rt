@@ -1,9 +1,8 @@
 //! Ticks of a node's machine.
-ghost use Rattle.phy_machine.specs.PowerOn.{IsSpec};
 
-use phy_machine::{FieldMachine, NodeSpec, PackedMachine};
-use port_state::{Coins, PortMachine, Sends, Timing};
-use self_id::Attrs;
+use crate::nodes::spec;
+use phy_machine::{FieldMachine, PackedMachine};
+use port_state::{Coins, PortMachine, Sends};
 
 /// Which machine ticks.
 #[derive(Clone, Copy)]
@@ -30,26 +29,6 @@ pub struct Nodes {
     field: FieldMachine,
     packed: PackedMachine,
     out: Sends,
-}
-
-fn spec() -> NodeSpec
-    ensures { IsSpec result }
-{
-    NodeSpec {
-        ports: 3,
-        attrs: Attrs {
-            link: true,
-            gap: 63,
-            speed: 2,
-            delay: 0,
-            contender: false,
-            power: 0,
-            initiated: false,
-        },
-        timing: Timing::usual(4),
-        force: false,
-        coins: Coins::bits(0, 1),
-    }
 }
 
 /// One tick.
@@ -90,8 +69,8 @@ impl Nodes {
     /// Machines that have identified themselves.
     pub fn new() -> Nodes {
         let mut nodes = Nodes {
-            field: FieldMachine::new(spec()),
-            packed: PackedMachine::new(spec()),
+            field: FieldMachine::new(spec(3, Coins::bits(0, 1))),
+            packed: PackedMachine::new(spec(3, Coins::bits(0, 1))),
             out: Sends::new(),
         };
         identify(&mut nodes.field, &mut nodes.out);

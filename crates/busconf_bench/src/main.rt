@@ -33,6 +33,7 @@ mod cablings;
 mod calls;
 mod captures;
 mod machines;
+mod nodes;
 mod worlds;
 
 use calls::{Call, measured};

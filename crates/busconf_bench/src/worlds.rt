@@ -1,16 +1,14 @@
 //! Buses of 63 nodes that run.
 ghost use Rattle.std.specs.Prelude.{◌≡◌, All, IfOk, length};
-ghost use Rattle.phy_machine.specs.PowerOn.{IsSpec};
 ghost use Rattle.phy_machine.specs.Field.{field_node};
-ghost use Rattle.port_state.specs.Timing.{InRange};
 ghost use Rattle.cable_world.specs.World.{IsNodeAtPowerOn};
 
 use crate::cablings::{Shape, joined};
+use crate::nodes::{DELAY, spec};
 use cable_world::{Act, World, WorldRun};
 use cabling::{Cabling, End};
-use phy_machine::{FieldMachine, NodeSpec};
-use port_state::{Coins, Timing};
-use self_id::Attrs;
+use phy_machine::FieldMachine;
+use port_state::Coins;
 use std::alloc::{AllocError, Global};
 use world_agenda::AgendaWorld;
 
@@ -26,39 +24,14 @@ pub enum Course {
 /// How many nodes there are.
 const NODES: u8 = 63;
 
-/// By how many turns a cable delays a signal at most.
-const DELAY: u8 = 4;
-
 /// The turns after which so many nodes have settled.
 const SETTLED: u32 = 73_520;
-
-/// A node of so many ports.
-fn spec(ports: u8, node: u8) -> NodeSpec
-    ensures is { IsSpec result }
-    ensures timing { InRange 4 result.timing }
-{
-    NodeSpec {
-        ports: ports.clamp(1, 16),
-        attrs: Attrs {
-            link: true,
-            gap: 63,
-            speed: 2,
-            delay: 0,
-            contender: true,
-            power: 0,
-            initiated: false,
-        },
-        timing: Timing::usual(DELAY),
-        force: false,
-        coins: Coins::seeded(u32::from(node)),
-    }
-}
 
 /// A machine that was just powered on.
 fn powered_on(ports: u8, node: u8) -> FieldMachine
     ensures { IsNodeAtPowerOn 4 (field_node result).state }
 {
-    FieldMachine::new(spec(ports, node))
+    FieldMachine::new(spec(ports, Coins::seeded(u32::from(node))))
 }
 
 /// How many ports the nodes have that are joined in a shape.
