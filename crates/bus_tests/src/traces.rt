@@ -8,7 +8,7 @@ use cable_world::{Act, ShowsWires, WorldRun};
 use cabling::{End, NodeSet};
 use script_lines::{Command, Name};
 use script_run::{Kind, ScriptFault, ScriptStop, trace_script};
-use script_trace::{Legend, Listener, hear_turns, put_command, seen_before_act};
+use script_trace::{Legend, Listener, Trace, hear_turns, put_command, seen_before_act};
 use settle::{Report, settle};
 use std::alloc::{AllocError, Global};
 use std::process::Abort;
@@ -184,13 +184,13 @@ fn traced<W: TellsStillTurns>(
         nanoseconds: None,
     };
     let touched = NodeSet::first(2);
-    let mut text = Vec::new(alloc);
+    let mut trace = Trace::new(alloc);
     let seen = seen_before_act(alloc, &*world, 2, touched)?;
-    put_command(&mut text, world.turns(), command)?;
+    trace.command(world.turns(), command)?;
     world.act(act)?;
-    text.since(&legend, touched, &seen, &*world)?;
-    hear_turns(alloc, world, 300, &legend, &mut text)?;
-    Ok(text)
+    trace.since(&legend, touched, &seen, &*world)?;
+    hear_turns(alloc, world, 300, &legend, &mut trace)?;
+    Ok(trace.into_text())
 }
 
 /// The command that plugs two nodes together.

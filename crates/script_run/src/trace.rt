@@ -6,7 +6,7 @@ ghost use Rattle.script_run.specs.Answered.{IsRefused, IsOnlyFault};
 
 use crate::script::{Taken, at_line, take_lines};
 use script_lines::ScriptStop;
-use script_trace::{scripts_have_one_trace, turns_show_what_is_sent};
+use script_trace::{Trace, scripts_have_one_trace, turns_show_what_is_sent};
 use std::alloc::Global;
 
 /// The trace of the lines of a script and of the `settle` behind the last.
@@ -15,13 +15,13 @@ fn trace_of(alloc: Global, bytes: &[u8]) -> Result<Vec<u8>, ScriptStop>
     ensures traced { IfOk result (λ lines. IsTrace bytes.now (Ok lines.items)) }
     ensures refused { IfErr result (IsRefused bytes.now) }
 {
-    let mut lines = Vec::new(alloc);
-    let Taken { stage, number, .. } = take_lines(alloc, bytes, &mut lines)?;
-    match stage.last_report(alloc, &mut lines) {
+    let mut trace = Trace::new(alloc);
+    let Taken { stage, number, .. } = take_lines(alloc, bytes, &mut trace)?;
+    match stage.last_report(alloc, &mut trace) {
         Ok(_) => {}
         Err(stop) => return Err(at_line(number, stop)),
     }
-    Ok(lines)
+    Ok(trace.into_text())
 }
 
 /// The trace of a script, of 1,048,576 bytes at most: what happens on its bus, in the order in which

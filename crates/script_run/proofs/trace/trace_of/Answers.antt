@@ -1,3 +1,6 @@
+use Rattle.std.proofs.Common.{List, ℕ, sym, subst}
+use Rattle.std.specs.Prelude.{Ok}
+use Rattle.script_trace.specs.Trace.{IsTrace}
 use Rattle.script_run.proofs.Going.{refused-end}
 use Rattle.script_run.proofs.Tracing.{trace-ends}
 use Rattle.script_run.proofs.trace.trace_of.Goals as goal
@@ -11,4 +14,5 @@ pub returns-clause-traced : goal.returns-clause-traced
 returns-clause-traced c =
     let taken = c.in_ok-stage.field-0 in
     let done = c.in-Ok.ensures.done in
-    trace-ends c.args.bytes.now taken.text.items _ _ _ taken.number taken.stage done.0 _ c.new-lines.ensures.items c.in_ok-stage.ensures.lines done.1 done.2
+    subst (λ (lines : List ℕ). IsTrace c.args.bytes.now (Ok lines)) (sym c.into_text.ensures)
+    (trace-ends c.args.bytes.now taken.text.items _ _ _ taken.number taken.stage done.0 _ c.new-trace.ensures c.in_ok-stage.ensures.lines done.1 done.2)

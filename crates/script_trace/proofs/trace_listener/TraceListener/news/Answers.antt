@@ -1,5 +1,5 @@
 use Rattle.script_trace.proofs.News.{trace-news}
-use Rattle.script_trace.proofs.text.VecU8Listener.news.Goals as goal
+use Rattle.script_trace.proofs.trace_listener.TraceListener.news.Goals as goal
 
 pub returns : goal.returns
 returns c = trace-news
