@@ -398,10 +398,8 @@ fn view_of(alloc: Global, form: ViewForm, bytes: &[u8]) -> Result<View, OutOfMem
         ViewForm::JsonRun => view_reports(alloc, bytes),
         ViewForm::Explain => view_explain(alloc, bytes),
         ViewForm::ListOf(name) => view_list(alloc, &name, bytes),
-        ViewForm::Script { .. } => unreachable!(),
-        ViewForm::Resets(_) => unreachable!(),
-        ViewForm::Nosy(_) => unreachable!(),
-        ViewForm::OfItself(_) => unreachable!(),
+        ViewForm::Script { .. } | ViewForm::Resets(_) | ViewForm::Nosy(_) | ViewForm::OfItself(_) =>
+            unreachable!(),
     }
 }
 

@@ -50,10 +50,8 @@ impl Bus {
         ensures { IfOk result (λ list. IfSome self.now.notes.report (λ report.
             AreAdvices self.now.world.cabling (loops_of report.parts) list.items)) }
     {
-        match &self.notes.report {
-            Some(report) => advices(alloc, self.cabling(), report.parts.as_slice()),
-            None => unreachable!(),
-        }
+        let report = self.notes.report.as_ref().unwrap();
+        advices(alloc, self.cabling(), report.parts.as_slice())
     }
 
     /// What is advised on a bus that has settled, and its text.

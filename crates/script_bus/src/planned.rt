@@ -43,10 +43,7 @@ fn chosen(tree: &BusTree) -> RootPlan
     requires { elected tree.now ≡ None → ⊥ }
     ensures { IsPlan tree.now result }
 {
-    match choose(tree) {
-        Some(plan) => plan,
-        None => unreachable!(),
-    }
+    choose(tree).unwrap()
 }
 
 /// A line, and behind it a report.
