@@ -5,7 +5,6 @@
 
 mod laws;
 mod line;
-mod names;
 mod plain;
 mod report;
 

@@ -8,11 +8,10 @@ ghost use Rattle.script_text.specs.ReportText.{AreNamed, IsNamedTree, IsNamedOut
 ghost use Rattle.report_views.specs.ReportJson.{set_names, IsTreeMember, contention_member, loop_member, IsOutcomeMember, component_value, AreComponents, report_value, IsReadLine};
 ghost use Rattle.report_views.specs.codings.Written.{held_tokens, IsWritten, IsComponentWritten, AreWritten};
 
-use crate::names::names_in;
 use bus_json::{JsonText, name_text, put_tree};
 use cabling::NodeSet;
 use quad_lanes::QuadList;
-use script_text::tree_of;
+use script_text::{names_in, tree_of};
 use settle::{Outcome, Part, Report};
 use std::alloc::Global;
 use topology_stack::{Name, OutOfMemory, one_tree};

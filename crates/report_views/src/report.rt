@@ -5,11 +5,10 @@ ghost use Rattle.report_views.specs.PlainGraph.{AreThere};
 ghost use Rattle.report_views.specs.ReportGraph.{IsTreeGraph, IsOutcomeGraph, ArePartGraphs, IsReportGraph};
 ghost use Rattle.report_views.specs.codings.Added.{IsAppended};
 
-use crate::names::names_in;
 use crate::plain::put_plain_graph;
 use cabling::{Cabling, NodeSet};
 use quad_lanes::QuadList;
-use script_text::tree_of;
+use script_text::{names_in, tree_of};
 use settle::{Outcome, Part, Report};
 use std::alloc::Global;
 use topology_stack::{Name, OutOfMemory, one_tree};
