@@ -1,13 +1,8 @@
 //! The choice of a root.
 ghost use Rattle.std.specs.Prelude.{◌≡◌, ◌↔◌, ◌<◌, true, Some, None, IsNone, IfSome};
-ghost use Rattle.phy_packet.specs.Packet.{quad_of};
-ghost use Rattle.phy_packet.specs.declared.packet.PhyPacket.TheVariants.{Config};
 ghost use Rattle.topology_stack.specs.Tree.{walk};
 ghost use Rattle.topology_stack.specs.Elect.{elected, is_candidate, IsCandidate, IsHighest};
-ghost use Rattle.bus_manager.specs.Gap.{gap_of};
-ghost use Rattle.bus_manager.specs.Hops.{IsHops};
-ghost use Rattle.root_plan.specs.Reach.{IsReach};
-ghost use Rattle.root_plan.specs.Choice.{NoneReachesLess, NoneIsHigher};
+ghost use Rattle.root_plan.specs.Plan.{IsPlan};
 ghost use Rattle.root_plan.specs.codings.Climb.{BestFrom};
 
 use crate::reach::reach;
@@ -73,16 +68,7 @@ fn best_candidate(tree: &BusTree, manager: u8) -> Candidate
 /// `None` where no node is eligible, and so none is elected.
 pub fn choose(tree: &BusTree) -> Option<RootPlan>
     ensures none { IsNone result ↔ (elected tree.now ≡ None) }
-    ensures eligible { IfSome result (λ plan. IsCandidate (walk tree.now) plan.root_id) }
-    ensures far { IfSome result (λ plan. IsReach tree.now plan.root_id plan.far) }
-    // No eligible node has a lesser reach.
-    ensures least { IfSome result (λ plan. NoneReachesLess tree.now plan.far) }
-    // None of equal reach has a higher ID.
-    ensures highest { IfSome result (λ plan. NoneIsHigher tree.now plan.root_id plan.far) }
-    ensures hops { IfSome result (λ plan. IsHops tree.now plan.hops) }
-    ensures gap { IfSome result (λ plan. plan.gap ≡ gap_of plan.hops) }
-    ensures packet { IfSome result (λ plan.
-        plan.packet ≡ quad_of (Config plan.root_id true true plan.gap 0)) }
+    ensures plan { IfSome result (λ plan. IsPlan tree.now plan) }
 {
     let manager = elect(tree)?;
     let best = best_candidate(tree, manager);

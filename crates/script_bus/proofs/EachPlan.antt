@@ -27,7 +27,7 @@ use Rattle.script_told.specs.EachPlan.{IsCarriedOut, ComesOut, EachPlanComesOut}
 use Rattle.script_told.specs.SomeAnswer.{IsReachedBus}
 use Rattle.script_told.specs.SomeManager.{IsManaged, ReportedTreesAreManaged}
 use Rattle.script_text.specs.ReportText.{Names, IsReportText}
-use Rattle.script_text.specs.Plan.{plan_line}
+use Rattle.script_text.specs.PlanText.{plan_line}
 use Rattle.script_told.specs.PrintedTree.{PrintsTree}
 use Rattle.script_told.proofs.Lemmas.{prints-tree, tree-managed, stage-in, printed-in, sound-bus, plan-carried, IsDone, each-done}
 use Rattle.script_bus.specs.codings.Standing.{StandsAs}

@@ -24,7 +24,7 @@ use Rattle.root_plan.specs.declared.choice.RootPlan.{RootPlan}
 use Rattle.root_plan.proofs.Lemmas.{candidate_within}
 use Rattle.settle.specs.Planned.{SuitsTree, HasId, PlansSuit}
 use Rattle.script_told.specs.Bus.{ReportedTree}
-use Rattle.script_text.specs.Plan.{IsPlan}
+use Rattle.root_plan.specs.Plan.{IsPlan}
 use Rattle.script_text.specs.ReportText.{Names, IsNamedTree}
 use Rattle.script_told.specs.Step.{HasManager, node_with}
 use Rattle.script_bus.specs.codings.Standing.{StandsAs}

@@ -27,7 +27,7 @@ use Rattle.settle.specs.SomeWalk.{HasWalk, WalksExist}
 use Rattle.settle.specs.Planned.{SuitsTree}
 use Rattle.settle.proofs.Lemmas.{not-refused, packet-fits, suits, nodes-stay}
 use Rattle.script_lines.specs.declared.kind.Kind.{Kind}
-use Rattle.script_text.specs.Plan.{plan_line}
+use Rattle.script_text.specs.PlanText.{plan_line}
 use Rattle.script_text.specs.SomePlan.{HasPlan, PlansExist}
 use Rattle.script_text.specs.SomeText.{HasReportText, QuietWorldsHaveTexts}
 use Rattle.script_told.specs.Bus.{Bus, ReportedTree, node_named, tree_with, values_at}

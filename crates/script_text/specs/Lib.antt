@@ -6,6 +6,6 @@ pub mod Summary
 pub mod Maps
 pub mod SomeMaps
 pub mod CommandText
-pub mod Plan
+pub mod PlanText
 pub mod SomePlan
 pub mod codings

@@ -3,7 +3,7 @@ use Rattle.std.specs.Prelude.{ℕ}
 use Rattle.topology_stack.specs.Tree.{Tree, walk, IsBusTree}
 use Rattle.topology_stack.specs.Elect.{IsCandidate}
 use Rattle.root_plan.specs.declared.choice.RootPlan.{RootPlan}
-use Rattle.script_text.specs.Plan.{IsPlan}
+use Rattle.root_plan.specs.Plan.{IsPlan}
 
 pub record HasPlan (t : Tree) : Type 0 where
   pub plan : RootPlan

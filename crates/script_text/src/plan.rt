@@ -1,6 +1,6 @@
 //! The line of a plan.
 ghost use Rattle.std.specs.Prelude.{◌≡◌, ◌++◌, ◌<◌, All, length, IfOk, OnOk};
-ghost use Rattle.script_text.specs.Plan.{plan_numbers, plan_nodes, all_in, plan_line};
+ghost use Rattle.script_text.specs.PlanText.{plan_numbers, plan_nodes, all_in, plan_line};
 
 use crate::report::{put_name, put_numbered};
 use root_plan::RootPlan;
@@ -8,7 +8,7 @@ use std::alloc::Global;
 use topology_stack::{Name, OutOfMemory};
 
 /// Appends the numbers of a plan.
-#[tactic(auto, unfolding(crate::specs::Plan::plan_numbers))]
+#[tactic(auto, unfolding(crate::specs::PlanText::plan_numbers))]
 fn put_plan_numbers(out: &mut Vec<u8>, plan: &RootPlan) -> Result<(), OutOfMemory>
     ensures { OnOk result (out.new.items ≡ out.old.items ++ plan_numbers plan.now) }
 {
@@ -18,7 +18,7 @@ fn put_plan_numbers(out: &mut Vec<u8>, plan: &RootPlan) -> Result<(), OutOfMemor
 }
 
 /// Appends the bus manager and the node that is to be root.
-#[tactic(auto, unfolding(crate::specs::Plan::plan_nodes))]
+#[tactic(auto, unfolding(crate::specs::PlanText::plan_nodes))]
 fn put_plan_nodes(
     out: &mut Vec<u8>,
     names: &[Name],

@@ -31,7 +31,8 @@ use Rattle.script_lines.specs.Refusal.{kind_of}
 use Rattle.script_text.specs.ReportText.{IsReportText}
 use Rattle.script_text.specs.Maps.{IsMapsText}
 use Rattle.script_text.specs.CommandText.{csr_text, grant_text, bid_text}
-use Rattle.script_text.specs.Plan.{IsPlan, plan_line}
+use Rattle.root_plan.specs.Plan.{IsPlan}
+use Rattle.script_text.specs.PlanText.{plan_line}
 use Rattle.script_told.specs.Bus.{Notes, Bus, ReportedTree, node_named, resets_of, tree_with, values_at, after_access, look_of, put_look}
 
 -- the bus and what was printed, or a fault

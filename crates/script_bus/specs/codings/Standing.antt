@@ -14,7 +14,8 @@ use Rattle.script_lines.specs.declared.command.Command.{Command}
 use Rattle.script_lines.specs.declared.command.Command.TheVariants.{Plug, Pull, Reset, Config, Hold, Turn, Settle, Plan}
 use Rattle.script_text.specs.ReportText.{IsNamedReport, IsReportText}
 use Rattle.script_told.specs.Bus.{Bus, ReportedTree}
-use Rattle.script_text.specs.Plan.{IsPlan, plan_line}
+use Rattle.root_plan.specs.Plan.{IsPlan}
+use Rattle.script_text.specs.PlanText.{plan_line}
 use Rattle.script_told.specs.Step.{IsTreeOf, Acts, Reports, config_of, node_with, notes_after_report}
 use Rattle.script_trace.specs.Voice.{Legend, legend_of, Voice}
 use Rattle.script_trace.specs.Trace.{act_trace, quiet_trace}

@@ -29,7 +29,8 @@ use Rattle.script_text.specs.ReportText.{IsReportText}
 use Rattle.script_text.specs.Maps.{IsMapsText}
 use Rattle.script_text.specs.CommandText.{csr_text, grant_text}
 use Rattle.std.specs.Option.{option_map}
-use Rattle.script_text.specs.Plan.{IsPlan, plan_line}
+use Rattle.root_plan.specs.Plan.{IsPlan}
+use Rattle.script_text.specs.PlanText.{plan_line}
 use Rattle.script_told.specs.Bus.{Notes, Bus, ReportedTree, node_named, resets_of, tree_with, values_at}
 use Rattle.script_told.specs.Step.{LineAnswer, AtNamedNode, Named, AtTree, Settled, AtManager, IsTreeOf, Managed, node_with, id_of, Acts, HoldsWire, Within, Reports, DoesSettle, Accesses, Looks, DoesGrant, Bids, CarriesOut, Plans, PlansAs, MapsOf, GivesMaps, Does, end_of, config_of, notes_after_report}
 use Rattle.script_lines.specs.Refusal.{kind_of}

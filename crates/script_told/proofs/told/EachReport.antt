@@ -18,7 +18,7 @@ use Rattle.script_lines.specs.declared.kind.Kind.{Kind}
 use Rattle.script_lines.specs.declared.command.Command.{Command}
 use Rattle.script_lines.specs.declared.command.Command.TheVariants.{Settle, Plan}
 use Rattle.script_text.specs.ReportText.{IsReportText}
-use Rattle.script_text.specs.Plan.{plan_line}
+use Rattle.script_text.specs.PlanText.{plan_line}
 use Rattle.script_told.specs.Bus.{Notes, Bus, ReportedTree, node_named, tree_with, values_at}
 use Rattle.script_told.specs.Step.{LineAnswer, AtNamedNode, AtTree, AtManager, Settled, Within, Reports, DoesSettle, Plans, PlansAs, Does, id_of, node_with}
 use Rattle.script_told.specs.Script.{Stage, running, StageAnswer, bus_of, onwards, DoesAtStage}

@@ -38,7 +38,7 @@ use Rattle.script_lines.specs.Refusal.{kind_of}
 use Rattle.self_id.specs.declared.standard.Standard.TheVariants.{Ieee2000}
 use Rattle.topology_stack.specs.Tree.{Tree, IsBusTreeOf}
 use Rattle.root_plan.specs.declared.choice.RootPlan.{RootPlan}
-use Rattle.script_text.specs.Plan.{IsPlan}
+use Rattle.root_plan.specs.Plan.{IsPlan}
 use Rattle.script_text.specs.CommandText.{csr_text, grant_text, bid_text}
 use Rattle.script_told.specs.Bus.{Bus, Notes, ReportedTree, node_named, tree_with, values_at, after_access, put_look}
 use Rattle.script_told.specs.Step.{LineAnswer, AtNamedNode, Named, AtTree, Settled, AtManager, Managed, id_of, Acts, HoldsWire, Within, Turns, Reports, DoesSettle, Accesses, DoesGrant, Looks, seen_by, Plans, GivesMaps, Does, end_of, config_of}

@@ -24,7 +24,7 @@ settle_plan-requires-clause-suits g c =
     let own : IsComponent w.cabling c.args.from part.nodes = subst (λ (d : Wiring). IsComponent d c.args.from part.nodes) c.cabling-2.ensures
     (c.components_are_whole.ensures.shared is.node c.args.from part.nodes (subst (λ (d : Wiring). IsComponent d is.node part.nodes) (sym c.cabling-2.ensures) is.component) holds) in
     c.plans_suit.ensures part.nodes c.in-Tree.root tree.tree c.in_ok-tree.tree c.in-Some.plan own tree.is c.in_ok-tree.ensures.found.0 (c.in_ok-tree.ensures.found.1 ∙ c.as_slice.ensures ∙ tree.emitted) (record {
-      candidate = c.in-Some.ensures.eligible;
-      hops = c.in-Some.ensures.hops;
-      gap = c.in-Some.ensures.gap;
+      candidate = c.in-Some.ensures.plan.candidate;
+      hops = c.in-Some.ensures.plan.hops;
+      gap = c.in-Some.ensures.plan.gap;
     })

@@ -1,5 +1,5 @@
 use Rattle.std.proofs.Common.{◌≡◌, ◌++◌, drop}
-use Rattle.script_text.specs.Plan.{all_in}
+use Rattle.script_text.specs.PlanText.{all_in}
 use Rattle.script_text.proofs.plan.put_all_in.Given as goal
 
 abbrev pub invariant-loop-node : goal.invariant-loop-node

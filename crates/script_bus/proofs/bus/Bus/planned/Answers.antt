@@ -3,7 +3,7 @@ use Rattle.std.proofs.lemmas.List.{get_or_default}
 use Rattle.cable_world.specs.World.{CableWorld}
 use Rattle.cable_world.proofs.Lemmas.{lawful-now}
 use Rattle.settle.specs.Planned.{PlansSuit}
-use Rattle.script_text.specs.Plan.{plan_line}
+use Rattle.script_text.specs.PlanText.{plan_line}
 use Rattle.script_told.specs.Step.{node_with}
 use Rattle.script_bus.specs.Running.{reported}
 use Rattle.script_bus.proofs.Planning.{its-there, plan-suits, plan-place, is-elected}

@@ -1,5 +1,5 @@
 -- The plan of a bus manager: which node is to be root, and with which gap count.
-use Rattle.std.specs.Prelude.{◌≡◌, ℕ, true, List, [], ◌∷◌, ◌++◌, codes}
+use Rattle.std.specs.Prelude.{◌≡◌, true}
 use Rattle.phy_packet.specs.Packet.{quad_of}
 use Rattle.phy_packet.specs.declared.packet.PhyPacket.TheVariants.{Config}
 use Rattle.topology_stack.specs.Tree.{Tree, walk}
@@ -9,7 +9,6 @@ use Rattle.bus_manager.specs.Hops.{IsHops}
 use Rattle.root_plan.specs.Reach.{IsReach}
 use Rattle.root_plan.specs.Choice.{NoneReachesLess, NoneIsHigher}
 use Rattle.root_plan.specs.declared.choice.RootPlan.{RootPlan}
-use Rattle.script_text.specs.ReportText.{Names, spaced, numbered}
 
 -- The plan for a tree: the root is the candidate of least reach, and of these the one with the
 -- highest ID. The gap count suits the tree's hops, and the packet names both.
@@ -21,24 +20,3 @@ pub record IsPlan (t : Tree) (plan : RootPlan) : Type 0 where
   pub hops : IsHops t plan.hops
   pub gap : plan.gap ≡ gap_of plan.hops
   pub packet : plan.packet ≡ quad_of (Config plan.root_id true true plan.gap 0)
-
--- ` NAME NAME`, for nodes in this order
-abbrev pub all_in : Names → List ℕ → List ℕ
-all_in names [] = []
-all_in names (node ∷ nodes) = spaced names node ++ all_in names nodes
-
--- ` hops H gap G far F`
-unfoldable pub plan_numbers : RootPlan → List ℕ
-plan_numbers plan =
-    numbered (codes " hops ") plan.hops
-    ++ (numbered (codes " gap ") plan.gap ++ numbered (codes " far ") plan.far)
-
--- `plan NAME root NAME`: the name of the bus manager, and the node that is to be root
-unfoldable pub plan_nodes : Names → List ℕ → ℕ → List ℕ
-plan_nodes names name root = codes "plan " ++ (name ++ (codes " root" ++ spaced names root))
-
--- `plan NAME root NAME hops H gap G far F expect NAME NAME`
-abbrev pub plan_line : Names → List ℕ → ℕ → RootPlan → List ℕ → List ℕ
-plan_line names name root plan expected =
-    plan_nodes names name root
-    ++ (plan_numbers plan ++ (codes " expect" ++ (all_in names expected ++ codes "\n")))
