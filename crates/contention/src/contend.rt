@@ -1,9 +1,9 @@
 //! The rows from T2 to T3 and out of T3 (Root contention).
 ghost use Rattle.std.specs.Prelude.{◌≡◌, ◌<◌, [], false, length, IsTrue, nat_lt, bit_or, ◌^◌, if◌then◌else◌, ◌&&◌};
 ghost use Rattle.port_state.specs.declared.signal.Phase.TheVariants.{Contend};
-ghost use Rattle.port_state.specs.Rival.{has_rival};
+ghost use Rattle.port_state.specs.Contention.{has_rival, contend_row, draws_with};
 ghost use Rattle.port_state.specs.Coins.{coin, coins_after};
-ghost use Rattle.port_state.specs.TreeIdentify.{parent_shake_row, contend_row, draws_with};
+ghost use Rattle.port_state.specs.TreeIdentify.{parent_shake_row};
 ghost use Rattle.port_state.specs.Tick.{does};
 ghost use Rattle.port_state.specs.Valid.{IsValid};
 

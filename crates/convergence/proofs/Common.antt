@@ -16,7 +16,7 @@ pub use Rattle.port_state.specs.Ports.{every, is_child, is_connected, is_idle, i
 pub use Rattle.port_state.specs.Row.{Row}
 pub use Rattle.port_state.specs.Tick.{does, next_row, raise_timer, row_of}
 unfoldable pub use Rattle.port_state.specs.Tick.{tick}
-pub use Rattle.port_state.specs.TreeIdentify.{draws_with}
+pub use Rattle.port_state.specs.Contention.{draws_with}
 pub use Rattle.port_state.specs.Valid.{FitsPhase, IsValid}
 pub use Rattle.port_state.specs.declared.ports.PortView.{PortView}
 pub use Rattle.port_state.specs.declared.signal.Level.{Level}

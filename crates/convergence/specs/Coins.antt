@@ -3,7 +3,7 @@ use Rattle.std.specs.Prelude.{◌≡◌, ◌⊎◌, ℕ, ◌+◌, ◌<◌, ◌�
 use Rattle.std.specs.Int.{bit_at}
 use Rattle.port_state.specs.declared.signal.Phase.TheVariants.{Contend}
 use Rattle.port_state.specs.declared.states.NodeState.{NodeState}
-use Rattle.port_state.specs.TreeIdentify.{draws_with}
+use Rattle.port_state.specs.Contention.{draws_with}
 use Rattle.cable_world.specs.Phases.{is_before_tree}
 
 -- ---- draws

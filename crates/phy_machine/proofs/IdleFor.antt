@@ -10,7 +10,8 @@ use Rattle.port_state.specs.declared.ports.PortView.{PortView}
 use Rattle.port_state.specs.declared.states.NodeState.{NodeState}
 use Rattle.port_state.specs.Ports.{asks, is_child, is_parent, is_idle, is_unnamed, connected_count, every, lowest, passes, port_is}
 use Rattle.port_state.specs.Resetting.{is_calm}
-use Rattle.port_state.specs.TreeIdentify.{is_decided, parent_shake_at, contend_at}
+use Rattle.port_state.specs.TreeIdentify.{is_decided, parent_shake_at}
+use Rattle.port_state.specs.Contention.{contend_at}
 use Rattle.port_state.specs.SelfIdentify.{may_name, granted_row}
 use Rattle.port_state.specs.Row as row
 use Rattle.port_state.specs.Row.{Row}

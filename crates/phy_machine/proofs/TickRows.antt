@@ -10,9 +10,9 @@ use Rattle.port_state.specs.declared.ports.PortView.{PortView}
 use Rattle.port_state.specs.declared.states.NodeState.{NodeState}
 use Rattle.port_state.specs.Ports.{is_child, is_parent, is_idle, is_unnamed, every, lowest, passes, port_is}
 use Rattle.port_state.specs.Coins.{Coins, coin, coins_after}
-use Rattle.port_state.specs.Rival.{parent_asks, has_rival_in, has_rival}
+use Rattle.port_state.specs.Contention.{parent_asks, has_rival_in, has_rival, contend_at, contend_row}
 use Rattle.port_state.specs.Resetting.{is_calm}
-use Rattle.port_state.specs.TreeIdentify.{is_decided, parent_shake_at, parent_shake_row, contend_at, contend_row}
+use Rattle.port_state.specs.TreeIdentify.{is_decided, parent_shake_at, parent_shake_row}
 use Rattle.port_state.specs.SelfIdentify.{may_name, granted_row, self_ident_row}
 use Rattle.port_state.specs.Row as row
 use Rattle.port_state.specs.Row.{Row}

@@ -7,7 +7,8 @@ use Rattle.port_state.specs.declared.states.NodeState.{NodeState}
 use Rattle.port_state.specs.Ports.{is_idle, is_parent, is_child, is_unnamed, lowest, every, port_is}
 use Rattle.port_state.specs.Step.{Step, silent_step}
 use Rattle.port_state.specs.Resetting.{is_calm}
-use Rattle.port_state.specs.TreeIdentify.{is_decided, parent_shake_at, contend_at}
+use Rattle.port_state.specs.TreeIdentify.{is_decided, parent_shake_at}
+use Rattle.port_state.specs.Contention.{contend_at}
 use Rattle.port_state.specs.SelfIdentify.{may_name, granted_row}
 use Rattle.port_state.specs.Row as row
 use Rattle.port_state.specs.Row.{Row}

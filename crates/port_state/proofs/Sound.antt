@@ -22,6 +22,7 @@ use Rattle.port_state.specs.Heard as heard
 use Rattle.port_state.specs.Heard.{with_level, with_packet, hears, on_signal}
 use Rattle.port_state.specs.Resetting as reset
 use Rattle.port_state.specs.TreeIdentify as tree
+use Rattle.port_state.specs.Contention as contention
 use Rattle.self_id.specs.Group.{node_count}
 use Rattle.port_state.specs.Group.{own_group, shown_node}
 use Rattle.self_id.proofs.Lemmas.{three_packets}
@@ -391,11 +392,11 @@ sound-parent_shake_at coin (Some p) x v e o =
     sound-choice coin x (port_is (λ p. is_child p.shown) x.view.ports p) _ _
     (λ _. sound-send x (tree.finds_parent p x).state p signal.Idle b refl refl refl refl refl refl b.parent refl refl r c)
     (sound-choice coin x (port_is (λ p. is_parent p.shown) x.view.ports p) _ _
-    (λ _. sound-send x (tree.begins_contention coin p x).state p signal.Idle b refl refl refl refl refl refl b.parent refl refl (r, subst (λ q. IsSome q) (sym o) refl) c) (sound-still x v))
+    (λ _. sound-send x (contention.begins_contention coin p x).state p signal.Idle b refl refl refl refl refl refl b.parent refl refl (r, subst (λ q. IsSome q) (sym o) refl) c) (sound-still x v))
 
 sound-contend_at :
     (coin : Bool) (o : Option ℕ) (x : NodeState) → IsValid x → x.view.phase ≡ Contend →
-    x.view.parent ≡ o → IsSound x (does coin (tree.contend_at o x) x)
+    x.view.parent ≡ o → IsSound x (does coin (contention.contend_at o x) x)
 sound-contend_at coin None x v e o = sound-still x v
 sound-contend_at coin (Some p) x v e o =
     let b : IsBounded x = v.bounded in
@@ -403,14 +404,14 @@ sound-contend_at coin (Some p) x v e o =
     let c : port_is (λ p. p.connected) x.view.ports p ≡ true = up-connected x p b fit.0 o in
     let f : PortView → PortView = λ p. record p { child = true } in
     sound-choice coin x (port_is (λ p. is_parent p.shown) x.view.ports p) _ _
-    (λ _. sound-send x (tree.takes_rival p x).state p signal.Child b refl refl refl (length-changed p f x.view.ports) refl refl (λ q n. absurd cc) refl refl
+    (λ _. sound-send x (contention.takes_rival p x).state p signal.Child b refl refl refl (length-changed p f x.view.ports) refl refl (λ q n. absurd cc) refl refl
     (rival_taken x.view.ports p (subst (λ q. HasRoles q x.view.ports) o fit.0))
     (port_is-changed (λ p. p.connected) p f (λ p. refl) x.view.ports p ∙ c))
-    (sound-send x (tree.asks_again p x).state p signal.Parent b refl refl refl refl refl refl b.parent refl refl fit.0 c)
+    (sound-send x (contention.asks_again p x).state p signal.Parent b refl refl refl refl refl refl b.parent refl refl fit.0 c)
 
 sound-contend :
     (coin : Bool) (x : NodeState) → IsValid x → x.view.phase ≡ Contend →
-    IsSound x (does coin (tree.contend_row x) x)
+    IsSound x (does coin (contention.contend_row x) x)
 sound-contend coin x v e = sound-choice coin x (nat_le x.view.wait x.view.timer) _ _ (λ _. sound-contend_at coin x.view.parent x v e refl) (sound-still x v)
 
 -- ---- self identify

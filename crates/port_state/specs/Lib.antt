@@ -15,11 +15,11 @@ pub mod Heard
 pub mod Row
 pub mod Resetting
 pub mod TreeIdentify
+pub mod Contention
 pub mod Group
 pub mod SelfIdentify
 pub mod Tick
 pub mod Names
-pub mod Rival
 pub mod Machine
 pub mod CoinSource
 pub mod Idle

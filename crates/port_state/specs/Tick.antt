@@ -10,7 +10,8 @@ use Rattle.port_state.specs.Step.{Step, silent_step}
 use Rattle.port_state.specs.Row as row
 use Rattle.port_state.specs.Row.{Row}
 use Rattle.port_state.specs.Resetting.{reset_start_row, ends_reset, reset_wait_row, begins_tree}
-use Rattle.port_state.specs.TreeIdentify.{tree_start_row, takes_roles, times_out, child_shake_row, awaits_parent, parent_shake_row, becomes_root, finds_parent, begins_contention, contend_row, takes_rival, asks_again}
+use Rattle.port_state.specs.TreeIdentify.{tree_start_row, takes_roles, times_out, child_shake_row, awaits_parent, parent_shake_row, becomes_root, finds_parent}
+use Rattle.port_state.specs.Contention.{begins_contention, contend_row, takes_rival, asks_again}
 use Rattle.port_state.specs.SelfIdentify.{self_ident_row, asks_child, names_itself}
 
 -- the timer stays at its greatest value

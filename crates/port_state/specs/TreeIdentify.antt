@@ -1,14 +1,13 @@
--- The rows of tree identify: T0 (Tree ID start), T1 (Child handshake), T2 (Parent handshake) and T3
--- (Root contention).
-use Rattle.std.specs.Prelude.{ℕ, ◌+◌, ◌^◌, Bool, true, false, not, ◌&&◌, ◌||◌, ◌==◌, min, [], ◌∷◌, map, count_by, nat_le, nat_lt, bit_or, Option, Some, None, if◌then◌else◌}
-use Rattle.port_state.specs.declared.signal.Phase.TheVariants.{ChildShake, ParentShake, Contend, SelfIdent}
+-- The rows of tree identify: T0 (Tree ID start), which ends at the latest with the configuration
+-- timeout, T1 (Child handshake) and T2 (Parent handshake). T3 is in Contention.antt.
+use Rattle.std.specs.Prelude.{◌+◌, Bool, true, false, not, ◌&&◌, ◌||◌, ◌==◌, [], ◌∷◌, map, count_by, nat_le, Option, Some, None, if◌then◌else◌}
+use Rattle.port_state.specs.declared.signal.Phase.TheVariants.{ChildShake, ParentShake, SelfIdent}
 use Rattle.port_state.specs.declared.signal.Signal.TheVariants as signal
 use Rattle.port_state.specs.declared.ports.PortView.{PortView}
 use Rattle.port_state.specs.declared.states.NodeState.{NodeState}
 use Rattle.port_state.specs.Ports.{PortNumber, is_idle, is_parent, is_child, asks, is_remaining, connected_count, every, lowest, port_is}
 use Rattle.port_state.specs.Sends.{notices}
 use Rattle.port_state.specs.Step.{Step, silent_step}
-use Rattle.port_state.specs.Entry.{with_port}
 use Rattle.port_state.specs.Row as row
 use Rattle.port_state.specs.Row.{Row}
 
@@ -69,26 +68,6 @@ finds_parent parent x = record {
   sends = (parent, signal.Idle) ∷ [];
 }
 
--- the draws with one more coin: the first 32 are kept, number j as bit j
-abbrev pub draws_with : Bool → ℕ → ℕ → ℕ
-draws_with coin draws first = if coin && nat_lt draws 32 then bit_or first (2 ^ draws) else first
-
--- T2 to T3: the parent port shows Parent, so both neighbours asked; a coin is drawn, and the wait
--- is long for 1 and short for 0
-abbrev pub begins_contention : Bool → PortNumber → NodeState → Step
-begins_contention coin parent x = record {
-  state = record x {
-    view = record x.view {
-      phase = Contend;
-      timer = 0;
-      wait = if coin then x.timing.long else x.timing.short;
-      draws = min (x.view.draws + 1) 65535;
-      first_draws = draws_with coin x.view.draws x.view.first_draws;
-    };
-  };
-  sends = (parent, signal.Idle) ∷ [];
-}
-
 abbrev pub parent_shake_at : Option PortNumber → NodeState → Row
 parent_shake_at None x = row.becomes_root
 parent_shake_at (Some parent) x =
@@ -98,33 +77,3 @@ parent_shake_at (Some parent) x =
 
 abbrev pub parent_shake_row : NodeState → Row
 parent_shake_row x = parent_shake_at x.view.parent x
-
--- T3 to T1: the neighbour asks again, so it becomes a child
-abbrev pub takes_rival : PortNumber → NodeState → Step
-takes_rival rival x = record {
-  state = record x {
-    view = record x.view {
-      phase = ChildShake;
-      ports = (with_port rival (λ p. record p { child = true }) x).view.ports;
-      parent = None;
-    };
-  };
-  sends = (rival, signal.Child) ∷ [];
-}
-
--- T3 to T2: the neighbour doesn't, so this node asks again
-abbrev pub asks_again : PortNumber → NodeState → Step
-asks_again rival x = record {
-  state = record x { view = record x.view { phase = ParentShake } };
-  sends = (rival, signal.Parent) ∷ [];
-}
-
-abbrev pub contend_at : Option PortNumber → NodeState → Row
-contend_at None x = row.none
-contend_at (Some rival) x =
-    if port_is (λ p. is_parent p.shown) x.view.ports rival then row.takes_rival rival
-    else row.asks_again rival
-
--- T3: when the wait is over
-abbrev pub contend_row : NodeState → Row
-contend_row x = if nat_le x.view.wait x.view.timer then contend_at x.view.parent x else row.none

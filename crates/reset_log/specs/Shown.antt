@@ -1,4 +1,5 @@
--- What is shown of a reset's list, and of a line of the log.
+-- What is shown of a reset's list: the bus, that it is as before, what changed, or the fault; and of a
+-- line of the log.
 use Rattle.std.specs.Prelude.{◌≡◌, ℕ, ◌==◌, is_none, Bool, true, false, Option, Some, None, List, [], ◌++◌, codes}
 use Rattle.self_id.specs.declared.standard.Standard.{Standard}
 use Rattle.topology_stack.specs.Tree.{Tree, walk}

@@ -1,5 +1,5 @@
 -- The four registers of the isochronous resource manager (IEEE Std 1394-1995, 8.3.2.3.6 to
--- 8.3.2.3.8).
+-- 8.3.2.3.8): BUS_MANAGER_ID, BANDWIDTH_AVAILABLE, CHANNELS_AVAILABLE_HI and .._LO.
 use Rattle.std.specs.Prelude.{ℕ, ◌^◌, ◌%◌, ◌<◌, ◌==◌, Option, [], ◌∷◌, find}
 use Rattle.resource_manager.specs.declared.register.Register.{Register}
 use Rattle.resource_manager.specs.declared.register.Register.TheVariants.{BusManagerId, BandwidthAvailable, ChannelsAvailableHi, ChannelsAvailableLo}

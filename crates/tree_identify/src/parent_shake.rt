@@ -2,7 +2,7 @@
 //! root.
 ghost use Rattle.std.specs.Prelude.{◌≡◌, ◌<◌, ◌≤◌, [], false, length, IsFalse};
 ghost use Rattle.std.specs.Option.{ForSome};
-ghost use Rattle.port_state.specs.Rival.{parent_asks};
+ghost use Rattle.port_state.specs.Contention.{parent_asks};
 ghost use Rattle.port_state.specs.TreeIdentify.{parent_shake_row};
 ghost use Rattle.port_state.specs.Tick.{does};
 

@@ -1,6 +1,6 @@
 //! The tick of the three states.
 ghost use Rattle.std.specs.Prelude.{◌≡◌, [], IsFalse};
-ghost use Rattle.port_state.specs.Rival.{has_rival};
+ghost use Rattle.port_state.specs.Contention.{has_rival};
 ghost use Rattle.port_state.specs.Valid.{IsValid};
 ghost use Rattle.tree_identify.specs.TreeStep.{tree_step};
 

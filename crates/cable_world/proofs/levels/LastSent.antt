@@ -19,6 +19,7 @@ use Rattle.port_state.specs.Entry.{enter, with_port}
 use Rattle.port_state.specs.Heard as heard
 use Rattle.port_state.specs.Resetting as reset
 use Rattle.port_state.specs.TreeIdentify as tree
+use Rattle.port_state.specs.Contention as contention
 use Rattle.port_state.specs.SelfIdentify as ident
 use Rattle.self_id.specs.Group.{node_count}
 use Rattle.port_state.specs.Group.{own_group}
@@ -220,7 +221,7 @@ rival-child x p k r c = ap (passes (λ q. q.child)) (changed-port p k as_child x
 
 takes-rival :
     (x : NodeState) (p : ℕ) → x.view.phase ≡ Contend → HasRoles (Some p) x.view.ports →
-    SaysSo x (tree.takes_rival p x)
+    SaysSo x (contention.takes_rival p x)
 takes-rival x p e r k c = rw (e, rival-child x p k r c, child-if (Some p) x.view.ports k r c) (told (p == k))
   where
     told : (b : Bool) → level_after (level_sent Contend (not b)) (only b signal.Child) ≡ level.Child
@@ -229,7 +230,7 @@ takes-rival x p e r k c = rw (e, rival-child x p k r c, child-if (Some p) x.view
 
 contend :
     (coin : Bool) (o : Option ℕ) (x : NodeState) → x.view.phase ≡ Contend →
-    HasRoles o x.view.ports → SaysSo x (does coin (tree.contend_at o x) x)
+    HasRoles o x.view.ports → SaysSo x (does coin (contention.contend_at o x) x)
 contend coin None x e r = still x
 contend coin (Some p) x e r =
     choice coin x (port_is (λ p. is_parent p.shown) x.view.ports p) _ _ (λ _. takes-rival x p e r)
@@ -304,7 +305,7 @@ row-says coin ChildShake x v e = choice coin x (every (λ p. if p.child then is_
 row-says coin ParentShake x v e = parent-shake coin x.view.parent x e (subst (λ ph. FitsPhase ph x.view.parent x.view.ports) e v.fits)
 row-says coin Contend x v e =
     let fit : HasRoles x.view.parent x.view.ports × IsSome x.view.parent = subst (λ ph. FitsPhase ph x.view.parent x.view.ports) e v.fits in
-    choice coin x (nat_le x.view.wait x.view.timer) (tree.contend_at x.view.parent x) row.none (λ _. contend coin x.view.parent x e fit.0) (still x)
+    choice coin x (nat_le x.view.wait x.view.timer) (contention.contend_at x.view.parent x) row.none (λ _. contend coin x.view.parent x e fit.0) (still x)
 row-says coin SelfIdent x v e = choice coin x x.view.granted (ident.granted_row (lowest is_unnamed x.view.ports) x) row.none (λ _. granted coin (lowest is_unnamed x.view.ports) x e) (still x)
 row-says coin Ready x v e = still x
 

@@ -15,7 +15,8 @@ use Rattle.port_state.specs.Ports.{is_idle, is_parent, is_child, asks, is_remain
 use Rattle.port_state.specs.Sends.{packets_on_every, packet, on_port, sent_on}
 use Rattle.port_state.specs.Heard.{is_resetting}
 use Rattle.port_state.specs.Resetting.{is_calm}
-use Rattle.port_state.specs.TreeIdentify.{is_decided, adopt, contend_at, parent_shake_at}
+use Rattle.port_state.specs.TreeIdentify.{is_decided, adopt, parent_shake_at}
+use Rattle.port_state.specs.Contention.{contend_at}
 use Rattle.port_state.specs.SelfIdentify.{may_name, granted_row}
 use Rattle.self_id.specs.Group.{node_count}
 use Rattle.port_state.specs.Group.{own_group}

@@ -13,7 +13,7 @@ use Rattle.port_state.specs.declared.timing.Timing.{Timing}
 use Rattle.port_state.specs.Timing.{usual_timing}
 use Rattle.port_state.specs.PowerOn.{power_on}
 use Rattle.port_state.specs.Coins.{coins_of_bits}
-use Rattle.port_state.specs.TreeIdentify.{draws_with}
+use Rattle.port_state.specs.Contention.{draws_with}
 use Rattle.port_state.specs.Entry.{enter}
 use Rattle.port_state.specs.Heard.{on_signal}
 use Rattle.port_state.specs.Tick.{tick}

@@ -5,7 +5,7 @@ use Rattle.std.proofs.lemmas.Bool.{leb-true, and_parts}
 use Rattle.convergence.proofs.Common.{Level, Signal, PortView, NodeState, is_idle, is_parent, is_child, every, passes, port_is, is_connected, draws_with, Row, raise_timer, row_of, does, next_row, tick, FitsPhase, IsValid, is_before_tree, is_shaking, shown_or_idle, level_shown, Chosen, chosen, contrary}
 use Rattle.port_state.specs.declared.signal.Level.TheVariants as level
 use Rattle.port_state.specs.declared.signal.Phase.TheVariants as phase
-use Rattle.port_state.specs.TreeIdentify.{contend_at}
+use Rattle.port_state.specs.Contention.{contend_at}
 use Rattle.port_state.specs.Row as row
 use Rattle.cable_world.specs.Phases.{is_contending}
 use Rattle.cable_world.proofs.Lemmas.{is-parent, is-child, elsewhere}

@@ -9,7 +9,8 @@ use Rattle.port_state.specs.declared.signal.Phase.TheVariants.{ResetWait, TreeSt
 use Rattle.port_state.specs.declared.signal.Signal.TheVariants as signal
 use Rattle.port_state.specs.Ports.{is_idle, every}
 use Rattle.port_state.specs.Sends.{packets_on_every, on_port}
-use Rattle.port_state.specs.TreeIdentify.{adopt, parent_shake_at, contend_at}
+use Rattle.port_state.specs.TreeIdentify.{adopt, parent_shake_at}
+use Rattle.port_state.specs.Contention.{contend_at}
 use Rattle.port_state.specs.Row as row
 use Rattle.port_state.proofs.Lemmas.{notices-port, packets-port, map-port}
 use Rattle.cable_world.specs.Signals.{has_no_takeback}

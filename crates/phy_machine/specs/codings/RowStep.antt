@@ -5,8 +5,8 @@ use Rattle.port_state.specs.declared.signal.Phase.TheVariants.{ResetStart, Reset
 use Rattle.port_state.specs.declared.states.NodeState.{NodeState}
 use Rattle.port_state.specs.Coins.{Coins, coin, coins_after}
 use Rattle.port_state.specs.Step.{silent_step}
-use Rattle.port_state.specs.Rival.{has_rival}
-use Rattle.port_state.specs.TreeIdentify.{parent_shake_row, contend_row}
+use Rattle.port_state.specs.Contention.{has_rival, contend_row}
+use Rattle.port_state.specs.TreeIdentify.{parent_shake_row}
 use Rattle.port_state.specs.Tick.{does}
 use Rattle.port_state.specs.Machine.{NodeStep, with_coins}
 use Rattle.bus_reset.specs.ResetStep.{reset_step}
