@@ -48,6 +48,8 @@ function begin() {
   for (const button of document.querySelectorAll("[data-example]")) {
     button.addEventListener("click", () => showExample(button.dataset.example));
   }
+  find("fit").addEventListener("click", () => fitTree(find("fit").getAttribute("aria-pressed") !== "true"));
+  find("save").addEventListener("click", saveTree);
   takeDrops();
   showExample("hub");
 }
@@ -198,7 +200,17 @@ function showList(list) {
   showPackets(list, fault);
   find("bus").hidden = !bus;
   if (bus) showBus(bus);
-  else showVerdict("bad", [library.line(fault), sentence]);
+  else showRefusal(library.line(fault), sentence);
+}
+
+// Shows the line and the sentence of a refusal, with a link to what its kind means.
+function showRefusal(line, sentence) {
+  showVerdict("bad", [line, sentence]);
+  const kind = line.split(" ")[3];
+  const link = withText("a", `What ${kind} means`);
+  link.href = `#${kind}`;
+  link.addEventListener("click", () => { find("kinds").open = true; });
+  find("verdict").append(link);
 }
 
 // The bus of a list by the standard of a year, or its fault with a sentence. A capture is whole before its pairs are
@@ -227,18 +239,30 @@ function showBus(bus) {
   showVerdict("good", [lines.at(-1), "A bus can have sent this list, and only this bus."]);
   find("tree").replaceChildren(drawTree(bus));
   find("nodes").textContent = `${lines.join("\n")}\n`;
-  find("gaps").textContent = gapsOf(bus);
+  const hops = hopsOf(bus);
+  const table = library.gapFor(hops);
+  find("gaps").replaceChildren(withText("p", lineOfHops(hops, table)), withText("p", lineOfGaps(bus, hops, table)));
+  fitTree(false);
 }
 
-// Whether the nodes agree on a gap count, and what the standard's table gives.
-function gapsOf(bus) {
-  const hops = hopsOf(bus);
-  const counts = [...new Set(bus.nodes.map((node) => node.gap))];
-  const differ = `Gap counts differ: ${counts.join(", ")}.`;
-  const said = counts.length === 1 ? `All nodes have the gap count ${counts[0]}.` : differ;
-  if (hops === 0) return said;
-  const table = `for which the table gives the gap count ${library.gapFor(hops)}`;
-  return `Hops: ${hops}, ${hops > 15 ? "past the end of the standard's table" : table}. ${said}`;
+// Shows the drawing in its own size, with the root in the middle, or as wide as the page.
+function fitTree(isFit) {
+  const drawing = find("tree").firstChild;
+  drawing.classList.toggle("fit", isFit);
+  find("fit").setAttribute("aria-pressed", isFit);
+  const root = drawing.querySelector(".root").getBoundingClientRect();
+  const region = find("tree").getBoundingClientRect();
+  find("tree").scrollLeft += root.left + root.width / 2 - region.left - region.width / 2;
+}
+
+// Hands the drawing out as a file, with the colours that it has here.
+function saveTree() {
+  const drawing = find("tree").firstChild;
+  const link = document.createElement("a");
+  link.href = URL.createObjectURL(new Blob([textOfDrawing(drawing)], { type: "image/svg+xml" }));
+  link.download = "bus.svg";
+  link.click();
+  URL.revokeObjectURL(link.href);
 }
 
 // Shows the packets. Of a longer list the first rows are shown, and the one at fault.

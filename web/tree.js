@@ -66,6 +66,23 @@ function drawTree(bus) {
     ...bus.nodes.map((node) => drawNode(bus, node, places[node.id])));
 }
 
+// The text of a drawing as a file of its own, in which each shape has the colours and the letters that it has here.
+function textOfDrawing(drawing) {
+  const copy = drawing.cloneNode(true);
+  copy.removeAttribute("class");
+  copy.setAttribute("xmlns", SVG);
+  const shapes = (it) => [...it.querySelectorAll("rect, path, text")];
+  shapes(copy).forEach((shape, at) => {
+    const style = getComputedStyle(shapes(drawing)[at]);
+    for (const name of ["fill", "stroke", "stroke-width", "font-family", "font-size", "font-weight", "text-anchor"]) {
+      shape.setAttribute(name, style.getPropertyValue(name));
+    }
+  });
+  const paper = element("rect", { width: "100%", height: "100%", fill: getComputedStyle(document.body).backgroundColor });
+  copy.prepend(paper);
+  return `<?xml version="1.0" encoding="UTF-8"?>\n${new XMLSerializer().serializeToString(copy)}\n`;
+}
+
 function drawCable(cable, places) {
   const from = { x: places[cable.parent].x + BOX.width / 2, y: places[cable.parent].y + BOX.height };
   const to = { x: places[cable.child].x + BOX.width / 2, y: places[cable.child].y };

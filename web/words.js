@@ -53,6 +53,30 @@ function sentenceOfPair(pair, kind) {
   return `Found the second quadlet ${hex(pair.second)}, wanted ${wanted}, the bitwise inverse of the first.`;
 }
 
+// The hops of a bus and the gap count that the standard's table gives for them, as `busview tree` writes them.
+function lineOfHops(hops, table) {
+  if (hops === 0) return "hops 0, any gap count will do";
+  return hops > 15 ? `hops ${hops}, more than the 15 of the table` : `hops ${hops}, gap count ${table} by the table`;
+}
+
+// Whether the gap counts of a bus agree, and if so whether the count suits the hops, as `busview tree` writes it.
+function lineOfGaps(bus, hops, table) {
+  const { gap } = bus.nodes[bus.root];
+  const others = bus.nodes.filter((node) => node.gap !== gap).map((node) => `, ${node.gap} at node ${node.id}`);
+  if (others.length > 0) return `gap counts differ: ${gap} at the root${others.join("")}`;
+  return `gap counts agree: ${gap}${verdictOfGap(gap, hops, table)}`;
+}
+
+function verdictOfGap(gap, hops, table) {
+  if (hops === 0) return "";
+  if (hops > 15) {
+    if (gap === 63) return ", the greatest there is";
+    return gap < 40 ? ", less than the table's 40 for 15 hops: too small" : ", less than 63, the greatest: may be too small";
+  }
+  if (gap === table) return ", as by the table";
+  return gap > table ? `, more than the table's ${table}: safe, only slower` : `, less than the table's ${table}: too small`;
+}
+
 // The lines of `busconf read`.
 function linesOfBus(bus) {
   const last = `nodes ${bus.nodes.length} root ${bus.root} irm ${bus.manager === NO_ID ? "none" : bus.manager}`;

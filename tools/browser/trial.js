@@ -63,7 +63,7 @@ function tryPackets({ name, hex: digits, year, wanted }) {
   const refused = wanted.match(/^(refused .*)\n(.*)$/m);
   if (!refused) return;
   expect(name, "the verdict", verdict(), refused[1]);
-  expect(name, "the sentence", find("verdict").lastChild.textContent, refused[2]);
+  expect(name, "the sentence", find("verdict").children[1].textContent, refused[2]);
 }
 
 const ONE = "nodes 1 root 0 irm none";
@@ -136,8 +136,46 @@ function tryOther() {
   expect("an example", "the verdict", verdict(), "refused pair 1 TooFewChildren found 1 wanted 2");
   expect("an example", "the row at fault", document.querySelector("tr.fault").firstChild.textContent, "1");
   document.querySelector("[data-example=hub]").click();
-  expect("an example", "hops", find("gaps").textContent,
-    "Hops: 2, for which the table gives the gap count 7. All nodes have the gap count 63.");
+}
+
+// What is said of gap counts is what `busview tree` says.
+function tryTree({ name, hex: digits, year, wanted }) {
+  type(digits, year, "pairs");
+  if (wanted.startsWith("refused")) return;
+  const lines = [...find("gaps").children].map((it) => it.textContent);
+  expect(name, "the gap counts", lines.join("\n"), wanted.trim().split("\n").slice(-2).join("\n"));
+}
+
+// Whether the middle of the root lies in the region that shows the drawing.
+function showsRoot() {
+  const root = document.querySelector("#tree .root").getBoundingClientRect();
+  const region = find("tree").getBoundingClientRect();
+  return region.left <= root.left && root.right <= region.right;
+}
+
+// A drawing wider than the page begins at its root, is fitted to the page, and is saved as a file of its own.
+function tryDrawing() {
+  const wide = TREES.map((it) => it.wanted).reduce((a, b) => (a.length > b.length ? a : b));
+  const { hex: digits, year } = TREES.find((it) => it.wanted === wide);
+  type(digits, year, "pairs");
+  expect("a wide drawing", "its root is seen", showsRoot(), true);
+  find("fit").click();
+  expect("a fitted drawing", "nothing is left to scroll", find("tree").scrollWidth <= find("tree").clientWidth, true);
+  find("fit").click();
+  expect("a drawing in its own size", "its root is seen", showsRoot(), true);
+  const file = new DOMParser().parseFromString(textOfDrawing(find("tree").firstChild), "image/svg+xml");
+  expect("a saved drawing", "it is whole", file.querySelectorAll("g.node").length, drawn("node"));
+  expect("a saved drawing", "it has colours", file.querySelector("text").getAttribute("fill").startsWith("rgb"), true);
+}
+
+// Each refusal leads to what its kind means.
+function tryKinds() {
+  const kinds = new Set(READ.map(({ wanted }) => (wanted.startsWith("refused") ? wanted.split(/\s/)[3] : "Empty")));
+  for (const kind of kinds) expect(kind, "what it means", find(kind) !== null, true);
+  seen.kinds = kinds.size;
+  document.querySelector("[data-example=missingChild]").click();
+  find("verdict").querySelector("a").click();
+  expect("a refusal", "what it means is open", find("kinds").open, true);
 }
 
 // A file that is dropped.
@@ -228,6 +266,9 @@ async function runTrial() {
     tryForms();
     tryLists();
     tryOther();
+    TREES.forEach(tryTree);
+    tryDrawing();
+    tryKinds();
     await tryDrop();
     await trySizes();
     await tryFaults();
@@ -238,7 +279,7 @@ async function runTrial() {
   const told = document.createElement("pre");
   told.id = "trial";
   const passed = `passed: ${READ.length} captures as digits and as bytes (${seen.alone ?? 0} once it is said that they are `
-    + `pairs), ${PACKETS.length} packet by packet, ${seen.forms} texts, resets, examples, files, sizes, faults and letters`;
+    + `pairs), ${PACKETS.length} packet by packet, ${TREES.length} drawings, ${seen.kinds} kinds of faults, ${seen.forms} texts, resets, examples, files, sizes, faults and letters`;
   told.textContent = failed.length > 0 ? failed.slice(0, 20).join("\n") : passed;
   document.body.append(told);
 }

@@ -56,7 +56,7 @@ def texts():
 def lay_trial(folder):
     """Lays a copy of the page beside it that runs trial.js over the cases."""
     read = [*cases_of("busconf/read"), *cases_of("busconf/read95")]
-    made = {"READ": read, "PACKETS": list(cases_of("busview/packets")), "TEXTS": texts()}
+    made = {"READ": read, "PACKETS": list(cases_of("busview/packets")), "TREES": list(cases_of("busview/tree")), "TEXTS": texts()}
     with open(os.path.join(folder, "trial-cases.js"), "w", encoding="utf-8") as file:
         file.writelines(f"const {name} = {json.dumps(value)};\n" for name, value in made.items())
     shutil.copy(os.path.join(TOP, "tools", "browser", "trial.js"), folder)
