@@ -23,7 +23,7 @@ run_program() {
     exec "$program" "$@"
   fi
   command -v rt >/dev/null || no_answer "neither a built program nor the Rattle kit's command rt is here"
-  echo "$name: not built from these sources, so this run is unproved and takes half a minute; ./build proves and builds it" >&2
+  echo "$name: not built from these sources, so this run is unproved; ./build proves and builds it" >&2
   work=$(mktemp -d) || no_answer "no room for the files of an unproved run"
   running=
   trap end_run EXIT
@@ -75,6 +75,9 @@ run_unproved() {
       { take <"$word" >"$work/$place"; } 2>/dev/null && words[place]=$work/$place
     fi
   done
+  if [ -t 2 ]; then
+    echo "$name: reads and compiles the sources first, which takes half a minute to a minute, each time" >&2
+  fi
   (cd "$top/crates/$name" && exec rt try -- "${words[@]}") <"$work/input" >"$work/output" 2>"$work/notes" &
   await
   status=$?
