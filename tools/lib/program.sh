@@ -19,11 +19,9 @@ run_program() {
   name=$1
   local program="$top/crates/$1/out/$1"
   shift
-  if [ -x "$program" ] && [ "$(cat "$program.sources" 2>/dev/null)" = "$(sources_sum "$top")" ]; then
-    exec "$program" "$@"
-  fi
+  if [ -x "$program" ] && is_built "$program"; then exec "$program" "$@"; fi
   command -v rt >/dev/null || no_answer "neither a built program nor the Rattle kit's command rt is here"
-  echo "$name: not built from these sources, so this run is unproved; ./build proves and builds it" >&2
+  echo "$name: not built from these sources by this kit, so this run is unproved; ./build proves and builds it" >&2
   work=$(mktemp -d) || no_answer "no room for the files of an unproved run"
   running=
   trap end_run EXIT

@@ -26,8 +26,7 @@ expect() {
   if [ "$status" != "$2" ] || ! { [ -z "$3" ] || grep -q -- "$3" "$work/err"; }; then
     fails "$1" "status $status, wanted $2, with '$3' on standard error:"
     cat "$work/err"
-  elif [ $# -gt 3 ] && [ "$(cat "$work/out"; echo .)" != "$4
-." ]; then
+  elif [ $# -gt 3 ] && [ "$(cat "$work/out")" != "$4" ]; then
     fails "$1" "its output, where '$4' is wanted:"
     cat "$work/out"
   else

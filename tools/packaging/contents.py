@@ -65,6 +65,18 @@ def data_of(path):
         return file.read()
 
 
+def is_built(path):
+    """Whether a file or a folder is what ./build or .ci/run has built of these sources."""
+    said = ["bash", "-c", 'top=$PWD; . tools/lib/sources.sh; is_built "$1"', "package", path]
+    return subprocess.run(said, cwd=TOP, check=False).returncode == 0
+
+
+def wants_built(*paths):
+    for path in paths:
+        if not is_built(path):
+            raise Fault(f"{path} isn't built from these sources; run ./build first, which proves and builds it")
+
+
 def files_below(folder):
     """The files below a folder, in order, by their paths in it."""
     for at, folders, names in os.walk(folder):
@@ -79,9 +91,10 @@ class Built:
     def __init__(self, vectors=None):
         self.version = text_of("tools/version")
         self.vectors = vectors
-        self.sources = text_of("bash", "-c", '. tools/lib/sources.sh; sources_sum "$PWD"')
+        self.sources = text_of("bash", "-c", "top=$PWD; . tools/lib/sources.sh; sources_sum")
         self.kit = self.kit_now()
         self.revision, self.epoch, self.owner = self.commit()
+        wants_built(*(f"crates/{name}/out/{name}" for name in PROGRAMS))
         self.programs = {name: self.stripped(f"crates/{name}/out/{name}", "--strip-all") for name in PROGRAMS}
         machines = [X86_64, *([AARCH64] if os.path.isdir(os.path.join(TOP, AARCH64.folder)) else [])]
         self.libraries = [Library(self, machine) for machine in machines]
@@ -107,23 +120,19 @@ class Built:
         return revision, int(os.environ.get("SOURCE_DATE_EPOCH", epoch)), owner
 
     def stripped(self, path, how, tool=""):
-        """The bytes of a built file without its symbols, once it is sure that it was built from these sources."""
+        """The bytes of a built file without its symbols, once it is sure that it names the logic of the kit."""
         place = os.path.join(TOP, path)
-        mark = os.path.join(os.path.dirname(place), path.split(os.sep)[-1].split(".")[0] + ".sources")
-        if not all(map(os.path.exists, (place, mark))) or data_of(mark).decode().strip() != self.sources:
-            raise Fault(f"{path} isn't built from these sources; run ./build first, which proves and builds it")
         logic = logic_of(place)
         if not logic.startswith(self.kit.split()[-1]):
             raise Fault(f"{path} says that it was proved in the logic '{logic}', and the kit is {self.kit}")
         return changed(place, f"{tool}strip", "--enable-deterministic-archives", how)
 
     def page_now(self):
-        """The files of the page, once it is sure that its module was built from these sources and the rest is that of web/."""
+        """The files of the page, once it is sure that they were built from these sources and the rest is that of web/."""
+        wants_built(PAGE)
         files = {name: Entry(data_of(f"{PAGE}/{name}")) for name in files_below(os.path.join(TOP, PAGE))}
         ours = {name: Entry(data_of(f"web/{name}")) for name in files_below(os.path.join(TOP, "web"))}
-        mark = os.path.join(TOP, f"{PAGE}.sources")
-        is_same = os.path.exists(mark) and data_of(mark).decode().strip() == self.sources
-        if not is_same or {**files, **ours} != files:
+        if {**files, **ours} != files:
             raise Fault(f"{PAGE} isn't made from these sources; run ./build first")
         logic = re.search(rb"rattle logic=([0-9a-f]+)", files["busconf.wasm"].data)
         if not logic or not logic.group(1).decode().startswith(self.kit.split()[-1]):
@@ -168,6 +177,7 @@ class Library:
 
     def __init__(self, built, machine):
         self.machine = machine
+        wants_built(machine.folder)
         self.shared = built.stripped(f"{machine.folder}/{SONAME}", "--strip-unneeded", machine.tool)
         self.archive = built.stripped(f"{machine.folder}/libbusconf.a", "--strip-debug", machine.tool)
         self.needs = glibc_of(self.shared)
