@@ -2,6 +2,7 @@
 # Sourced by what builds, runs, installs or packs, which set top: whether something was built of the sources as they are now.
 # What is built, a file or a folder of files, has a mark beside it, PLACE.sources: the checksum of the sources, the kit, and
 # the checksums of all its files. Only is_built reads a mark, and what it can't find out isn't built.
+unset CDPATH
 
 # The files that programs, libraries and the page are made of, and what makes them, each ended by a null byte; with words
 # behind it those of which find takes these words. There is nothing beside files and folders among them.
