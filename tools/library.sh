@@ -347,7 +347,8 @@ put() {
   install -m 644 "$top/include/busconf.h" "$2/include/"
   install -m 644 "$1/libbusconf.a" "$1/libbusconf.so.0" "$2/lib/"
   ln -sfT libbusconf.so.0 "$2/lib/libbusconf.so"
-  pc "$3" | install -m 644 /dev/stdin "$2/lib/pkgconfig/busconf.pc"
+  # A prefix with a blank or a quote is one word for pkg-config.
+  pc "$(sed "s/[] '\"\\\$#[]/\\\\&/g" <<<"$3")" | install -m 644 /dev/stdin "$2/lib/pkgconfig/busconf.pc"
   printf '%s\n' "$2"/include/busconf.h "$2"/lib/libbusconf.{a,so.0,so} "$2/lib/pkgconfig/busconf.pc"
 }
 
