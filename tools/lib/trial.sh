@@ -15,6 +15,16 @@ try() {
   "$@" >"$work/out" 2>"$work/err" || status=$?
 }
 
+# comes COMMAND..: waits until a command succeeds, a minute at most.
+comes() {
+  local turn
+  for turn in {1..1200}; do
+    ! "$@" || return 0
+    sleep 0.05
+  done
+  return 1
+}
+
 # fails NAME WHAT: says that a trial of this name failed, and why.
 fails() {
   echo "FAILED: $1: $2"
