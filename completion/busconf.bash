@@ -1,32 +1,25 @@
 # Completion of the words of busconf and busview for bash. Source it, or put it where bash-completion looks.
 _busconf() {
-  local forms
-  case ${1##*/} in
-  busview) forms="packets tree dot json trace waves dot-run json-run explain capture script flawed resets nosy diff --help --version" ;;
-  *) forms="run advice read read95 maps rom make --help --version" ;;
+  local IFS=' ' word=${COMP_WORDS[COMP_CWORD]} words='' files=no
+  case ${1##*/}:${COMP_WORDS[*]:1:COMP_CWORD-1} in
+  busconf:) words="run advice read read95 maps rom make --help --version" ;;
+  busview:) words="packets tree dot json trace waves dot-run json-run explain capture script flawed resets nosy diff --help --version" ;;
+  busview:flawed)
+    words="BadLength BadInverse NotSelfId WrongId BadOrder Cut TwoParents Empty TooFewChildren TreesLeft AfterRoot NoRoot TooMany"
+    ;;
+  busview:flawed\ *\ *\ *) words="--1995" ;;
+  busconf:make* | busview:script* | busview:flawed* | busview:capture) ;;
+  busview:packets | busview:tree | busview:dot | busview:json | busview:diff) words="--1995" files=yes ;;
+  busview:resets | busview:nosy) words="--1995 --json" files=yes ;;
+  busview:resets\ --1995 | busview:nosy\ --1995) words="--json" files=yes ;;
+  *) files=yes ;;
   esac
   COMPREPLY=()
-  if [ "$COMP_CWORD" -eq 1 ]; then
-    mapfile -t COMPREPLY < <(compgen -W "$forms" -- "${COMP_WORDS[1]}")
-  elif [ "$COMP_CWORD" -eq 2 ]; then
-    case ${1##*/}:${COMP_WORDS[1]} in
-    busview:packets | busview:tree | busview:dot | busview:json | busview:diff)
-      mapfile -t COMPREPLY < <(compgen -W "--1995" -- "${COMP_WORDS[2]}")
-      ;;
-    busview:resets | busview:nosy)
-      mapfile -t COMPREPLY < <(compgen -W "--1995 --json" -- "${COMP_WORDS[2]}")
-      ;;
-    busview:flawed)
-      mapfile -t COMPREPLY < <(compgen -W "BadLength BadInverse NotSelfId WrongId BadOrder Cut TwoParents Empty TooFewChildren TreesLeft AfterRoot NoRoot TooMany" -- "${COMP_WORDS[2]}")
-      ;;
-    esac
-  elif [ "$COMP_CWORD" -eq 3 ]; then
-    case ${1##*/}:${COMP_WORDS[1]}:${COMP_WORDS[2]} in
-    busview:resets:--1995 | busview:nosy:--1995)
-      mapfile -t COMPREPLY < <(compgen -W "--json" -- "${COMP_WORDS[3]}")
-      ;;
-    esac
+  if [ "$files" = no ] || [ "${word:0:1}" = - ]; then
+    mapfile -t COMPREPLY < <(compgen -W "$words" -- "$word")
+  else
+    # Names of files as bash completes them where nothing else is known.
+    compopt -o default
   fi
 }
-# Behind a redirection bash completes file names by itself.
 complete -F _busconf busconf busview

@@ -9,7 +9,7 @@
 # `library.sh race N SCRIPT COMMAND..` N runs of a script, and then the command, which is given the script on its standard
 # input. What makes libraries needs the kit's command rt and a C compiler, for AArch64 Debian's gcc-aarch64-linux-gnu.
 set -euo pipefail
-top=$(cd "$(dirname "${BASH_SOURCE[0]}")/.." && pwd)
+top=$(cd "$(dirname "$(readlink -f "${BASH_SOURCE[0]}")")/.." && pwd)
 crates=(heapless_c busconf_c script_c)
 . "$top/tools/lib/static.sh"
 
@@ -87,6 +87,7 @@ try_heapless() {
 build() {
   local into made crate
   find_kit
+  rm -f "$1.sources"
   mkdir -p "$1"
   into=$(cd "$1" && pwd)
   made=$(mktemp -d)
@@ -345,8 +346,9 @@ put() {
   mkdir -p "$2/lib/pkgconfig" "$2/include"
   install -m 644 "$top/include/busconf.h" "$2/include/"
   install -m 644 "$1/libbusconf.a" "$1/libbusconf.so.0" "$2/lib/"
-  ln -sf libbusconf.so.0 "$2/lib/libbusconf.so"
-  pc "$3" >"$2/lib/pkgconfig/busconf.pc"
+  ln -sfT libbusconf.so.0 "$2/lib/libbusconf.so"
+  # A prefix with a blank or a quote is one word for pkg-config.
+  pc "$(sed "s/[] '\"\\\$#[]/\\\\&/g" <<<"$3")" | install -m 644 /dev/stdin "$2/lib/pkgconfig/busconf.pc"
   printf '%s\n' "$2"/include/busconf.h "$2"/lib/libbusconf.{a,so.0,so} "$2/lib/pkgconfig/busconf.pc"
 }
 

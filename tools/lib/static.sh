@@ -22,11 +22,15 @@ find_kit() {
 # The libraries that a crate stands on, from crates.txt.
 below() { sed -n "s/^$1\( staticlib\)\?: *//p" "$top/crates.txt"; }
 
-# Whether the libraries that a crate stands on are built, by rt ci or by rt check.
-are_built() {
+# Whether the libraries that a crate stands on are those that the gate left of these sources. The gate names them in a
+# file. What rt made by itself later has a stamp.
+are_of_gate() {
   local name
+  is_built "$top/crates/busconf_c/out/gate" || return 1
   for name in $(below "$1"); do
-    [ ! -d "$top/crates/$name" ] || [ -d "$top/crates/$name/out/rlib/$name.rlib" ] || return 1
+    [ ! -d "$top/crates/$name" ] && continue
+    grep -qx "crates/$name/out/rlib/$name.rlib" "$top/crates/busconf_c/out/gate" || return 1
+    [ -d "$top/crates/$name/out/rlib/$name.rlib" ] && [ ! -f "$top/crates/$name/out/rlib/stamp" ] || return 1
   done
 }
 
@@ -37,23 +41,21 @@ archive_of() {
 
 # Makes a crate's archive for a machine, unless it is there from the same sources and kit.
 archive() {
-  local of to kept
-  of="$(sources_sum "$top") $(rt version)"
+  local to
   to=$(archive_of "$1" "$2")
-  kept=${to%.a}.sources
-  if [ ! -f "$to" ] || [ "$(cat "$kept" 2>/dev/null)" != "$of" ]; then
-    rm -f "$kept"
+  if ! is_built "$to"; then
+    begin_build "$to"
     prove "$1" "$2" "$to"
-    printf '%s\n' "$of" >"$kept"
+    end_build "$to"
   fi
 }
 
 # Proves a crate and makes its archive for a machine: by rt, which first proves what the crate stands on, or over the
-# libraries that a run of rt ci has left.
+# libraries that the gate has left.
 prove() {
   local checked=out/incremental words
   cd "$top/crates/$1"
-  if are_built "$1" && [ ! -f "$top/crates/topology_stack/out/rlib/stamp" ]; then
+  if are_of_gate "$1"; then
     checked=$(checked_anew)
   elif [ "$2" = x86_64 ]; then
     quietly rt lib ${JOBS:+--jobs "$JOBS"}
@@ -78,7 +80,7 @@ quietly() {
 # The folder, in a crate's, of what was checked there since the sources and the kit are these.
 checked_anew() {
   local of
-  of="$(sources_sum "$top") $(rt version)"
+  of=$(sources_sum) && of="$of $(kit_now)" || return 1
   if [ "$(cat out/machines.sources 2>/dev/null)" != "$of" ]; then
     rm -rf out/machines
     mkdir -p out/machines

@@ -67,6 +67,18 @@ def data_of(path):
         return file.read()
 
 
+def is_built(path):
+    """Whether a file or a folder is what ./build or .ci/run has built of these sources."""
+    said = ["bash", "-c", 'top=$PWD; . tools/lib/sources.sh; is_built "$1"', "package", path]
+    return subprocess.run(said, cwd=TOP, check=False).returncode == 0
+
+
+def wants_built(*paths):
+    for path in paths:
+        if not is_built(path):
+            raise Fault(f"{path} isn't built from these sources; run ./build first, which proves and builds it")
+
+
 def files_below(folder):
     """The files below a folder, in order, by their paths in it."""
     for at, folders, names in os.walk(folder):
@@ -93,9 +105,10 @@ class Built:
     def __init__(self, vectors=None):
         self.version = text_of("tools/version")
         self.vectors = vectors
-        self.sources = text_of("bash", "-c", '. tools/lib/sources.sh; sources_sum "$PWD"')
+        self.sources = text_of("bash", "-c", "top=$PWD; . tools/lib/sources.sh; sources_sum")
         self.kit = self.kit_now()
         self.revision, self.epoch, self.owner = self.commit()
+        wants_built(*(f"crates/{name}/out/{name}" for name in PROGRAMS))
         self.programs = {name: self.stripped(f"crates/{name}/out/{name}", "--strip-all") for name in PROGRAMS}
         machines = [X86_64, *([AARCH64] if os.path.isdir(os.path.join(TOP, AARCH64.folder)) else [])]
         self.libraries = [Library(self, machine) for machine in machines]
@@ -121,34 +134,19 @@ class Built:
         return revision, int(os.environ.get("SOURCE_DATE_EPOCH", epoch)), owner
 
     def stripped(self, path, how, tool=""):
-        """The bytes of a built file without its symbols, once it is sure that it was built from these sources."""
+        """The bytes of a built file without its symbols, once it is sure that it names the logic of the kit."""
         place = os.path.join(TOP, path)
-        mark = os.path.join(os.path.dirname(place), path.split(os.sep)[-1].split(".")[0] + ".sources")
-        if not all(map(os.path.exists, (place, mark))) or data_of(mark).decode().strip() != self.sources:
-            raise Fault(f"{path} isn't built from these sources; run ./build first, which proves and builds it")
         logic = logic_of(place)
         if not logic.startswith(self.kit.split()[-1]):
             raise Fault(f"{path} says that it was proved in the logic '{logic}', and the kit is {self.kit}")
         return changed(place, f"{tool}strip", "--enable-deterministic-archives", how)
 
     def page_now(self):
-        """The files of the page, once it is sure that its module was built from these sources, that the script which a
-        browser reads has that very module, and that all else is what is committed in web/."""
+        """The files of the page, once it is sure that they were built from these sources, that the script which a browser
+        reads has the very module, and that all else is what is committed in web/."""
+        wants_built(PAGE)
         files = {name: Entry(data_of(f"{PAGE}/{name}")) for name in files_below(os.path.join(TOP, PAGE))}
-        ours = {os.path.basename(path): Entry(data) for path, data in committed("web").items()}
-        mark = os.path.join(TOP, f"{PAGE}.sources")
-        is_same = os.path.exists(mark) and data_of(mark).decode().strip() == self.sources
-        if not is_same or {**files, **ours} != files:
-            raise Fault(f"{PAGE} isn't made from these sources; run ./build first")
-        strange = sorted(set(files) - set(ours) - set(MODULE))
-        if strange:
-            raise Fault(f"{PAGE}/{strange[0]} is no file of the page; remove it, or run ./build")
-        script = re.fullmatch(rb'"use strict";\n// .*\nconst BUSCONF_WASM = "([\w+/=]*)";\n', files["busconf-wasm.js"].data)
-        if not script or base64.b64decode(script.group(1)) != files["busconf.wasm"].data:
-            raise Fault(f"{PAGE}/busconf-wasm.js hasn't the bytes of busconf.wasm; run ./build")
-        logic = re.search(rb"rattle logic=([0-9a-f]+)", files["busconf.wasm"].data)
-        if not logic or not logic.group(1).decode().startswith(self.kit.split()[-1]):
-            raise Fault(f"{PAGE}/busconf.wasm doesn't say that it was proved in the logic of {self.kit}")
+        judge_page({name: entry.data for name, entry in files.items()}, self.kit)
         return files
 
     def tell(self):
@@ -184,11 +182,28 @@ hold, crate by crate: the public functions, methods and laws, and behind each th
 """.encode()
 
 
+def judge_page(files, kit):
+    """Raises a fault where files, with their bytes, aren't the page that is committed and a module that this kit proved."""
+    ours = {os.path.basename(path): data for path, data in committed("web").items()}
+    if {**files, **ours} != files:
+        raise Fault(f"{PAGE} isn't made from these sources; run ./build first")
+    strange = sorted(set(files) - set(ours) - set(MODULE))
+    if strange:
+        raise Fault(f"{PAGE}/{strange[0]} is no file of the page; remove it, or run ./build")
+    script = re.fullmatch(rb'"use strict";\n// .*\nconst BUSCONF_WASM = "([\w+/=]*)";\n', files["busconf-wasm.js"])
+    if not script or base64.b64decode(script.group(1)) != files["busconf.wasm"]:
+        raise Fault(f"{PAGE}/busconf-wasm.js hasn't the bytes of busconf.wasm; run ./build")
+    logic = re.search(rb"rattle logic=([0-9a-f]+)", files["busconf.wasm"])
+    if not logic or not logic.group(1).decode().startswith(kit.split()[-1]):
+        raise Fault(f"{PAGE}/busconf.wasm doesn't say that it was proved in the logic of {kit}")
+
+
 class Library:
     """The library for a machine."""
 
     def __init__(self, built, machine):
         self.machine = machine
+        wants_built(machine.folder)
         self.shared = built.stripped(f"{machine.folder}/{SONAME}", "--strip-unneeded", machine.tool)
         self.archive = built.stripped(f"{machine.folder}/libbusconf.a", "--strip-debug", machine.tool)
         self.needs = glibc_of(self.shared)

@@ -8,7 +8,7 @@ import sys
 import tempfile
 
 from archives import make, sum_of
-from contents import AARCH64, MULTIARCH, PAGE, SONAME, TOP, X86_64, Fault, data_of, files_below, run
+from contents import AARCH64, MULTIARCH, SONAME, TOP, X86_64, Fault, data_of, files_below, judge_page, run
 
 # The commands that the checks call, and Debian's package that has each.
 TOOLS = {
@@ -325,24 +325,16 @@ class Trial:
         return f"busconf-web has the {len(self.built.page)} files of the page, and nothing else can get into it"
 
     def page_is_ours(self):
-        """A page with another module or another file is refused."""
-        wrongs = {"busconf-wasm.js": lambda data: data.replace(b"AGFzbQ", b"AGFzbR", 1), "extra.js": lambda data: b"1;\n"}
-        for name, wrong in wrongs.items():
-            place = os.path.join(TOP, PAGE, name)
-            was = data_of(place) if os.path.exists(place) else None
+        """A page with another module, another file or another script is refused."""
+        files = {name: entry.data for name, entry in self.built.page.items()}
+        module = files["busconf-wasm.js"]
+        for wrong in ({"busconf-wasm.js": module.replace(b"AGFzbQ", b"AGFzbR", 1)}, {"extra.js": b"1;\n"},
+                      {"busconf-wasm.js": module + b"1;\n"}, {"page.js": files["page.js"] + b"1;\n"}):
             try:
-                with open(place, "wb") as file:
-                    file.write(wrong(was or b""))
-                self.built.page_now()
+                judge_page({**files, **wrong}, self.built.kit)
             except Fault:
                 continue
-            finally:
-                if was is None:
-                    os.remove(place)
-                else:
-                    with open(place, "wb") as file:
-                        file.write(was)
-            raise Fault(f"a page with a changed {name} would be packed")
+            raise Fault(f"a page with a changed {next(iter(wrong))} would be packed")
 
     def vectors(self):
         """The set of vectors is whole in its package."""

@@ -1,4 +1,4 @@
-//! What both programs say of themselves, whatever they do else: their version, and the words that ask for it.
+//! The version and its text, and the words that ask for it or for help.
 #![tactic(auto)]
 
 mod asked;

@@ -1,4 +1,4 @@
-//! The top call of the program: words and bytes in, a status and a text out.
+//! The top call of `busconf`: words and bytes in, a status and a text out.
 #![tactic(auto)]
 
 mod answer;

@@ -1,5 +1,5 @@
-//! Two buses compared as trees, and not by ID: which node of one is which of the other, what went, what
-//! came, what moved, and what else differs.
+//! Two buses compared as trees, and not by ID: which node is which, by a guess or along ports, what
+//! went, came, moved or says something else, and the text of that.
 //!
 //! After a bus reset each node may have another ID, and another node may be the root. So nodes are matched by
 //! how they hang together: along ports of the same number, from the two nodes from which this goes furthest.

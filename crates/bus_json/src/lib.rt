@@ -1,4 +1,4 @@
-//! What is told to programs: a bus tree, or the refusal of a capture, as a line of JSON (RFC 8259).
+//! A bus tree, and the refusal of a capture, as a line of JSON (RFC 8259; docs/VIEW.md).
 #![tactic(auto)]
 
 mod bus;

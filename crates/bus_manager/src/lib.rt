@@ -1,5 +1,5 @@
-//! What a bus manager does: it is elected by a lock, and plans gap count and root (IEEE 1394-1995,
-//! bus manager).
+//! What a bus manager does (IEEE Std 1394-1995, bus manager): election by a lock, hops, gap counts,
+//! and the configuration packet.
 #![tactic(auto)]
 
 mod election;

@@ -1,5 +1,5 @@
-//! The static library of the calls of `include/busconf.h` that take memory for a bus or a ROM, for
-//! programs that aren't Rattle. Each export calls the crate that it is named for and states its clauses
+//! The calls of the library for C, `libbusconf`, that take memory for a bus, two buses or a ROM
+//! (docs/LIBRARY.md). Each export calls the crate that it is named for and states its clauses
 //! again, over records of numbers.
 #![tactic(auto)]
 

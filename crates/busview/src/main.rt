@@ -1,4 +1,4 @@
-//! The program: the top call over files or standard input, and standard output.
+//! The program `busview`: its forms over files and the system's streams.
 #![tactic(auto)]
 
 mod diff;

@@ -1,5 +1,5 @@
-//! What the calls of `include/busconf.h` that read buses have in common: a bus, its nodes and a fault as
-//! records of numbers, the sentence of a fault, and the standards by their years.
+//! A bus, its nodes and a fault as records of numbers, the fault that a record tells, its sentence,
+//! and the standards by their years, for the libraries for C.
 #![tactic(auto)]
 
 mod fault;

@@ -1,5 +1,5 @@
-//! The world of cables: nodes whose machines send signals over wires that take time, what happens
-//! to it between turns, and what a turn is.
+//! The world of cables: wires, acts and turns, what a bus may settle to, and `World`, which runs
+//! machines (docs/MODEL.md).
 //!
 //! `specs/` has the definitions: `Wire` and `World` say what there is, `Turn` and `Act` what
 //! happens, `Run` what comes of it from power-on, `Outcome` what a bus may settle to. A world that

@@ -1,5 +1,5 @@
-//! Configuration ROMs (IEEE Std 1212): what a node says of itself, as quadlets behind a bus
-//! information block, in directories and leaves.
+//! Configuration ROMs (IEEE Std 1212) both ways, their blocks, which of them have a good CRC, and
+//! text (docs/ROMS.md).
 #![tactic(auto)]
 
 mod block;

@@ -1,5 +1,6 @@
-//! Root contention (IEEE Std 1394-1995 and 1394a-2000, state T3): two neighbours asked each other
-//! to be parent. Each draws a coin and waits, short for 0 and long for 1.
+//! Root contention (IEEE Std 1394-1995 and 1394a-2000): the rows into T3, with a coin, and out of
+//! it. Two neighbours asked each other to be parent; each draws a coin and waits, short for 0 and
+//! long for 1.
 #![tactic(auto)]
 
 mod contend;

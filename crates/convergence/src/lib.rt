@@ -1,6 +1,4 @@
-//! What buses come to: in quiet turns, whatever holds are placed between them, resets end, each
-//! component without loop agrees on a tree or counts its contention out, and each loop reports that
-//! the configuration timed out.
+//! Laws: resets end, trees are taken and decided, loops time out, and who contends (docs/MODEL.md).
 //!
 //! The crate has laws alone, of worlds as `cable_world` defines them. `specs/` says what is so:
 //! `Milestones` what holds of a world one after the other, `Turns` after how many turns, `Acyclic`

@@ -1,4 +1,4 @@
-//! The form `diff` of `busview`: its words, and what it writes of two captures.
+//! The words of `busview diff`, and what differs between two captures (docs/VIEW.md).
 #![tactic(auto)]
 
 mod difference;

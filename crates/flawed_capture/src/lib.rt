@@ -1,5 +1,5 @@
-//! Captures with a flaw: the list of a bus that is made, with a fault of one kind put in, for whoever
-//! tries a reader of captures.
+//! Captures with a flaw: the list of a made bus, changed in one place so that it has a fault of a
+//! given kind (docs/VECTORS.md).
 #![tactic(auto)]
 
 mod change;

@@ -1,4 +1,4 @@
-//! The form `flawed` of `busview`: its words, and what it writes.
+//! The words of `busview flawed`, and the capture that it writes (docs/VIEW.md).
 #![tactic(auto)]
 
 mod form;

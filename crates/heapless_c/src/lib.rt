@@ -1,6 +1,8 @@
-//! The static library of the calls of `include/busconf.h` that take no memory, for programs that aren't
-//! Rattle and for code that may call no allocator. No function of this crate is handed one. Each export
-//! calls the crate that it is named for and states its clauses again, over records of numbers.
+//! The calls of the library for C, `libbusconf`, that take no memory: packets, a reader in memory
+//! of fixed size, registers, the CRC, gap counts, the line and the sentence of a fault, and the
+//! events of a trace (docs/LIBRARY.md). No function of this crate is handed an allocator. Each
+//! export calls the crate that it is named for and states its clauses again, over records of
+//! numbers.
 #![tactic(auto)]
 
 mod crc;

@@ -1,4 +1,5 @@
-//! Sources and sinks of bytes that count their faults.
+//! Bytes in and out: sources and sinks that count their faults, in memory and over std, and what a
+//! top call promises of its streams.
 //!
 //! A [`Source`] or a [`Sink`] fails only where its own count of faults rises, so a caller that is
 //! told of a failure can name the object that failed. The fakes in memory ([`MemSource`],

@@ -1,5 +1,4 @@
-//! Words and numbers of a line, as scripts, logs and the words of a call have them: the number that digits
-//! spell, and laws on what stands between blanks.
+//! The numbers that digits spell, and the words between blanks, for lines of scripts and logs.
 #![tactic(auto)]
 
 mod number;

@@ -1,4 +1,4 @@
-//! Which cables to pull where cables form a loop, and how such an advice is judged.
+//! Which cables of a component to pull so that a tree is left, and how such an advice is judged.
 //!
 //! `specs/Cables.antt` says what cables join, `specs/Order.antt` in which order they stand,
 //! `specs/Advised.antt` which of them are advised, and `specs/Certificate.antt` when an advice is valid.

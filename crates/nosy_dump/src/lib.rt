@@ -1,5 +1,5 @@
-//! The dump of a whole bus: the resets in what a TI PCILynx recorded, as `nosy-dump --output` of the
-//! Linux kernel writes it.
+//! The resets in a recording of a whole bus by a TI PCILynx, as `nosy-dump --output` of the Linux
+//! kernel writes it: its records, what is shown of them, and the call that shows it as it comes.
 //!
 //! A dump is records, each behind its length. Between two bus resets stand the self-ID packets of one
 //! list (`Record`, `DumpReset`), which is shown as `reset_log` shows that of a log's reset (`show_dump`).

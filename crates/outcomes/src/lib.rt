@@ -1,4 +1,5 @@
-//! What components of a world come to: a loop, a tree or a contention.
+//! Laws: IDs and lists, the outcome of every component, forced roots, and the theorem,
+//! `every_bus_settles` (docs/MODEL.md).
 //!
 //! `every_bus_settles` is the theorem: a bus that is left alone settles.
 //!

@@ -1,4 +1,5 @@
-//! The machines of a node. Each meets `PortMachine`; no crate above knows which is there.
+//! The machines of a node: the one that runs, under the names of two kinds, and either of them.
+//! Each meets `PortMachine`; no crate above knows which is there.
 //!
 //! `node` does the calls to a record, and `idle` tells how long nothing happens.
 #![tactic(auto)]

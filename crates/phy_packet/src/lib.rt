@@ -1,4 +1,5 @@
-//! PHY packets of the cable environment, one quadlet at a time (IEEE 1394a-2000, PHY packets).
+//! The six PHY packets (IEEE 1394a-2000, PHY packets), one quadlet both ways; their bits are in
+//! `specs/Packet.antt`.
 //!
 //! A PHY packet is a quadlet and its bitwise inverse; this crate knows the first of the two.
 #![tactic(auto)]

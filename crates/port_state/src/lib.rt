@@ -1,6 +1,6 @@
-//! The port machine of a node: its signals, its record, and the steps that bus reset, tree identify
-//! and self identify allow it (IEEE Std 1394-1995 and 1394a-2000, cable environment, states R0 to
-//! A0).
+//! The step table of a node's port machine with all its rows (IEEE Std 1394-1995 and 1394a-2000,
+//! cable environment, states R0 to A0), which the crates of its phases do, and the trait that every
+//! machine meets (docs/MODEL.md).
 //!
 //! `specs/` has the step table itself, in `Entry`, `Config`, `Heard` and `Tick` with the rows of
 //! `Resetting`, `TreeIdentify` and `SelfIdentify`. Each machine of the crates above is a

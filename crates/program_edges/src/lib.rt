@@ -1,5 +1,5 @@
-//! What the programs share at their edges: their words, the files that these name, and streams of
-//! which something is noted.
+//! What the programs share: which words name files, what is wrong with words, streams that note
+//! something, and the way from file to file.
 #![tactic(auto)]
 
 mod files;

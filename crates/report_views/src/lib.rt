@@ -1,4 +1,4 @@
-//! Reports of a bus as pictures and as data: the Graphviz graph of a report, and its line of JSON.
+//! A report as a graph for Graphviz and as a line of JSON, with the names of a script.
 //!
 //! Both show the nodes by the names that a script gives them.
 #![tactic(auto)]

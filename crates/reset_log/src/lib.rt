@@ -1,4 +1,6 @@
-//! The log of a live bus: the resets in the text of a Linux kernel's trace.
+//! The resets in the text of a Linux kernel's trace or log: what each line is, what is remembered
+//! from line to line, what is shown, and the call that shows a log as it comes, as text or as lines
+//! of JSON.
 //!
 //! Each line of it is by itself a bus reset with its fields, a garbled event, or something else
 //! (`line_of`). What is shown of a log is told of its lines in order, with the last reset of each card

@@ -1,4 +1,5 @@
-//! The registers of the isochronous resource manager, and allocation by them.
+//! The registers of the isochronous resource manager: what a read, a write or a lock is answered,
+//! and grants by them.
 //!
 //! The node that is elected isochronous resource manager keeps four registers (IEEE Std 1394-1995,
 //! 8.3.2.3.6 to 8.3.2.3.8): who the bus manager is, how much bandwidth is left, and which of the 64

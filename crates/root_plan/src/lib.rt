@@ -1,4 +1,5 @@
-//! The root that suits a bus best, and the configuration packet that makes it root.
+//! The root that suits a bus best, the configuration packet that makes it root, and the order of
+//! the nodes after it.
 #![tactic(auto)]
 
 mod choice;

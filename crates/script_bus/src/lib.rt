@@ -1,5 +1,5 @@
-//! The bus of a script: acts, turns and reports, questions to the manager of a tree, plans, the cables
-//! that are pulled by an advice. A listener hears what happens, and may write it down.
+//! The bus that a script runs: acts, turns, reports, questions to the manager, plans, and the
+//! cables that an advice pulls. A listener hears what happens, and may write it down.
 //!
 //! What each command does stands in `script_told`, and what is printed in `script_text`. `script_run`
 //! goes from line to line.

@@ -1,4 +1,4 @@
-//! The lines of a script: what each line says, or what is wrong with it.
+//! The lines of scripts: their words, forms, commands and faults (docs/SCRIPTS.md).
 //!
 //! A line is split into words, the words have one of the forms of `specs/Form.antt`, and so say a
 //! command; or the first fault decides. What a command does to a bus stands in `script_run`.

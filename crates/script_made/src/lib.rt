@@ -1,5 +1,5 @@
-//! Made scripts: nodes that are joined to a tree, and each cable pulled and plugged again. And two
-//! laws: what their lines say, and that their runs have no fault.
+//! The script that is made for a number of nodes and a seed, which has no fault. There are two laws
+//! of it: what its lines say, and that its run has no fault.
 #![tactic(auto)]
 
 mod laws;

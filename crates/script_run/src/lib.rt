@@ -1,4 +1,5 @@
-//! Scripts: lines of commands that build a bus, run it and ask its manager.
+//! Scripts from line to line: nodes are declared, the bus runs, and settles, is advised, traced or
+//! dumped at the end; what is answered to a script, and the line of its fault.
 //!
 //! A script names nodes, plugs and pulls cables, lets turns pass and asks for reports. What a line
 //! says stands in `script_lines`, and what it does to a bus in `script_bus`; here the lines are gone

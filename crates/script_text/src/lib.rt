@@ -1,4 +1,4 @@
-//! The texts of a script's run: reports, maps, what commands print, and what a made run is worth.
+//! The texts of reports, maps, plans and the answers of commands, and the summary of a text.
 //!
 //! Each is said of a value and of the names of nodes. What a script does to a bus stands in
 //! `script_told` and `script_bus`.

@@ -1,5 +1,5 @@
-//! What a script tells: its bus, what each command does to it, and what its lines come to; and the
-//! laws of that.
+//! The one run of a script: its bus, what each command does to it, and what its lines come to
+//! (docs/SCRIPTS.md); and the laws of that.
 //!
 //! Here stands what is to be told, and no code that tells it: that is in `script_bus` and
 //! `script_run`.

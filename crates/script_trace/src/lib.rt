@@ -1,7 +1,6 @@
-//! What happens on the bus of a script, line by line: states that nodes enter, roles that ports take,
-//! coins, IDs, and each signal that is sent. The same as waveforms: a Value Change Dump (IEEE Std
-//! 1364-2005, 18.2) for GTKWave, Surfer and other viewers. And the laws that a script has one trace and
-//! one dump, exactly where it has a text.
+//! What happens on the bus of a script, as text: states, roles, coins, IDs and signals; and the
+//! same as a Value Change Dump (IEEE Std 1364-2005, 18.2) for waveform viewers (docs/VIEW.md). And
+//! the laws that a script has one trace and one dump, exactly where it has a text.
 //!
 //! What happens in a turn stands in `specs/Step.antt`, what happens at a command and in a whole
 //! script in `specs/Trace.antt`. `script_run` goes through the lines.

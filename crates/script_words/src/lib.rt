@@ -1,5 +1,4 @@
-//! What stands at a fault of a script and what was wanted there: the word, its place in the line, and
-//! the words, the range or the names that may stand there.
+//! The word at fault in a script: its place, and what may stand there (docs/VIEW.md).
 #![tactic(auto)]
 
 mod before;

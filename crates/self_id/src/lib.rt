@@ -1,5 +1,5 @@
-//! What one node says of itself: its group of self-ID packets (IEEE Std 1394-1995 and IEEE
-//! 1394a-2000, self-ID packets).
+//! The one to four self-ID packets of a node, both ways, by either standard (IEEE Std 1394-1995 and
+//! IEEE 1394a-2000, self-ID packets).
 #![tactic(auto)]
 
 mod fault;

@@ -1,4 +1,5 @@
-//! Self identify (IEEE Std 1394-1995 and 1394a-2000, states S0, S1, S2 and S4, and its end in A0).
+//! Self identify (IEEE Std 1394-1995 and 1394a-2000): grants, packets and Done, the rows of S0 to
+//! S4, and the packets in which a node identifies itself.
 //!
 //! `hearing` is what a node does with grants, packets and their end; `ticks` is how it grants its
 //! children one after the other and then identifies itself; `group` is the packets in which it

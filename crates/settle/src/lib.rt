@@ -1,5 +1,5 @@
-//! What a bus settles to: so many quiet turns are done that it has, and then each component is read.
-//! A bus manager's plan is carried out in this way: its packet is sent, and the bus settles anew.
+//! What a bus settles to: its quiet turns are done, and the outcome of each component is read; and
+//! a plan is carried out: its packet is sent, and the bus settles anew.
 //!
 //! `specs/` has what is reported: `Reported` of the outcome of a component, `Report` of a whole
 //! world. What a component may settle to is in `cable_world/specs/Outcome.antt`. `Planned` has what a

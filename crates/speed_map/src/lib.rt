@@ -1,4 +1,4 @@
-//! The speed map of a bus: how fast each of its nodes can send to each other (IEEE Std 1394-1995,
+//! The least speed of each path of a bus, and the image of its speed map (IEEE Std 1394-1995,
 //! SPEED_MAP).
 #![tactic(auto)]
 

@@ -1,4 +1,5 @@
-//! A call of a program: words and bytes in, a status and a text out.
+//! A call by words, whatever it is that answers: the words are judged, the bytes read, the answer
+//! written; when each status comes is in `specs/Streams.antt` of `io_edges`.
 //!
 //! What can be asked for by words is an [`Asked`]. [`answer`] judges the words, reads the bytes and
 //! writes the answer, whatever it is that answers.

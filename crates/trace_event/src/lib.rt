@@ -1,4 +1,5 @@
-//! The lines of a trace, read back: what happened, when and at which node. It takes no memory.
+//! The lines of a trace read back, one by one and without memory: what happened, when and at which
+//! node.
 #![tactic(auto)]
 
 mod acts;

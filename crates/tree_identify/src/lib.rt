@@ -1,5 +1,5 @@
-//! Tree identify (IEEE Std 1394-1995 and 1394a-2000, states T0, T1 and T2). Root contention, T3,
-//! is in the crate `contention`.
+//! Tree identify (IEEE Std 1394-1995 and 1394a-2000): the rows of T0, T1 and T2. Root contention,
+//! T3, is in the crate `contention`.
 //!
 //! One file a state: `tree_start` is T0, `child_shake` T1 and `parent_shake` T2.
 #![tactic(auto)]

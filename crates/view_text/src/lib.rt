@@ -1,5 +1,5 @@
-//! Texts that show a bus: its PHY packets field by field, the drawing of its tree, its graph, and the
-//! sentences on what is refused.
+//! Texts that show a bus: packets field by field, the drawing of a tree, its graph, and the
+//! sentences on what is refused (docs/VIEW.md).
 #![tactic(auto)]
 
 mod cable;

@@ -1,5 +1,5 @@
-//! A world of cables that visits a node only in the turns in which it hears something or is due, and
-//! passes over the turns in which no node is.
+//! `AgendaWorld`, a world of cables which visits a node only where something happens to it, and
+//! says when nothing does.
 #![tactic(auto)]
 
 mod agenda;

@@ -1,5 +1,5 @@
-//! Laws of worlds that the crates below have no need of: what reaches whom, what an act changes and
-//! what it leaves alone, and which components are fresh.
+//! Laws beside the theorem: when signals arrive, what acts touch, when the steps of a bus are over,
+//! what cablings show, and what the text of a tree says.
 //!
 //! The crate has laws alone, of worlds as `cable_world` defines them. `specs/` says what is so.
 #![tactic(auto)]
