@@ -1,0 +1,15 @@
+"""An independent model of busconf: what docs/ and the standards say, in plain Python, one rule after the other.
+
+    model.answer(words, data) -> (status, output)
+
+gives what `busconf WORDS` or `busview WORDS` ends with and writes on standard output, where the bytes of `data` are its
+standard input. It raises `model.NotModelled` for a form that isn't here. `model.reached` is a Counter of the rules that
+were applied since it was last cleared (`model.reached.clear()`), by words such as 'command plug' or 'fault TwoParents'.
+
+README.md beside this file says what the model is for, and what it isn't.
+"""
+
+from .forms import FORMS, NotModelled, answer
+from .reach import reached
+
+__all__ = ["FORMS", "NotModelled", "answer", "reached"]
