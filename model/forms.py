@@ -6,9 +6,10 @@ Files behind the words aren't read here: all input is on standard input.
 from . import captures, maps, rom
 from .packets import ListFault
 from .rom import RomFault
+from .run import ScriptFault, run
 
 MAX_INPUT = 1048576
-REFUSALS = (ListFault, RomFault)
+REFUSALS = (ListFault, RomFault, ScriptFault)
 
 
 class NotModelled(Exception):
@@ -24,6 +25,7 @@ FORMS = {
     "read": lambda words, data: captures.read(data, 2000),
     "read95": lambda words, data: captures.read(data, 1995),
     "maps": lambda words, data: maps.maps(data),
+    "run": lambda words, data: run(data),
     "rom": lambda words, data: rom.rom(data),
 }
 NOT_MODELLED = ("--help", "-h", "--version", "packets", "dot", "dot-run", "explain", "flawed", "resets", "nosy", "diff")
