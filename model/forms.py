@@ -1,50 +1,111 @@
-"""The forms and the statuses: README.md, 'The forms' and 'The statuses'.
+"""The forms and the statuses: README.md, 'The forms' and 'The statuses', and docs/VIEW.md.
 
-Files behind the words aren't read here: all input is on standard input.
+Files behind the words aren't read here: all input is on standard input. The sentence on a fault isn't modelled, which
+`trace` and `waves` write below the line that refuses a script.
 """
 
-from . import captures, maps, rom
+from .advice import advice
+from .captures import MAX_NODES, read
+from .json_lines import json_capture, json_run
+from .make import make, made_script
+from .maps import maps
 from .packets import ListFault
-from .rom import RomFault
+from .reach import reached
+from .rom import RomFault, rom
 from .run import ScriptFault, run
+from .scripts import name, number
+from .view import capture, tree
+from .world import Fault
 
 MAX_INPUT = 1048576
 REFUSALS = (ListFault, RomFault, ScriptFault)
 
 
 class NotModelled(Exception):
-    """A form of the programs that isn't modelled."""
+    """A form of the programs, or a file's name behind a form, that isn't modelled."""
 
 
-class NoForm(Exception):
-    """The words are none of the forms: status 2."""
-
-
-# A form takes the words behind its own and the bytes of its input, and gives its text.
-FORMS = {
-    "read": lambda words, data: captures.read(data, 2000),
-    "read95": lambda words, data: captures.read(data, 1995),
-    "maps": lambda words, data: maps.maps(data),
-    "run": lambda words, data: run(data),
-    "rom": lambda words, data: rom.rom(data),
+# The forms by their first word. Each takes the bytes of the input, and gives its text or bytes; those of JSON give a pair
+# of the status and the text.
+READERS = {
+    "run": run,
+    "advice": advice,
+    "read": lambda data: read(data, 2000),
+    "read95": lambda data: read(data, 1995),
+    "maps": maps,
+    "rom": rom,
+    "json-run": json_run,
 }
-NOT_MODELLED = ("--help", "-h", "--version", "packets", "dot", "dot-run", "explain", "flawed", "resets", "nosy", "diff")
+READERS_BY_STANDARD = {"tree": tree, "json": json_capture}
+MAKERS = {"make": make, "script": made_script}
+OTHERS = ("packets", "dot", "dot-run", "explain", "flawed", "resets", "nosy", "diff")
+OF_BUSCONF = ("run", "advice", "read", "read95", "maps", "rom", "make")
+FORMS = (*READERS, *READERS_BY_STANDARD, "capture", *MAKERS)
 
 
-def answer(words, data):
-    """The status and the output for these words and this input: bytes, or a call that reads them."""
-    if not words or words[0] in NOT_MODELLED:
-        if words:
-            raise NotModelled(words[0])
-        return 2, b""
-    if words[0] not in FORMS:
-        return 2, b""
+def form_of(words):
+    """What answers these words, as a call that takes the input; None if they are no form."""
+    first, rest = words[0], words[1:]
+    if words in (["--help"], ["-h"], ["--version"]) or first in OTHERS or first in FORMS and rest == ["--help"]:
+        raise NotModelled(words[-1])
+    if first in MAKERS:
+        numbers = made_numbers(rest)
+        return numbers and (lambda data: MAKERS[first](*numbers))
+    if first == "capture":
+        if not rest or word_is(name, rest[0]) is None:
+            return None
+        return without_files(rest[1:], lambda data: capture(data, rest[0]))
+    if first in READERS_BY_STANDARD:
+        standard = 1995 if rest[:1] == ["--1995"] else 2000
+        files = rest[1:] if standard == 1995 else rest
+        return without_files(files, lambda data: READERS_BY_STANDARD[first](data, standard))
+    return without_files(rest, READERS[first]) if first in READERS else None
+
+
+def word_is(kind, word, *limits):
+    """What a word of this kind says, or None if it isn't one."""
     try:
-        data = data() if callable(data) else data
-        if len(data) > MAX_INPUT:
-            return 6, b""
-        return 0, FORMS[words[0]](words[1:], data).encode()
-    except NoForm:
+        return kind(word, *limits)
+    except Fault:
+        return None
+
+
+def made_numbers(words):
+    if len(words) != 2:
+        return None
+    nodes, seed = word_is(number, words[0], 1, MAX_NODES), word_is(number, words[1])
+    return None if nodes is None or seed is None else (nodes, seed)
+
+
+def without_files(files, form):
+    """The form, if no word names a file but `-`."""
+    if any(word.startswith("-") and word != "-" for word in files):
+        return None
+    if files not in ([], ["-"]):
+        raise NotModelled("a file behind the words")
+    return form
+
+
+def answer(words, data, program=None):
+    """The status and the output for these words and this input: bytes, or a call that reads them.
+
+    The forms of both programs have different words, so `program` matters only if the words may be a form of the other.
+    """
+    other_program = {"busconf": set(FORMS) - set(OF_BUSCONF), "busview": OF_BUSCONF}.get(program, ())
+    form = form_of(words) if words and words[0] not in other_program else None
+    if form is None:
+        reached["words that are no form"] += 1
         return 2, b""
+    reached[f"form {words[0]}"] += 1
+    if words[0] in MAKERS:
+        data = b""
+    elif callable(data):
+        data = data()
+    if len(data) > MAX_INPUT:
+        return 6, b""
+    try:
+        output = form(data)
     except REFUSALS as refusal:
-        return 1, refusal.line().encode()
+        output = 1, refusal.line()
+    status, output = output if isinstance(output, tuple) else (0, output)
+    return status, output if isinstance(output, bytes) else output.encode()
