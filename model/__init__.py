@@ -7,10 +7,14 @@ standard input: `model.answer(["read"], capture)`, `model.answer(["make", "5", "
 or 'busview', makes the words of the other program no form. It raises `model.NotModelled` for a form that isn't here. `model.reached` is a Counter of the rules that
 were applied since it was last cleared (`model.reached.clear()`), by words such as 'command plug' or 'fault TwoParents'.
 
+    model.compared(words, status, output)
+
+is the part of an output that is modelled: of a script that `trace` or `waves` refuses the line, and not the sentence below.
+
 README.md beside this file says what the model is for, and what it isn't.
 """
 
-from .forms import FORMS, NotModelled, answer
+from .forms import FORMS, NotModelled, answer, compared
 from .reach import reached
 
-__all__ = ["FORMS", "NotModelled", "answer", "reached"]
+__all__ = ["FORMS", "NotModelled", "answer", "compared", "reached"]

@@ -14,7 +14,9 @@ from .reach import reached
 from .rom import RomFault, rom
 from .run import ScriptFault, run
 from .scripts import name, number
+from .trace import trace
 from .view import capture, tree
+from .waves import waves
 from .world import Fault
 
 MAX_INPUT = 1048576
@@ -35,10 +37,14 @@ READERS = {
     "maps": maps,
     "rom": rom,
     "json-run": json_run,
+    "trace": trace,
+    "waves": waves,
 }
 READERS_BY_STANDARD = {"tree": tree, "json": json_capture}
 MAKERS = {"make": make, "script": made_script}
 OTHERS = ("packets", "dot", "dot-run", "explain", "flawed", "resets", "nosy", "diff")
+# Below the line that refuses a script these write a sentence on the fault, which isn't modelled.
+WITH_SENTENCE = ("trace", "waves")
 OF_BUSCONF = ("run", "advice", "read", "read95", "maps", "rom", "make")
 FORMS = (*READERS, *READERS_BY_STANDARD, "capture", *MAKERS)
 
@@ -84,6 +90,11 @@ def without_files(files, form):
     if files not in ([], ["-"]):
         raise NotModelled("a file behind the words")
     return form
+
+
+def compared(words, status, output):
+    """The part of an output that is modelled: all of it, or the first line of a refusal with a sentence."""
+    return output.split(b"\n")[0] if status == 1 and words[0] in WITH_SENTENCE else output
 
 
 def answer(words, data, program=None):

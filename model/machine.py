@@ -41,6 +41,22 @@ class Node:
     def connected(self):
         return [port for port, state in enumerate(self.ports) if state.connected]
 
+    def snapshot(self):
+        """What can be seen of the node between two steps."""
+        return {
+            "phase": self.phase,
+            "resets": self.resets,
+            "timed_out": self.timed_out,
+            "parent": self.parent,
+            "id": self.id,
+            "draws": self.draws,
+            "first_draws": list(self.first_draws),
+            "wait": self.wait,
+            "connected": [port.connected for port in self.ports],
+            "children": [port.child for port in self.ports],
+            "shown": [port.shown for port in self.ports],
+        }
+
     def send(self, port, signal):
         self.sends.append((port, signal))
 

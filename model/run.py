@@ -127,13 +127,13 @@ class Script:
         self.report = None
         self.looks = {}
         if self.world.listener:
-            self.world.listener.acted(words)
+            self.world.listener.done(self.world.turns, words)
 
     def line_hold(self, form, name, port, turns):
         self.stage = 4
         self.world.hold((self.node(name), port), turns)
         if self.world.listener:
-            self.world.listener.acted(f"hold {name} {port} {turns}")
+            self.world.listener.done(self.world.turns, f"hold {name} {port} {turns}")
 
     def line_turn(self, form, count):
         self.stage = 4

@@ -1,8 +1,8 @@
 """A world of nodes, cables and wires, its turns and its acts: docs/MODEL.md, 'The wires', 'A turn', 'Between turns'.
 
 A wire is a list of [age, signal], the oldest first; it is named by the end that it leaves, a pair of node and port.
-A listener, if there is one, is told what each act and each turn did to a node: `listener.stepped(before, node, sends)`,
-where `before` is the node's `snapshot`, and `listener.turned()` after the nodes of a turn.
+A listener, if there is one, hears what each act and each turn does to a node (`stepped`, with the node's snapshots and what
+it sent), and then that the turn is done (`done`).
 """
 
 
@@ -65,7 +65,7 @@ class World:
         """Lets a node act or take its turn, puts what it sends onto its wires, and notes whether its list changed."""
         state = self.nodes[node]
         packets = list(state.packets)
-        before = self.listener and self.listener.snapshot(state)
+        before = self.listener and state.snapshot()
         act(state)
         sends, state.sends = state.sends, []
         for port, signal in sends:
@@ -73,7 +73,7 @@ class World:
         if state.packets != packets:
             self.changed[node] = self.turns
         if self.listener:
-            self.listener.stepped(before, state, sends)
+            self.listener.stepped(node, before, state.snapshot(), sends)
 
     # A turn.
 
@@ -84,7 +84,7 @@ class World:
             if node in arrived or not state.passes_over_tick():
                 self.step(node, lambda state: hear_and_tick(state, arrived.get(node, {})))
         if self.listener:
-            self.listener.turned()
+            self.listener.done(self.turns)
 
     def deliver(self):
         """Lets all signals age, and takes those that arrive off their wires: by node, by port, the oldest first."""

@@ -1,0 +1,71 @@
+"""Traces: docs/VIEW.md, 'trace'."""
+
+from .machine import CHILD, DONE, GRANT, IDLE, PARENT, RESET
+from .reach import reached
+from .run import Script
+
+WORDS = {
+    RESET: "BUS_RESET",
+    IDLE: "IDLE",
+    PARENT: "TX_PARENT_NOTIFY",
+    CHILD: "TX_CHILD_NOTIFY",
+    GRANT: "TX_GRANT",
+    DONE: "TX_IDENT_DONE",
+}
+
+
+class Listener:
+    """Keeps the steps of nodes until the act or the turn is done."""
+
+    def __init__(self):
+        self.steps = []
+        self.out = []
+
+    def stepped(self, node, before, after, sends):
+        self.steps.append((node, before, after, sends))
+
+    def done(self, turn, act=None):
+        """An act, with the words of its line, or a turn."""
+        steps, self.steps = sorted(self.steps, key=lambda step: step[0]), []
+        self.write(turn, act, steps)
+
+
+class Trace(Listener):
+    def __init__(self, script_nodes):
+        super().__init__()
+        self.nodes = script_nodes
+
+    def write(self, turn, act, steps):
+        lines = [act] if act else []
+        for node, before, after, sends in steps:
+            lines += [f"{self.nodes[node].name} {event}" for event in events(before, after, sends)]
+        self.out += [f"turn {turn} {line}\n" for line in lines]
+
+
+def events(before, after, sends):
+    """What happened to a node from one snapshot to the next, in the order of the table."""
+    if after["phase"] != before["phase"] or after["resets"] != before["resets"]:
+        yield f"enters {after['phase']}"
+    if after["timed_out"] and not before["timed_out"]:
+        yield "configuration timeout"
+    if after["parent"] is not None and after["parent"] != before["parent"]:
+        yield f"port {after['parent']} to its parent"
+    for port, child in enumerate(after["children"]):
+        if child and not before["children"][port]:
+            yield f"port {port} to a child"
+    if after["draws"] > before["draws"]:
+        value = f" {after['first_draws'][-1]}" if after["draws"] <= 32 else ""
+        yield f"coin{value} wait {after['wait']}"
+    if after["id"] is not None and after["id"] != before["id"]:
+        yield f"phy_ID {after['id']}"
+    for port, signal in sorted(sends, key=lambda send: send[0]):
+        word = WORDS[signal] if signal in WORDS else f"packet {signal[1]:08x}"
+        reached[f"trace {word.split()[0]}"] += 1
+        yield f"port {port} sends {word}"
+
+
+def trace(data):
+    script = Script()
+    script.world.listener = Trace(script.world.nodes)
+    script.run(data)
+    return "".join(script.world.listener.out)
