@@ -9,7 +9,7 @@ were applied since it was last cleared (`model.reached.clear()`), by words such 
 
     model.compared(words, status, output)
 
-is the part of an output that is modelled: of a script that `trace` or `waves` refuses the line, and not the sentence below.
+is an output without the lines that aren't modelled: the sentence on a script's fault, and what bytes look like.
 
 README.md beside this file says what the model is for, and what it isn't.
 """

@@ -1,11 +1,12 @@
 """The forms and the statuses: README.md, 'The forms' and 'The statuses', and docs/VIEW.md.
 
-Files behind the words aren't read here: all input is on standard input. The sentence on a fault isn't modelled, which
-`trace` and `waves` write below the line that refuses a script.
+Files behind the words aren't read here: all input is on standard input. Two kinds of lines aren't modelled: the sentence
+below the line that refuses a script, and what the bytes of a refused capture look like.
 """
 
 from .advice import advice
 from .captures import MAX_NODES, read
+from .dot import dot, dot_run
 from .json_lines import json_capture, json_run
 from .make import make, made_script
 from .maps import maps
@@ -14,6 +15,7 @@ from .reach import reached
 from .rom import RomFault, rom
 from .run import ScriptFault, run
 from .scripts import name, number
+from .shown import packets
 from .trace import trace
 from .view import capture, tree
 from .waves import waves
@@ -36,15 +38,16 @@ READERS = {
     "read95": lambda data: read(data, 1995),
     "maps": maps,
     "rom": rom,
+    "dot-run": dot_run,
     "json-run": json_run,
     "trace": trace,
     "waves": waves,
 }
-READERS_BY_STANDARD = {"tree": tree, "json": json_capture}
+READERS_BY_STANDARD = {"packets": packets, "tree": tree, "dot": dot, "json": json_capture}
 MAKERS = {"make": make, "script": made_script}
-OTHERS = ("packets", "dot", "dot-run", "explain", "flawed", "resets", "nosy", "diff")
-# Below the line that refuses a script these write a sentence on the fault, which isn't modelled.
-WITH_SENTENCE = ("trace", "waves")
+OTHERS = ("explain", "flawed", "resets", "nosy", "diff")
+# Below the line that refuses a script these write a sentence on the fault.
+WITH_SENTENCE = ("trace", "waves", "dot-run")
 OF_BUSCONF = ("run", "advice", "read", "read95", "maps", "rom", "make")
 FORMS = (*READERS, *READERS_BY_STANDARD, "capture", *MAKERS)
 
@@ -93,8 +96,12 @@ def without_files(files, form):
 
 
 def compared(words, status, output):
-    """The part of an output that is modelled: all of it, or the first line of a refusal with a sentence."""
-    return output.split(b"\n")[0] if status == 1 and words[0] in WITH_SENTENCE else output
+    """An output without the lines that aren't modelled."""
+    if status == 1 and words[0] in WITH_SENTENCE:
+        return output.split(b"\n")[0]
+    if status == 1 and words[0] == "packets":
+        return b"\n".join(line for line in output.split(b"\n") if not line.startswith(b"This looks like "))
+    return output
 
 
 def answer(words, data, program=None):

@@ -15,9 +15,10 @@ PORTS_OF_PACKETS = {2000: (3, 8, 5), 1995: (3, 8, 8, 8)}
 class ListFault(Exception):
     """What is wrong with a list of packets: the place, the kind, and what was found and wanted, if that is said."""
 
-    def __init__(self, place, kind, found=None, wanted=None):
+    def __init__(self, place, kind, found=None, wanted=None, packet=None):
         super().__init__(kind)
         self.place, self.kind, self.found, self.wanted = place, kind, found, wanted
+        self.packet = packet  # the packet that a `BadOrder` wants
 
     def line(self):
         said = "" if self.found is None else f" found {self.found} wanted {self.wanted}"
@@ -61,9 +62,9 @@ def read_group(quads, at, wanted, standard):
         if bits(quad, 24, 6) != wanted:
             raise ListFault(here, "WrongId", bits(quad, 24, 6), wanted)
         if place == 0 and not is_packet_zero(quad):
-            raise ListFault(here, "BadOrder")
+            raise ListFault(here, "BadOrder", packet="zero")
         if place > 0 and (is_packet_zero(quad) or bits(quad, 20, 3) != place - 1):
-            raise ListFault(here, "BadOrder")
+            raise ListFault(here, "BadOrder", packet=f"n {place - 1}")
         ports += ports_of_packet(quad, place, standard)
         if place + 1 == packets or not says_more_follow(quad):
             break
