@@ -1,4 +1,4 @@
-"""The coins of a node, and the generator: docs/SCRIPTS.md, 'Coins and the generator'."""
+"""The coins of a node, and the generator: docs/SCRIPTS.md, 'Nodes'."""
 
 from .reach import reached
 

@@ -1,5 +1,5 @@
-"""The port machine: docs/MODEL.md, 'The port machine'. A step is a call of `tick`, `hear` or one of the acts; what a
-step sends it appends to `sends`, as pairs of a port and a signal.
+"""The port machine: docs/MODEL.md, 'The port machine' and above all 'The steps of a node'. A step is a call of `tick`,
+`hear` or one of the acts; what it sends it puts at the end of `sends`, as pairs of a port and a signal.
 """
 
 from . import registers

@@ -1,5 +1,4 @@
-"""Self-ID packets and the groups of a node: docs/CAPTURES.md, 'The quadlets of a node', and docs/DECISIONS.md,
-'Packets and groups'.
+"""Self-ID packets, and the packets of a node, which are its group: docs/CAPTURES.md, 'The quadlets of a node'.
 
 A node is a dictionary: what it says of itself, and its ports, each with one of the four statuses.
 """
