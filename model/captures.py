@@ -91,6 +91,7 @@ def read_capture(data, standard):
         quads = read_pairs(data)
         nodes = read_tree(quads, standard)
     except ListFault as fault:
+        reached[f"fault {fault.kind}"] += 1
         reached[f"fault {fault.kind} by {standard}"] += 1
         raise
     reached[f"capture accepted by {standard}"] += 1

@@ -1,6 +1,8 @@
-"""What `busview diff` says: docs/VIEW.md, 'diff'. Which node is which is a guess there, so there is no answer here to compare
-with. But once it is known which nodes of both buses are one, the lines follow: `tell` writes them. `check` looks for the guess to
-which an answer belongs. If there is one, each change is so of both buses, and nothing that differs is left out.
+"""What `busview diff` says: docs/VIEW.md, 'diff'.
+
+Which node is which is a guess there, so there is no answer here to compare with. But once it is known which nodes of
+both buses are one, the lines follow: `tell` writes them. `check` looks for the guess to which an answer belongs. If
+there is one, each change is so of both buses, and nothing that differs is left out.
 """
 
 import re

@@ -1,7 +1,7 @@
 """The forms and the statuses: README.md, 'The forms' and 'The statuses', and docs/VIEW.md.
 
-Files behind the words aren't read here: all input is on standard input. Two kinds of lines aren't modelled: the sentence
-below the line that refuses a script, and what the bytes of a refused capture look like.
+Files behind the words aren't read here: all input is on standard input. Two kinds of lines aren't modelled: the
+sentence below the line that refuses a script, and what the bytes of a refused capture look like.
 """
 
 from .advice import advice
@@ -29,8 +29,8 @@ class NotModelled(Exception):
     """A form of the programs, or a file's name behind a form, that isn't modelled."""
 
 
-# The forms by their first word. Each takes the bytes of the input, and gives its text or bytes; those of JSON give a pair
-# of the status and the text.
+# The forms by their first word. Each takes the bytes of the input, and gives its text or bytes, or a pair of the status
+# and the text if it doesn't refuse by the line alone.
 READERS = {
     "run": run,
     "advice": advice,

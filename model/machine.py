@@ -13,8 +13,9 @@ GRANT, DONE, PACKET = "Grant", "Done", "Packet"
 LAST_TICK = 65535
 FULL_LIST = 252
 
-# The one shortcut of the model. A node whose last tick applied no row, which has heard nothing since, and none of whose times
-# ends at this tick, has no row at this tick either: only its timer rises. If this isn't set, such ticks are done in full.
+# The one shortcut of the model. A node whose last tick applied no row, which has heard nothing since, and none of whose
+# times ends at this tick, has no row at this tick either: only its timer rises. If this isn't set, such ticks are done
+# in full.
 PASS_OVER_IDLE_TICKS = True
 
 
@@ -148,12 +149,12 @@ class Node:
         if self.timer >= self.times["hold"]:
             self.phase, self.timer = "R1", 0
             self.send_all(IDLE)
-            return "R0 to R1"
+            return "R0->R1"
 
     def reset_wait(self):
         if all(self.ports[port].shown in (IDLE, PARENT) for port in self.connected()):
             self.phase, self.timer = "T0", 0
-            return "R1 to T0"
+            return "R1->T0"
 
     def tree_start(self):
         ports = self.connected()
@@ -166,7 +167,7 @@ class Node:
             for port in ports:
                 self.ports[port].child = port in asking
                 self.send(port, CHILD if port in asking else PARENT)
-            return "T0 to T1"
+            return "T0->T1"
         if self.timer >= self.times["timeout"] and not self.timed_out:
             self.timed_out = True
             return "T0 timeout"
@@ -177,16 +178,16 @@ class Node:
     def child_handshake(self):
         if all(self.ports[port].shown == IDLE for port in self.children()):
             self.phase = "T2"
-            return "T1 to T2"
+            return "T1->T2"
 
     def parent_handshake(self):
         if self.parent is None:
             self.phase, self.granted = "S0", True
-            return "T2 to S0 as root"
+            return "T2->S0 as root"
         if self.ports[self.parent].shown == CHILD:
             self.phase = "S0"
             self.send(self.parent, IDLE)
-            return "T2 to S0 as child"
+            return "T2->S0 as child"
         if self.ports[self.parent].shown == PARENT:
             coin = self.coins.draw()
             self.phase, self.timer = "T3", 0
@@ -195,7 +196,7 @@ class Node:
             if len(self.first_draws) < 32:
                 self.first_draws.append(coin)
             self.send(self.parent, IDLE)
-            return "T2 to T3"
+            return "T2->T3"
 
     def contend(self):
         if self.timer < self.wait:
@@ -205,10 +206,10 @@ class Node:
             self.ports[self.parent].child = True
             self.send(self.parent, CHILD)
             self.parent = None
-            return "T3 to T1"
+            return "T3->T1"
         self.phase = "T2"
         self.send(self.parent, PARENT)
-        return "T3 to T2"
+        return "T3->T2"
 
     def self_identify(self):
         if not self.granted:
@@ -227,7 +228,7 @@ class Node:
             self.send_all((PACKET, quad))
         if self.parent is not None:
             self.send(self.parent, DONE)
-        return "S0 to A0"
+        return "S0->A0"
 
     def ready(self):
         return None

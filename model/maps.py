@@ -35,7 +35,7 @@ def path(nodes, start, end):
 
 
 def speed_rows(nodes):
-    """64 bytes for each node: the least speed on the path to each node, itself included, where the code 3 counts as 2."""
+    """64 bytes for each node: the least speed on the path to each node, both included, where the code 3 counts as 2."""
     rows = []
     for start in range(len(nodes)):
         row = [min(min(nodes[on]["speed"], 2) for on in path(nodes, start, end)) for end in range(len(nodes))]

@@ -5,7 +5,8 @@ from .reach import reached
 
 
 def core(world, component):
-    """The nodes of loops and of paths between loops: what is left if nodes of one cable are taken away again and again."""
+    """The nodes of loops and of paths between loops: those that are left if nodes of one cable are taken away again and
+    again."""
     left = set(component)
     while True:
         cables = {node: sum(a == node and b in left for (a, _), (b, _) in world.far.items()) for node in left}

@@ -84,7 +84,7 @@ def read_group(quads, at, wanted, standard):
 
 
 def write_group(node):
-    """The packets that a node of a script sends: three, eleven or sixteen ports in one to three packets, reserved bits 0."""
+    """The packets that a node of a script sends: one for three ports, two for eleven, three for sixteen."""
     slots = 3 if len(node["ports"]) <= 3 else 11 if len(node["ports"]) <= 11 else 16
     ports = node["ports"] + [ABSENT] * (slots - len(node["ports"]))
     parts = [ports[:3]] + [ports[3:11]] * (slots > 3) + [ports[11:16]] * (slots > 11)

@@ -1,5 +1,5 @@
-"""The run of a script: docs/SCRIPTS.md, from 'Cables, resets and time' on. The faults that depend on the bus are here, each
-looked for in the order of the table in 'Faults'.
+"""The run of a script: docs/SCRIPTS.md, from 'Cables, resets and time' on. The faults that depend on the bus are here,
+and are looked for in the order of the table in 'Faults'.
 """
 
 from . import outcomes, plans, registers
@@ -93,12 +93,14 @@ class Script:
             raise Fault("TooManyNodes")
         if name in self.node_of:
             raise Fault("Twice")
-        times = {time: keys.get(time, low) for time, (low, _) in self.times.items() if time not in ("force", "timeout")}
-        times.update(force=self.times["force"][0], timeout=self.times["timeout"][0])
-        traits = {key: keys.get(key, usual) for key, usual in (("link", 1), ("speed", 2), ("contender", 0), ("power", 0))}
+        times = {time: least for time, (least, _) in self.times.items()}
+        times.update((key, value) for key, value in keys.items() if key in ("hold", "short", "long"))
+        usual = {"link": 1, "speed": 2, "contender": 0, "power": 0}
+        traits = {key: keys.get(key, value) for key, value in usual.items()}
         coins = GivenCoins(keys["coins"]) if "coins" in keys else SeededCoins(keys.get("seed", number))
         self.node_of[name] = number
-        self.world.nodes.append(Node(name, ports, times, traits, keys.get("gap", 63), bool(keys.get("force", 0)), coins))
+        gap, force = keys.get("gap", 63), bool(keys.get("force", 0))
+        self.world.nodes.append(Node(name, ports, times, traits, gap, force, coins))
         self.world.changed.append(0)
 
     def node(self, name):

@@ -65,7 +65,7 @@ KEYS = {
 
 
 def lines_of(data):
-    """The lines of a script: what is between line feeds. After the last line feed there is no line if nothing is there."""
+    """The lines of a script, each of which a line feed ends; after the last one there may be a line without one."""
     lines = data.split(b"\n")
     return lines[:-1] if lines[-1] == b"" else lines
 

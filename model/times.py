@@ -1,4 +1,5 @@
-"""The times of nodes: docs/SCRIPTS.md, 'Nodes', 'Real times' and 'Reports'. A time is a range of turns, both ends in it."""
+"""The times of nodes: docs/SCRIPTS.md, 'Nodes', 'Real times' and 'Reports'. A time is a range of turns, of which both
+ends are part."""
 
 # In nanoseconds, from memory.
 STANDARDS = {

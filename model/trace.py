@@ -38,30 +38,33 @@ class Trace(Listener):
     def write(self, turn, act, steps):
         lines = [act] if act else []
         for node, before, after, sends in steps:
-            lines += [f"{self.nodes[node].name} {event}" for event in events(before, after, sends)]
+            for kind, said in events(before, after, sends):
+                reached[f"event {kind}"] += 1
+                lines.append(f"{self.nodes[node].name} {said}")
         self.out += [f"turn {turn} {line}\n" for line in lines]
 
 
 def events(before, after, sends):
-    """What happened to a node from one snapshot to the next, in the order of the table."""
+    """What happened to a node from one snapshot to the next, in the order of the table: the kind of line, and the line."""
     if after["phase"] != before["phase"] or after["resets"] != before["resets"]:
-        yield f"enters {after['phase']}"
+        yield "enters", f"enters {after['phase']}"
     if after["timed_out"] and not before["timed_out"]:
-        yield "configuration timeout"
+        yield "timeout", "configuration timeout"
     if after["parent"] is not None and after["parent"] != before["parent"]:
-        yield f"port {after['parent']} to its parent"
+        yield "to its parent", f"port {after['parent']} to its parent"
     for port, child in enumerate(after["children"]):
         if child and not before["children"][port]:
-            yield f"port {port} to a child"
+            yield "to a child", f"port {port} to a child"
     if after["draws"] > before["draws"]:
         value = f" {after['first_draws'][-1]}" if after["draws"] <= 32 else ""
-        yield f"coin{value} wait {after['wait']}"
+        yield "coin" if value else "coin past the 32nd", f"coin{value} wait {after['wait']}"
     if after["id"] is not None and after["id"] != before["id"]:
-        yield f"phy_ID {after['id']}"
+        yield "phy_ID", f"phy_ID {after['id']}"
     for port, signal in sorted(sends, key=lambda send: send[0]):
-        word = WORDS[signal] if signal in WORDS else f"packet {signal[1]:08x}"
-        reached[f"trace {word.split()[0]}"] += 1
-        yield f"port {port} sends {word}"
+        if signal in WORDS:
+            yield f"sends {WORDS[signal]}", f"port {port} sends {WORDS[signal]}"
+        else:
+            yield "sends packet", f"port {port} sends packet {signal[1]:08x}"
 
 
 def trace(data):

@@ -1,8 +1,8 @@
 """A world of nodes, cables and wires, its turns and its acts: docs/MODEL.md, 'The wires', 'A turn', 'Between turns'.
 
 A wire is a list of [age, signal], the oldest first; it is named by the end that it leaves, a pair of node and port.
-A listener, if there is one, hears what each act and each turn does to a node (`stepped`, with the node's snapshots and what
-it sent), and then that the turn is done (`done`).
+A listener, if there is one, hears what each act and each turn does to a node (`stepped`, with the node's snapshots
+before and after, and what it sent), and then that the act or turn is done (`done`).
 """
 
 
