@@ -45,7 +45,7 @@ class Trace(Listener):
 
 
 def events(before, after, sends):
-    """What happened to a node from one snapshot to the next, in the order of the table: the kind of line, and the line."""
+    """What happened to a node from one snapshot to the next, in the order of the table: kinds of lines, and lines."""
     if after["phase"] != before["phase"] or after["resets"] != before["resets"]:
         yield "enters", f"enters {after['phase']}"
     if after["timed_out"] and not before["timed_out"]:
