@@ -1,6 +1,7 @@
 """Hops, gap counts and the plan of a bus manager: docs/SCRIPTS.md, 'Plans'."""
 
 from .maps import path
+from .reach import reached
 
 GAPS = (63, 5, 7, 8, 10, 13, 16, 18, 21, 24, 26, 29, 32, 35, 37, 40)  # for 0 to 15 hops
 
@@ -18,6 +19,7 @@ def hops(tree):
 
 
 def gap_for(count):
+    reached[f"gap count for {count if count < len(GAPS) else 'more'} hops"] += 1
     return GAPS[count] if count < len(GAPS) else 63
 
 

@@ -1,6 +1,8 @@
 """The times of nodes: docs/SCRIPTS.md, 'Nodes', 'Real times' and 'Reports'. A time is a range of turns, of which both
 ends are part."""
 
+from .reach import reached
+
 # In nanoseconds, from memory.
 STANDARDS = {
     "1394a": {
@@ -41,13 +43,16 @@ def real_times(standard, nanoseconds, delay):
 
 def suit(times, delay):
     """Whether all times in these ranges suit the cables."""
-    return (
-        max(high for _, high in times.values()) <= 65535
-        and 64 * delay <= times["hold"][0]
-        and 2 * delay < times["short"][0]
-        and times["short"][1] + 2 * delay <= times["long"][0]
-        and times["hold"][1] + 127 * delay < times["hold"][0] + times["force"][0]
-    )
+    conditions = {
+        "a node counts so far": max(high for _, high in times.values()) <= 65535,
+        "a hold goes round a ring": 64 * delay <= times["hold"][0],
+        "a short wait goes there and back": 2 * delay < times["short"][0],
+        "a long wait is that much longer": times["short"][1] + 2 * delay <= times["long"][0],
+        "a forced node waits": times["hold"][1] + 127 * delay < times["hold"][0] + times["force"][0],
+    }
+    for condition, holds in conditions.items():
+        reached[f"times where {condition}: {holds}"] += 1
+    return all(conditions.values())
 
 
 def turns_to_settle(times, delay, nodes):

@@ -5,6 +5,8 @@ A listener, if there is one, hears what each act and each turn does to a node (`
 before and after, and what it sent), and then that the act or turn is done (`done`).
 """
 
+from .reach import reached
+
 
 class Fault(Exception):
     """Why a line of a script is refused."""
@@ -94,6 +96,7 @@ class World:
                 for aged in wire:
                     aged[0] += 1
                 if end not in self.held or wire[0][0] >= self.delay:
+                    reached["held wire gives" if end in self.held else "wire gives"] += 1
                     node, port = self.far[end]
                     arrived.setdefault(node, {})[port] = [signal for _, signal in wire]
                     wire.clear()
