@@ -12,6 +12,7 @@ from .scripts import lines_of, parse, words_of
 from .times import profile, real_times, suit, turns_to_settle
 from .world import Fault, World
 
+STAGES = {"delay": 1, "times": 2, "node": 3}
 MAX_TURNS = 2000000
 MAX_MAPS = 100
 
@@ -32,7 +33,7 @@ class Script:
     def __init__(self, listener=None):
         self.delay, self.times = 4, profile(4)
         self.nanoseconds = None
-        self.stage = 0  # how far down the order `delay`, `times`, `node`, all else the lines have come
+        self.stage = 0  # how far the lines have come in the order `delay`, `times`, `node`, all else
         self.world = World(self.delay, [])
         self.world.listener = listener
         self.node_of = {}
@@ -49,7 +50,9 @@ class Script:
                 words = words_of(line)
                 if words:
                     form, values = parse(words, self.times)
-                    getattr(self, "line_" + form.split()[0])(form, *values)
+                    verb = form.split()[0]
+                    self.enter_stage(verb)
+                    getattr(self, "line_" + verb)(form, *values)
                     reached[f"command {form}"] += 1
             except Fault as fault:
                 raise ScriptFault(number, str(fault)) from None
@@ -69,25 +72,23 @@ class Script:
 
     # Lines that say how nodes are made.
 
-    def enter_stage(self, stage, again=False):
-        if self.stage > stage or self.stage == stage and not again:
+    def enter_stage(self, verb):
+        stage = STAGES.get(verb, 4)
+        if stage < self.stage or stage == self.stage and verb in ("delay", "times"):
             raise Fault("Late")
         self.stage = stage
 
     def line_delay(self, form, delay):
-        self.enter_stage(1)
         self.delay = self.world.delay = delay
         self.times = profile(delay)
 
     def line_times(self, form, nanoseconds):
-        self.enter_stage(2)
         self.times = real_times(form.split()[1], nanoseconds, self.delay)
         self.nanoseconds = nanoseconds
         if not suit(self.times, self.delay):
             raise Fault("Range")
 
     def line_node(self, form, name, ports, keys):
-        self.enter_stage(3, again=True)
         number = len(self.world.nodes)
         if number == MAX_NODES:
             raise Fault("TooManyNodes")
@@ -111,16 +112,13 @@ class Script:
     # Acts, holds and turns.
 
     def line_plug(self, form, name, port, far_name, far_port):
-        self.stage = 4
         first, second = self.node(name), self.node(far_name)
         self.act(f"plug {name} {port} {far_name} {far_port}", self.world.plug, (first, port), (second, far_port))
 
     def line_pull(self, form, name, port):
-        self.stage = 4
         self.act(f"pull {name} {port}", self.world.pull, (self.node(name), port))
 
     def line_reset(self, form, name):
-        self.stage = 4
         self.act(f"reset {name}", self.world.reset, self.node(name))
 
     def act(self, words, act, *ends):
@@ -132,13 +130,11 @@ class Script:
             self.world.listener.done(self.world.turns, words)
 
     def line_hold(self, form, name, port, turns):
-        self.stage = 4
         self.world.hold((self.node(name), port), turns)
         if self.world.listener:
             self.world.listener.done(self.world.turns, f"hold {name} {port} {turns}")
 
     def line_turn(self, form, count):
-        self.stage = 4
         self.turn(count)
 
     def turn(self, count):
@@ -148,7 +144,6 @@ class Script:
             self.world.turn()
 
     def line_settle(self, form):
-        self.stage = 4
         self.turn(turns_to_settle(self.times, self.delay, len(self.world.nodes)))
         self.take_report()
 
@@ -161,7 +156,6 @@ class Script:
 
     def settled(self, name):
         """The node of this name and its part of the last report, which is a tree."""
-        self.stage = 4
         node = self.node(name)
         parts = self.report["parts"] if self.report else []
         part = next((part for part in parts if node in part["nodes"] and part["kind"] == "tree"), None)
