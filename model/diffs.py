@@ -40,8 +40,10 @@ def is_in(cable, nodes, now):
     return node in now and far in now and far_end(nodes, now[node], port) == (now[far], far_port)
 
 
-def tell(old, new, now):
-    """The lines, if `now` has for each node of the old bus that is in the new one its ID there."""
+def tell(old, new, now, by_new=False):
+    """The lines, if `now` has for each node of the old bus that is in the new one its ID there. Those of nodes that are in
+    both stand by their IDs in the old bus, or in the new one.
+    """
     was = {there: here for here, there in now.items()}
     lines = []
     for node in range(len(old)):
@@ -52,9 +54,10 @@ def tell(old, new, now):
         if node not in was:
             cable = parent_cable(new, node)
             lines.append(f"node {node} came" + (f" to {place(cable)}" if cable else ""))
-    for node in sorted(now):
+    both = sorted(now, key=now.get if by_new else None)
+    for node in both:
         lines += moved(node, now[node], parent_cable(old, node), parent_cable(new, now[node]), old, new, now, was)
-    for node in sorted(now):
+    for node in both:
         for key in VALUES:
             if old[node][key] != new[now[node]][key]:
                 lines.append(f"node {node} now {now[node]} {key} {old[node][key]} now {new[now[node]][key]}")

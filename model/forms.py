@@ -10,6 +10,7 @@ from .dot import dot, dot_run
 from .json_lines import json_capture, json_run
 from .make import make, made_script
 from .maps import maps
+from .nosy import nosy
 from .packets import ListFault
 from .reach import reached
 from .rom import RomFault, rom
@@ -45,11 +46,11 @@ READERS = {
 }
 READERS_BY_STANDARD = {"packets": packets, "tree": tree, "dot": dot, "json": json_capture}
 MAKERS = {"make": make, "script": made_script}
-OTHERS = ("explain", "flawed", "resets", "nosy", "diff")
+OTHERS = ("explain", "flawed", "resets", "diff")
 # Below the line that refuses a script these write a sentence on the fault.
 WITH_SENTENCE = ("trace", "waves", "dot-run")
 OF_BUSCONF = ("run", "advice", "read", "read95", "maps", "rom", "make")
-FORMS = (*READERS, *READERS_BY_STANDARD, "capture", *MAKERS)
+FORMS = (*READERS, *READERS_BY_STANDARD, "capture", "nosy", *MAKERS)
 
 
 def form_of(words):
@@ -64,9 +65,12 @@ def form_of(words):
         if not rest or word_is(name, rest[0]) is None:
             return None
         return without_files(rest[1:], lambda data: capture(data, rest[0]))
+    standard = 1995 if rest[:1] == ["--1995"] else 2000
+    files = rest[1:] if standard == 1995 else rest
+    if first == "nosy":
+        as_json = files[:1] == ["--json"]
+        return without_files(files[as_json:], lambda data: nosy(data, standard, as_json))
     if first in READERS_BY_STANDARD:
-        standard = 1995 if rest[:1] == ["--1995"] else 2000
-        files = rest[1:] if standard == 1995 else rest
         return without_files(files, lambda data: READERS_BY_STANDARD[first](data, standard))
     return without_files(rest, READERS[first]) if first in READERS else None
 
@@ -119,7 +123,7 @@ def answer(words, data, program=None):
         data = b""
     elif callable(data):
         data = data()
-    if len(data) > MAX_INPUT:
+    if len(data) > MAX_INPUT and words[0] != "nosy":
         return 6, b""
     try:
         output = form(data)

@@ -42,10 +42,14 @@ def json_capture(data, standard):
     try:
         return 0, line(bus(read_capture(data, standard)[1]))
     except ListFault as fault:
-        refused = {"pair": fault.place, "kind": fault.kind}
-        if fault.found is not None:
-            refused.update(found=fault.found, wanted=fault.wanted)
-        return 1, line({"refused": refused})
+        return 1, line({"refused": refusal(fault)})
+
+
+def refusal(fault):
+    members = {"pair": fault.place, "kind": fault.kind}
+    if fault.found is not None:
+        members.update(found=fault.found, wanted=fault.wanted)
+    return members
 
 
 def component(world, part):

@@ -37,6 +37,7 @@ class Node:
         self.resets = 0
         self.sends = []
         self.ends = set(times.values())
+        self.idle = False  # whether no row applied at the last tick, and nothing was heard since
         self.enter_reset(True)  # power-on: as after a reset of its own, with no port to send on
 
     def connected(self):

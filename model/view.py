@@ -9,7 +9,10 @@ SPEEDS = ("S100", "S200", "S400", "S400")
 
 
 def tree(data, standard):
-    nodes = read_capture(data, standard)[1]
+    return tree_text(read_capture(data, standard)[1])
+
+
+def tree_text(nodes):
     lines = draw(nodes, len(nodes) - 1, "", "")
     return "".join(line + "\n" for line in lines + gap_lines(nodes))
 
