@@ -41,8 +41,8 @@ def is_in(cable, nodes, now):
 
 
 def tell(old, new, now, by_new=False):
-    """The lines, if `now` has for each node of the old bus that is in the new one its ID there. Those of nodes that are in
-    both stand by their IDs in the old bus, or in the new one.
+    """The lines, if `now` has for each node of the old bus that is in the new one its ID there. Those of nodes that are
+    in both stand by their IDs in the old bus, or in the new one.
     """
     was = {there: here for here, there in now.items()}
     lines = []

@@ -1,5 +1,5 @@
-"""Recordings of `nosy-dump`: docs/VIEW.md, 'nosy', and what it shares with 'resets'; docs/CAPTURES.md, 'From a recording
-of a TI PCILynx', has the records.
+"""Recordings of `nosy-dump`: docs/VIEW.md, 'nosy', and what it shares with 'resets'. docs/CAPTURES.md has the records, in
+'From a recording of a TI PCILynx'.
 """
 
 from .captures import manager_of, read_tree
@@ -43,7 +43,7 @@ def resets(data):
         for at, quads in records(data):
             if len(quads) == 1:
                 found.append({"reset": len(found) + 1, "byte": at, "time": quads[0], "list": []})
-            elif len(quads) == 4 and quads[1] ^ quads[2] == 0xFFFFFFFF and is_self_id(quads[1]) and found:
+            elif found and len(quads) == 4 and quads[1] ^ quads[2] == 0xFFFFFFFF and is_self_id(quads[1]):
                 found[-1]["list"].append(quads[1])
     except DumpFault as fault:
         return found, fault

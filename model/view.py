@@ -18,7 +18,7 @@ def tree_text(nodes):
 
 
 def draw(nodes, at, before, below):
-    """The lines of a node and of what is below it. `before` stands before the node, `below` before the lines after it."""
+    """The lines of a node and of all below it. `before` stands before the node, `below` before the lines after it."""
     node = nodes[at]
     marks = " root" * (at == len(nodes) - 1) + " irm" * (at == manager_of(nodes))
     fields = " ".join(f"{key} {node[key]}" for key in ("link", "contender", "power", "initiated", "speed", "gap"))
