@@ -1,5 +1,5 @@
-"""Recordings of `nosy-dump`: docs/VIEW.md, 'nosy', and what it shares with 'resets'. docs/CAPTURES.md has the records, in
-'From a recording of a TI PCILynx'.
+"""Recordings of `nosy-dump`: docs/VIEW.md, 'nosy', and what it shares with 'resets'. docs/CAPTURES.md has the records,
+in 'From a recording of a TI PCILynx'.
 """
 
 from .captures import manager_of, read_tree
@@ -37,7 +37,7 @@ def records(data):
 
 
 def resets(data):
-    """The resets of a dump, each with its number, byte, time and list, and the fault at which the dump ends, or None."""
+    """The resets of a dump, each with its number, byte, time and list, and the fault at which it ends, or None."""
     found = []
     try:
         for at, quads in records(data):
