@@ -28,7 +28,7 @@ class Script:
     def __init__(self, words):
         self.words, self.lines = words, []
         self.delay, self.timed = 4, False
-        self.ports, self.cables = {}, {}
+        self.ports, self.cables, self.pulled = {}, {}, []
         self.settled = False
         # For how many turns of a node scripts may last: what a model in Python bears.
         self.left = 400_000 if words.random() < 0.97 else 3_000_000
@@ -37,8 +37,9 @@ class Script:
 
     def write_head(self):
         words = self.words
-        if words.random() < 0.35:
-            self.delay = words.choice([1, 2, 3, 4, 5, 8, 16, words.randint(1, 16)])
+        # A model in Python is slow for long delays.
+        if words.random() < 0.7:
+            self.delay = words.choice([1, 1, 1, 1, 2, 2, 2, 3, 3, 4, 5, 8, words.randint(1, 16)])
             self.lines.append(f"delay {self.delay}")
         if words.random() < 0.12:
             self.timed = True
@@ -94,21 +95,29 @@ class Script:
 
     def plug(self, loops):
         free = self.ends(False)
+        again = [pair for pair in self.pulled if pair[0] in free and pair[1] in free]
+        if again and self.words.random() < 0.6:
+            self.join(*self.words.choice(again))
+            return
         if not free:
             return
         one = self.words.choice(free)
         joined = {one[0]} if loops else self.component(one[0])
         others = [end for end in free if end[0] not in joined]
         if others:
-            other = self.words.choice(others)
-            self.cables[one], self.cables[other] = other, one
-            self.act(f"plug {one[0]} {one[1]} {other[0]} {other[1]}")
+            self.join(one, self.words.choice(others))
+
+    def join(self, one, other):
+        self.cables[one], self.cables[other] = other, one
+        self.act(f"plug {one[0]} {one[1]} {other[0]} {other[1]}")
 
     def pull(self):
         ends = self.ends(True)
         if ends:
             end = self.words.choice(ends)
-            del self.cables[self.cables.pop(end)]
+            far = self.cables.pop(end)
+            del self.cables[far]
+            self.pulled.append((end, far))
             self.act(f"pull {end[0]} {end[1]}")
 
     def act(self, line):
