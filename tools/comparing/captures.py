@@ -60,7 +60,7 @@ def capture(quads):
 
 
 def any_bus(words):
-    count = words.choice([1, 2, 3, 4, 5, 8, 12, words.randint(1, 63), 62, 63])
+    count = words.choice([1, 2, 3, 3, 4, 5, 6, 8, 12, 17, words.randint(1, 63), words.choice([62, 63])])
     return Bus(words, words.choice(STANDARDS), words.choice(SHAPES), count)
 
 

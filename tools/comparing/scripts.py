@@ -6,12 +6,14 @@ Each is made by a generator `words` (random.Random) alone. docs/SCRIPTS.md has t
 NAMES = ["a", "b", "c", "d", "hub", "pc", "disk", "tape", "camera", "n0", "n1", "n2", "a_1", "z9_", "a234567890123456"]
 COINS = ["0", "1", "01", "10", "0110", "1" * 33, "0" * 40 + "1", "01" * 32]
 OFFSETS = ["0x21c", "0x220", "0x224", "0x228", "540", "544"]
-NUMBERS = [0, 1, 2, 3, 4, 5, 7, 8, 10, 11, 12, 15, 16, 17, 31, 32, 62, 63, 64, 65, 255, 256, 319, 320, 321, 4915, 4916, 65534, 65535, 65536, 1999999, 2000000, 2000001, 4294967295, 4294967296, 9999999999, 10000000000]
+NUMBERS = [0, 1, 2, 3, 4, 5, 7, 8, 10, 11, 12, 15, 16, 17, 31, 32, 62, 63, 64, 65, 255, 256, 319, 320, 321, 4915, 4916,
+           65534, 65535, 65536, 1999999, 2000000, 2000001, 4294967295, 4294967296, 9999999999, 10000000000]
 ODD_WORDS = ["-", "-1", "+1", "0x", "0x0", "0X1", "0xffffffff", "0x100000000", "0x00000001", "0x000000001", "0000000003",
              "00000000003", "1e3", "1.0", "a", "A", "hub", "9a", "_a", "zz", "a2345678901234567", "coins", "seed", "kind",
              "new", "field", "packed", "read", "write", "lock", "swap", "1394a", "1394-1995", "#", "# x", "node", "settle",
              "012"]
-BAD_LINES = ["shake a", "node", "node a", "node q 3 colour 1", "node q 3 speed", "node q 0", "node q 17", "node q 3 speed 3",
+BAD_LINES = ["shake a", "node", "node a2345678901234567 3", "node a2345678901234567 3", "turn 0x00000001", "turn 0x000000001",
+             "node a", "node q 3 colour 1", "node q 3 speed", "node q 0", "node q 17", "node q 3 speed 3",
              "node q 3 speed 1 speed 2", "node q 3 coins 0 seed 1", "node q 3 coins 012", "node q 3 kind new", "node 9a 3",
              "node q 3 hold 0", "node q 3 short 65535", "delay 17", "delay 0", "delay 2", "times 1394a 170",
              "times 1394-1995 170", "times 1394b 1", "turn 0", "turn 2000001", "turn 0x", "turn -1", "turn 4294967296",
@@ -28,7 +30,7 @@ class Script:
     def __init__(self, words):
         self.words, self.lines = words, []
         self.delay, self.timed = 4, False
-        self.ports, self.cables, self.pulled = {}, {}, []
+        self.ports, self.cables, self.pulled, self.looked = {}, {}, [], []
         self.settled = False
         # For how many turns of a node scripts may last: what a model in Python bears.
         self.left = 400_000 if words.random() < 0.97 else 3_000_000
@@ -176,6 +178,8 @@ class Script:
         elif kind == "csr":
             self.lines.append(f"csr {name} {self.register_words()}")
         elif kind in ("allocate", "release"):
+            if self.looked and words.random() < 0.6:
+                name = self.looked.pop()
             units = words.choice([0, 1, 100, 1000, 4915, words.randint(0, 4915)])
             self.lines.append(f"{kind} {name} {words.choice([0, 1, 5, 31, 32, 63])} {units}")
         elif kind == "plan":
@@ -183,6 +187,7 @@ class Script:
             if self.spend(self.delay * (2000 + 4 * n * n + 8 * n)):
                 self.lines += [f"manager {name}", f"plan {name}"] if words.random() < 0.9 else [f"plan {name}"]
         else:
+            self.looked += [name] if kind == "look" else []
             self.lines.append(f"{kind} {name}")
 
     def register_words(self):
@@ -284,7 +289,7 @@ def mashed(words, data):
 
 def script(words):
     """A script of any of these sorts."""
-    sort = words.choices([valid, at_an_edge, with_a_fault, mashed], [60, 15, 15, 10])[0]
+    sort = words.choices([valid, at_an_edge, with_a_fault, mashed], [45, 15, 25, 15])[0]
     if sort is mashed:
         return mashed(words, laid_out(words, valid(words)))
     return laid_out(words, sort(words))

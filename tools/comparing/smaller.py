@@ -1,13 +1,15 @@
 """Makes an input smaller while its answers differ: lines, pairs of quadlets or quadlets are left out."""
 import time
 
+from .trials import OF_SCRIPTS
+
 # How long an input is made smaller.
 SECONDS = 40
 
 
 def pieces(words, data):
     """The parts of an input that can be left out."""
-    if words[0] in ("run", "advice", "trace", "waves", "json-run", "capture"):
+    if words[0] in OF_SCRIPTS:
         return data.splitlines(keepends=True)
     size = 4 if words[0] == "rom" else 8
     return [data[at:at + size] for at in range(0, len(data), size)]

@@ -12,10 +12,13 @@ from . import captures, roms, scripts, waves
 Trial = collections.namedtuple("Trial", "words inputs")
 # How long the model may take for an input before it is passed over.
 MODEL_SECONDS = 20
-FORMS = ("run", "advice", "trace", "waves", "json-run", "capture", "read", "read95", "maps", "json", "tree", "rom", "diff", "make",
-         "script")
+# How often each form of a script is taken, and the forms of a capture.
+OF_SCRIPTS = {"run": 46, "advice": 8, "trace": 15, "waves": 10, "json-run": 8, "capture": 8, "dot-run": 5}
+OF_CAPTURES = [[form, *more] for form in ("packets", "tree", "dot", "json") for more in ([], ["--1995"])] + [
+    ["read"], ["read"], ["read"], ["read95"], ["read95"], ["read95"], ["maps"], ["maps"]]
+FORMS = {*OF_SCRIPTS, *(words[0] for words in OF_CAPTURES), "rom", "diff", "make", "script"}
 READING = {2000: "read", 1995: "read95"}
-KINDS = {"script": 46, "capture": 30, "rom": 8, "diff": 10, "words": 6}
+KINDS = {"script": 50, "capture": 26, "rom": 10, "diff": 8, "words": 6}
 
 
 class TooSlow(Exception):
@@ -27,13 +30,11 @@ def trial(seed, number, kinds):
     words = random.Random(f"{seed}/{number}")
     kind = words.choices(list(kinds), [KINDS[kind] for kind in kinds])[0]
     if kind == "script":
-        form = words.choices(["run", "advice", "trace", "waves", "json-run", "capture"], [50, 8, 16, 10, 8, 8])[0]
+        form = words.choices(list(OF_SCRIPTS), list(OF_SCRIPTS.values()))[0]
         more = [words.choice(scripts.NAMES)] if form == "capture" else []
         return Trial([form, *more], [scripts.script(words)])
     if kind == "capture":
-        form = words.choice([["read"], ["read"], ["read95"], ["read95"], ["maps"], ["json"], ["json", "--1995"], ["tree"],
-                             ["tree", "--1995"]])
-        return Trial(form, [captures.any_capture(words)])
+        return Trial(words.choice(OF_CAPTURES), [captures.any_capture(words)])
     if kind == "rom":
         return Trial(["rom"], [roms.rom(words)])
     if kind == "diff":
