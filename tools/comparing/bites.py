@@ -12,7 +12,8 @@ import time
 
 MUTATIONS = [
     ("a reset is held a turn longer", "machine.py", 'self.timer >= self.times["hold"]', 'self.timer > self.times["hold"]'),
-    ("a forced node waits a turn longer", "machine.py", 'self.timer >= self.times["force"]', 'self.timer > self.times["force"]'),
+    ("a forced node waits a turn longer", "machine.py", 'self.timer >= self.times["force"]',
+     'self.timer > self.times["force"]'),
     ("a loop is found a turn later", "machine.py", 'self.timer >= self.times["timeout"]', 'self.timer > self.times["timeout"]'),
     ("the waits of the coins are changed", "machine.py", '"long" if coin else "short"', '"short" if coin else "long"'),
     ("the highest port is granted first", "machine.py", "unnamed[0], GRANT", "unnamed[-1], GRANT"),

@@ -29,9 +29,12 @@ class Script:
 
     def __init__(self, words):
         self.words, self.lines = words, []
-        self.delay, self.timed = 4, False
+        self.delay, self.timed, self.hold = 4, False, 256
         self.ports, self.cables, self.pulled, self.looked = {}, {}, [], []
         self.settled = False
+        # Whether most of its lines need a bus that has settled, and from which coins nodes take theirs.
+        self.asks = words.random() < 0.4
+        self.coins = words.choice([[], [], ["0", "1"], ["0"], COINS])
         # For how many turns of a node scripts may last: what a model in Python bears.
         self.left = 400_000 if words.random() < 0.97 else 3_000_000
 
@@ -42,17 +45,18 @@ class Script:
         # A model in Python is slow for long delays.
         if words.random() < 0.7:
             self.delay = words.choice([1, 1, 1, 1, 2, 2, 2, 3, 3, 4, 5, 8, words.randint(1, 16)])
+            self.hold = 64 * self.delay
             self.lines.append(f"delay {self.delay}")
         if words.random() < 0.12:
             self.timed = True
             newer = words.random() < 0.6
-            least, most = (60, 400) if newer else (20, 120)
-            self.lines.append(f"times {'1394a' if newer else '1394-1995'} {words.randint(least, most)}")
+            nanoseconds = words.randint(60, 400) if newer else words.randint(20, 120)
+            self.hold = 166600 * self.delay // nanoseconds
+            self.lines.append(f"times {'1394a' if newer else '1394-1995'} {nanoseconds}")
         count = words.choice([0, 1, 2, 2, 2, 3, 3, 3, 4, 4, 5, 6, 7, 9, 12])
         if words.random() < 0.01:
             count = words.choice([20, 40, 62, 63])
         names = words.sample(NAMES, count) if count <= len(NAMES) else [f"n{k}" for k in range(count)]
-        self.coins = words.choice([[], [], ["0", "1"], ["0"], COINS])
         for name in names:
             self.write_node(name)
 
@@ -61,7 +65,7 @@ class Script:
         ports = words.choice([1, 2, 3, 3, 3, 4, 11, 12, 16, words.randint(1, 16)])
         self.ports[name] = ports
         keys = []
-        if words.random() < self.contending:
+        if words.random() < (0.97 if self.asks else 0.5):
             keys.append("contender 1")
         elif words.random() < 0.1:
             keys.append("contender 0")
@@ -127,9 +131,11 @@ class Script:
         self.settled = False
 
     def turn(self):
-        d, words = self.delay, self.words
-        count = words.choice([words.randint(1, 12), words.randint(1, 12), 64 * d + words.randint(-6, 40), words.randint(1, 600),
-                              (64 + 512) * d + words.randint(-4, 12), words.randint(1, 80 * d), words.randint(1, 5000)])
+        """Turns: a few, about as many as a reset is held or a loop takes to be found, or any number."""
+        words, hold = self.words, self.hold
+        count = words.choice([words.randint(1, 12), words.randint(1, 12), max(hold + words.randint(-6, 40), 1),
+                              words.randint(1, 600), hold + 512 * self.delay + words.randint(-4, 12),
+                              words.randint(1, hold + 50), words.randint(1, 5000)])
         if self.spend(count):
             self.lines.append(f"turn {count}")
 
@@ -200,19 +206,17 @@ class Script:
 
     def write(self):
         words = self.words
-        asks = words.random() < 0.4
-        self.contending = 0.97 if asks else 0.5
         self.write_head()
         count = len(self.ports)
-        loops = words.random() < (0.05 if asks else 0.3)
+        loops = words.random() < (0.05 if self.asks else 0.3)
         for _ in range(words.randrange(count + 1) if count > 1 else 0):
             self.plug(loops)
-        if asks and count:
+        if self.asks and count:
             self.settle()
         for _ in range(words.choice([0, 1, 3, 6, 10, 15, 25]) if count else 0):
-            if self.settled and words.random() < (0.95 if asks else 0.5):
+            if self.settled and words.random() < (0.95 if self.asks else 0.5):
                 self.ask()
-            elif asks and words.random() < 0.8:
+            elif self.asks and words.random() < 0.8:
                 self.settle()
             else:
                 self.change(loops)

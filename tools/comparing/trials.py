@@ -41,6 +41,9 @@ def trial(seed, number, kinds):
         pair, standard = captures.two_captures(words)
         names = words.choice([["old", "new"], ["-", "new"], ["old", "-"]])
         return Trial(["diff"] + (["--1995"] if standard == "1995" else []) + names, pair)
+    if words.random() < 0.03:
+        # As long as an input may be, or a byte longer.
+        return Trial([words.choice(["run", "trace", "read", "maps", "json", "rom"])], [b"#" * words.choice([1048576, 1048577])])
     return Trial(made_words(words), [b""])
 
 
