@@ -62,7 +62,7 @@ def main(asked, compare_words):
         with tempfile.TemporaryDirectory() as room:
             mutate(asked.model, room, file, old, new)
             began = time.monotonic()
-            words = [str(asked.seconds), asked.seed, "--first", "--model", room, "--jobs", str(asked.jobs),
+            words = [str(asked.seconds), asked.seed, "--first", "--whole", "--model", room, "--jobs", str(asked.jobs),
                      "--busconf", asked.busconf, "--busview", asked.busview]
             done = subprocess.run([sys.executable, *compare_words, *words], stdout=subprocess.PIPE, check=False)
         found = re.search(rb"^input (\d+) of seed \S+: (.*?):", done.stdout, re.M)
