@@ -156,13 +156,19 @@ class Script:
 
     def change(self, loops):
         """A line that changes something on the bus, or lets time pass."""
-        kind = self.words.choices(["plug", "pull", "reset", "turn", "hold", "settle"], [6, 3, 3, 7, 3, 3])[0]
+        kind = self.words.choices(["plug", "pull", "reset", "turn", "hold", "settle", "twice"], [6, 3, 3, 7, 3, 3, 1])[0]
         if kind == "plug":
             self.plug(loops)
         elif kind == "pull":
             self.pull()
         elif kind == "turn":
             self.turn()
+        elif kind == "twice":
+            # A second reset, where nodes are about to leave the first.
+            for turns in (1, self.hold + self.words.randint(-3, 8)):
+                self.act(f"reset {self.name()}")
+                self.lines.append(f"turn {max(turns, 1)}")
+            self.act(f"reset {self.name()}")
         elif kind == "settle":
             self.settle()
         elif kind == "reset":
