@@ -11,7 +11,7 @@ def pieces(words, data):
     """The parts of an input that can be left out."""
     if words[0] in OF_SCRIPTS:
         return data.splitlines(keepends=True)
-    size = 4 if words[0] == "rom" else 8
+    size = 4 if words[0] in ("rom", "nosy") else 8
     return [data[at:at + size] for at in range(0, len(data), size)]
 
 

@@ -6,7 +6,7 @@ import re
 import signal
 import tempfile
 
-from . import captures, roms, scripts, waves
+from . import captures, dumps, roms, scripts, waves
 
 # The words of a call and its input; `diff` has two, of which files get the names `old` and `new`.
 Trial = collections.namedtuple("Trial", "words inputs")
@@ -16,9 +16,9 @@ MODEL_SECONDS = 20
 OF_SCRIPTS = {"run": 46, "advice": 8, "trace": 15, "waves": 10, "json-run": 8, "capture": 8, "dot-run": 5}
 OF_CAPTURES = [[form, *more] for form in ("packets", "tree", "dot", "json") for more in ([], ["--1995"])] + [
     ["read"], ["read"], ["read"], ["read95"], ["read95"], ["read95"], ["maps"], ["maps"]]
-FORMS = {*OF_SCRIPTS, *(words[0] for words in OF_CAPTURES), "rom", "diff", "make", "script"}
+FORMS = {*OF_SCRIPTS, *(words[0] for words in OF_CAPTURES), "rom", "nosy", "diff", "make", "script"}
 READING = {2000: "read", 1995: "read95"}
-KINDS = {"script": 50, "capture": 26, "rom": 10, "diff": 8, "words": 6}
+KINDS = {"script": 50, "capture": 24, "rom": 8, "dump": 6, "diff": 8, "words": 4}
 
 
 class TooSlow(Exception):
@@ -37,6 +37,8 @@ def trial(seed, number, kinds):
         return Trial(words.choice(OF_CAPTURES), [captures.any_capture(words)])
     if kind == "rom":
         return Trial(["rom"], [roms.rom(words)])
+    if kind == "dump":
+        return Trial(["nosy"] + words.choice([[], ["--1995"]]) + words.choice([[], [], ["--json"]]), [dumps.dump(words)])
     if kind == "diff":
         pair, standard = captures.two_captures(words)
         names = words.choice([["old", "new"], ["-", "new"], ["old", "-"]])
