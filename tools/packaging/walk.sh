@@ -50,8 +50,7 @@ module() {
 
 vectors() {
   cd "$(mktemp -d)"
-  awk '/^## /{on = /A reader in C/} on' $doc/busconf-vectors/VECTORS.md | sed -n 's/^    //p' >reader.c
-  cc reader.c -o reader
+  cc $doc/busconf/examples/readers/is_bus.c -o reader
   busconf-vectors --try ./reader /usr/share/busconf/vectors
 }
 
@@ -67,6 +66,6 @@ step "apt install ./python3-busconf_*.deb" apt-get install -y ./python3-busconf_
 step "the module for Python" module
 if compgen -G "busconf-vectors_*.deb" >/dev/null; then
   step "apt install ./busconf-vectors_*.deb" apt-get install -y ./busconf-vectors_*.deb
-  step "the reader in C of docs/VECTORS.md over the vectors" vectors
+  step "the reader in C over the vectors" vectors
 fi
 echo "$((SECONDS - begun)) s in all"
