@@ -1,5 +1,5 @@
-"""Captures: pairs of quadlets, the tree that they describe, and its text. docs/CAPTURES.md, 'Which fault is named, and
-where'; README.md, 'Four runs' and 'The forms', has the text and what each fault means.
+"""Captures: pairs of quadlets, the tree that they describe, and its text. docs/CAPTURES.md, 'What `read`
+answers' and 'Which fault is named, and where'.
 
 A tree is the list of its nodes by ID. A node of a tree also has 'far': for each port the ID at the other end, or None.
 """

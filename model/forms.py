@@ -1,4 +1,4 @@
-"""The forms and the statuses: README.md, 'The forms' and 'The statuses', and docs/VIEW.md.
+"""The forms and the statuses: README.md, 'The forms', docs/STATUSES.md and docs/VIEW.md.
 
 Files behind the words aren't read here: all input is on standard input. Two kinds of lines aren't modelled: the
 sentence below the line that refuses a script, and what the bytes of a refused capture look like.
