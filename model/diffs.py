@@ -1,4 +1,4 @@
-"""What `busview diff` says: docs/VIEW.md, 'diff'.
+"""What `busview diff` says: docs/VIEW-CAPTURES.md, 'diff'.
 
 Which node is which is a guess there, so there is no answer here to compare with. But once it is known which nodes of
 both buses are one, the lines follow: `tell` writes them. `check` looks for the guess to which an answer belongs. If

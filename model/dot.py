@@ -1,4 +1,4 @@
-"""Graphs for Graphviz: docs/VIEW.md, 'dot' and 'dot-run'."""
+"""Graphs for Graphviz: docs/VIEW-CAPTURES.md, 'dot', and docs/VIEW-SCRIPTS.md, 'dot-run'."""
 
 from .captures import manager_of, read_capture
 from .packets import CHILD, PARENT

@@ -1,4 +1,4 @@
-"""Buses and reports as JSON: docs/VIEW.md, 'json' and 'json-run'."""
+"""Buses and reports as JSON: docs/VIEW-CAPTURES.md, 'json', and docs/VIEW-SCRIPTS.md, 'json-run'."""
 
 import json
 

@@ -1,4 +1,4 @@
-"""Recordings of `nosy-dump`: docs/VIEW.md, 'nosy', and what it shares with 'resets'. docs/CAPTURES.md has the records,
+"""Recordings of `nosy-dump`: docs/VIEW-LOGS.md, 'nosy', and what it shares with 'resets'. docs/CAPTURES.md has the records,
 in 'From a recording of a TI PCILynx'.
 """
 

@@ -1,4 +1,4 @@
-"""A capture pair by pair: docs/VIEW.md, 'packets'. The line on what other bytes look like isn't modelled."""
+"""A capture pair by pair: docs/VIEW-CAPTURES.md, 'packets'. The line on what other bytes look like isn't modelled."""
 
 from .captures import quadlets, read_capture
 from .packets import ListFault, bits, is_packet_zero, is_self_id

@@ -1,4 +1,4 @@
-"""Traces: docs/VIEW.md, 'trace'."""
+"""Traces: docs/VIEW-SCRIPTS.md, 'trace'."""
 
 from .machine import CHILD, DONE, GRANT, IDLE, PARENT, RESET
 from .reach import reached

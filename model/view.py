@@ -1,4 +1,4 @@
-"""What busview shows of a capture, and captures of scripts: docs/VIEW.md, 'tree' and 'capture'."""
+"""What busview shows of a capture, and captures of scripts: docs/VIEW-CAPTURES.md, 'tree', and docs/VIEW-SCRIPTS.md, 'capture'."""
 
 from .captures import manager_of, read_capture, write_pairs
 from .packets import CHILD, PARENT

@@ -1,4 +1,4 @@
-"""Value Change Dumps: docs/VIEW.md, 'waves'."""
+"""Value Change Dumps: docs/VIEW-SCRIPTS.md, 'waves'."""
 
 from .machine import CHILD, DONE, GRANT, IDLE, LEVELS, PARENT, RESET
 from .run import Script
