@@ -13,6 +13,7 @@ from .maps import maps
 from .nosy import nosy
 from .packets import ListFault
 from .reach import reached
+from .resets import resets
 from .rom import RomFault, rom
 from .run import ScriptFault, run
 from .scripts import name, number
@@ -45,12 +46,13 @@ READERS = {
     "waves": waves,
 }
 READERS_BY_STANDARD = {"packets": packets, "tree": tree, "dot": dot, "json": json_capture}
+LOGS = {"resets": resets, "nosy": nosy}
 MAKERS = {"make": make, "script": made_script}
-OTHERS = ("explain", "flawed", "resets", "diff")
+OTHERS = ("explain", "flawed", "diff")
 # Below the line that refuses a script these write a sentence on the fault.
 WITH_SENTENCE = ("trace", "waves", "dot-run")
 OF_BUSCONF = ("run", "advice", "read", "read95", "maps", "rom", "make")
-FORMS = (*READERS, *READERS_BY_STANDARD, "capture", "nosy", *MAKERS)
+FORMS = (*READERS, *READERS_BY_STANDARD, "capture", *LOGS, *MAKERS)
 
 
 def form_of(words):
@@ -67,9 +69,9 @@ def form_of(words):
         return without_files(rest[1:], lambda data: capture(data, rest[0]))
     standard = 1995 if rest[:1] == ["--1995"] else 2000
     files = rest[1:] if standard == 1995 else rest
-    if first == "nosy":
+    if first in LOGS:
         as_json = files[:1] == ["--json"]
-        return without_files(files[as_json:], lambda data: nosy(data, standard, as_json))
+        return without_files(files[as_json:], lambda data: LOGS[first](data, standard, as_json))
     if first in READERS_BY_STANDARD:
         return without_files(files, lambda data: READERS_BY_STANDARD[first](data, standard))
     return without_files(rest, READERS[first]) if first in READERS else None
@@ -123,7 +125,7 @@ def answer(words, data, program=None):
         data = b""
     elif callable(data):
         data = data()
-    if len(data) > MAX_INPUT and words[0] != "nosy":
+    if len(data) > MAX_INPUT and words[0] not in LOGS:
         return 6, b""
     try:
         output = form(data)

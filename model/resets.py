@@ -1,0 +1,221 @@
+"""The text of a Linux kernel's trace or log: docs/VIEW-LOGS.md, 'resets'."""
+
+import re
+
+from .captures import write_pairs
+from .changes import Log
+from .reach import reached
+
+LONGEST_LINE = 65536
+EVENTS = {
+    "self_id_complete:": "controller",
+    "firewire_ohci:self_id_complete:": "controller",
+    "bus_reset_handle:": "kernel",
+    "firewire:bus_reset_handle:": "kernel",
+}
+DRIVERS = ("firewire_core", "firewire_ohci")
+DEVICE = "([0-9a-fA-F]{4}:[0-9a-fA-F]{2}:[0-9a-fA-F]{2}[.][0-9a-fA-F]):"
+FIRST = DEVICE + " ([0-9]+) selfIDs, generation ([0-9]+),(?: local node ID ([0-9a-fA-F]{1,4}))?(?= |$)"
+PACKET = DEVICE + " selfID [0n]: ([0-9a-fA-F]{1,8}), "
+# How the drivers' own messages begin.
+MESSAGES = (
+    ["topology", "build"],
+    ["topology", "stack"],
+    ["inconsistent", "extended"],
+    ["PHY", "ID"],
+    ["parent", "port"],
+    ["bad", "self"],
+    ["self", "ID"],
+    ["new", "bus"],
+    ["phy", "config:"],
+)
+
+
+class Garbled(Exception):
+    """A field of an event is missing or malformed."""
+
+
+def number(text):
+    if not re.fullmatch("[0-9]{1,10}|0[xX][0-9a-fA-F]{1,8}", text or ""):
+        raise Garbled
+    value = int(text, 16 if text[:2] in ("0x", "0X") else 10)
+    if value > 0xFFFFFFFF:
+        raise Garbled
+    return value
+
+
+def field(words, name):
+    """The words of a field's value, up to the next word with '=' in it; None if the field isn't there."""
+    for at, said in enumerate(words):
+        if said.startswith(name + "="):
+            after = [place for place, other in enumerate(words) if place > at and "=" in other]
+            return [said[len(name) + 1 :]] + words[at + 1 : after[0] if after else None]
+    return None
+
+
+def one_number(words, name):
+    value = field(words, name)
+    return number(value[0] if value else None)
+
+
+def numbers(words, name):
+    """A list: within braces with commas between its numbers, or with blanks between them."""
+    value = field(words, name)
+    if value is None:
+        raise Garbled
+    text = " ".join(value)
+    if text.startswith("{"):
+        if not text.endswith("}"):
+            raise Garbled
+        inner = text[1:-1]
+        return [number(part.lstrip(" ")) for part in inner.split(",")] if inner else []
+    return [number(part) for part in text.split()]
+
+
+def local_of(value):
+    """The ID in the last six bits of a node's ID, unless it is 63."""
+    return None if value & 63 == 63 else value & 63
+
+
+class Card:
+    def __init__(self):
+        self.event = None  # the generation and the source of the last event that was shown or not judged
+        self.was_shown = False  # whether it was shown as a bus
+        self.time = None
+        self.last = None  # the nodes of the last bus
+        self.apart = False  # whether resets are missing since then
+
+
+class Resets:
+    def __init__(self, standard, as_json):
+        self.standard = standard
+        self.log = Log(as_json)
+        self.cards = {}
+        self.open = None  # the reset of the driver's log whose packets come now
+
+    def take(self, number, text):
+        """Takes a line of the log."""
+        words = re.split("[ \t\r]+", text.strip(" \t\r"))
+        event = next((place for place, said in enumerate(words) if said in EVENTS), None)
+        driver = next((place for place, said in enumerate(words) if said.split(";")[-1] in DRIVERS), None)
+        if event is not None:
+            try:
+                self.event(number, EVENTS[words[event]], words[:event], words[event + 1 :])
+            except Garbled:
+                reached["garbled event"] += 1
+                self.log.status = 1
+                self.log.write(f"line {number} garbled", {"line": number, "garbled": True})
+        elif words[0].startswith("CPU:") and ("EVENTS]" in words or "DROPPED]" in words):
+            for card in self.cards.values():
+                card.apart = True
+            self.log.write(f"line {number} events are lost", {"line": number, "lost": True})
+        elif driver is not None:
+            self.driver(number, words[:driver], words[driver + 1 :])
+
+    def event(self, number, source, before, words):
+        times = [said[:-1] for said in before if re.fullmatch(r"[0-9]+[.][0-9]{6}:", said)]
+        reset = {"line": number, "card": one_number(words, "card_index"), "source": source, "local": None}
+        reset["time"] = times[-1] if times else None
+        if source == "kernel":
+            reset["generation"] = one_number(words, "generation")
+            data = write_pairs(numbers(words, "self_ids"))
+            try:
+                reset["local"] = local_of(one_number(words, "node_id"))
+            except Garbled:
+                pass
+        else:
+            reset["generation"] = one_number(words, "generation_at_completion")
+            failed = (field(words, "is_error") or [""])[0]
+            if failed not in ("true", "false"):
+                raise Garbled
+            data = b"".join(quad.to_bytes(4, "big") for quad in numbers(words, "packet_data"))
+            data = None if failed == "true" else data
+        self.reset(reset, data)
+
+    def reset(self, reset, data):
+        """A reset of a card; without data its controller failed."""
+        card = self.cards.setdefault(reset["card"], Card())
+        event = reset["generation"], reset["source"]
+        second = card.event is not None and card.event[0] == event[0] and card.event[1] != event[1]
+        if second and card.was_shown:
+            reached["second event passed over"] += 1
+            return
+        missing = 0
+        if card.event is not None and card.event[0] != event[0]:
+            missing = (event[0] - card.event[0] - 1) % 256
+        card.apart = card.apart or missing > 0
+        time = None if reset["time"] is None else int(reset["time"].replace(".", ""))
+        after = None
+        if time is not None and card.time is not None and card.time <= time and not second:
+            after = time - card.time
+        words, members = head(reset, time, after, missing)
+        self.log.resets += not second
+        nodes = None
+        if data is None:
+            self.log.write(f"{words} is_error, not judged", dict(members, is_error=True))
+        else:
+            old = None if card.apart else card.last
+            nodes = self.log.show(words, members, data, self.standard, old, reset["card"])
+        card.event, card.time, card.was_shown = event, time, nodes is not None
+        if nodes is not None:
+            card.last, card.apart = nodes, False
+
+    def driver(self, number, before, words):
+        """A line of a driver: the first of a reset, a packet of the reset that is open, or a message."""
+        said = " ".join(words)
+        first, packet = re.match(FIRST, said), re.match(PACKET, said)
+        if first and max(int(first.group(2)), int(first.group(3))) <= 0xFFFFFFFF:
+            device, count, generation, local = first.groups()
+            self.close()
+            times = [word[:-1].lstrip("[") for word in before if re.fullmatch(r"\[?[0-9]+[.][0-9]{6}\]", word)]
+            self.open = {"line": number, "card": device.lower(), "source": "driver", "generation": int(generation)}
+            self.open["time"] = times[-1] if times else None
+            self.open["local"] = local_of(int(local, 16)) if local else None
+            self.open.update(count=int(count), list=[])
+        elif packet:
+            if self.open and self.open["card"] == packet.group(1).lower():
+                self.open["list"].append(int(packet.group(2), 16))
+                if len(self.open["list"]) >= self.open["count"]:
+                    self.close()
+        elif words[1:3] in MESSAGES:
+            plain = "".join(char if ord(char) < 128 else "?" for char in said)
+            self.log.write(f"line {number} {said}", {"line": number, "kernel": plain})
+
+    def close(self):
+        """Shows the open reset with the packets that came."""
+        reset, self.open = self.open, None
+        if reset:
+            self.reset(reset, write_pairs(reset["list"]))
+
+    def end(self):
+        if self.open:
+            lacks = self.open["count"] - len(self.open["list"])
+            words = " ".join(f"{key} {self.open[key]}" for key in ("line", "card", "generation"))
+            members = {key: self.open[key] for key in ("line", "card", "generation")}
+            self.log.write(f"{words} ends without its last packets, {lacks}", dict(members, lacks=lacks))
+        return self.log.total(len(self.cards))
+
+
+def head(reset, time, after, missing):
+    """What stands before a reset's list, as words and as members."""
+    members = {key: reset[key] for key in ("line", "card", "generation")}
+    words = " ".join(f"{key} {value}" for key, value in members.items())
+    for key, value in (("time", time), ("after", after)):
+        if value is not None:
+            words += f" {key} {value // 1000000}.{value % 1000000:06d}"
+            members[key] = value
+    words += f" missing {missing}" if missing else ""
+    members["missing"] = missing
+    if reset["local"] is not None:
+        words += f" local {reset['local']}"
+        members["local"] = reset["local"]
+    return words, members
+
+
+def resets(data, standard, as_json):
+    shown = Resets(standard, as_json)
+    lines = data.split(b"\n")
+    for number, line in enumerate(lines[:-1] if lines[-1] == b"" else lines, 1):
+        shown.take(number, line[:LONGEST_LINE].decode("latin-1"))
+    status, text = shown.end()
+    return status, text.encode("latin-1")
