@@ -27,8 +27,8 @@ BAD_LINES = ["shake a", "node", "node a2345678901234567 3", "node a2345678901234
 class Script:
     """A script that is being written: its lines, and the bus as far as lines show it."""
 
-    def __init__(self, words):
-        self.words, self.lines = words, []
+    def __init__(self, words, real_times):
+        self.words, self.lines, self.real_times = words, [], real_times
         self.delay, self.timed, self.hold = 4, False, 256
         self.ports, self.cables, self.pulled, self.looked = {}, {}, [], []
         self.settled = False
@@ -44,10 +44,10 @@ class Script:
         words = self.words
         # A model in Python is slow for long delays.
         if words.random() < 0.7:
-            self.delay = words.choice([1, 1, 1, 1, 2, 2, 2, 3, 3, 4, 5, 8, words.randint(1, 16)])
+            self.delay = words.choice([1, 1, 1, 2, 2, 3, 3, 3, 4, 5, 7, 8, words.randint(1, 16)])
             self.hold = 64 * self.delay
             self.lines.append(f"delay {self.delay}")
-        if words.random() < 0.12:
+        if words.random() < self.real_times:
             self.timed = True
             newer = words.random() < 0.6
             nanoseconds = words.randint(60, 400) if newer else words.randint(20, 120)
@@ -198,9 +198,19 @@ class Script:
             n = len(self.ports)
             if self.spend(self.delay * (2000 + 4 * n * n + 8 * n)):
                 self.lines += [f"manager {name}", f"plan {name}"] if words.random() < 0.9 else [f"plan {name}"]
+        elif kind == "look" and words.random() < 0.3:
+            self.look_and_act(name)
         else:
             self.looked += [name] if kind == "look" else []
             self.lines.append(f"{kind} {name}")
+
+    def look_and_act(self, name):
+        """A node looks at what another act then undoes."""
+        self.lines += [f"allocate {self.name()} {self.words.randrange(64)} {self.words.randint(1, 2000)}", f"look {name}"]
+        self.act(f"reset {self.name()}")
+        self.settle()
+        if self.settled:
+            self.lines.append(f"allocate {name} {self.words.randrange(64)} {self.words.randint(1, 2000)}")
 
     def register_words(self):
         words = self.words
@@ -229,13 +239,13 @@ class Script:
         return self.lines
 
 
-def valid(words):
-    return Script(words).write()
+def valid(words, real_times):
+    return Script(words, real_times).write()
 
 
-def at_an_edge(words):
+def at_an_edge(words, real_times):
     """A script of which some words are others, at the edge of what may stand there."""
-    lines = valid(words)
+    lines = valid(words, real_times)
     for _ in range(words.choice([1, 1, 1, 2, 4])):
         if lines:
             at = words.randrange(len(lines))
@@ -248,9 +258,9 @@ def at_an_edge(words):
     return lines
 
 
-def with_a_fault(words):
+def with_a_fault(words, real_times):
     """A script with a line that is at fault, in most places."""
-    lines = valid(words)
+    lines = valid(words, real_times)
     for _ in range(words.choice([1, 1, 2])):
         other = words.choice(lines) if lines and words.random() < 0.3 else words.choice(BAD_LINES)
         names = dict(zip("ab", words.sample([line.split()[1] for line in lines if line.startswith("node ")] + ["a", "b"], 2)))
@@ -297,9 +307,9 @@ def mashed(words, data):
     return bytes(data)
 
 
-def script(words):
-    """A script of any of these sorts."""
+def script(words, real_times=0.12):
+    """A script of any of these sorts, of which such a part has the times of a standard."""
     sort = words.choices([valid, at_an_edge, with_a_fault, mashed], [45, 15, 25, 15])[0]
     if sort is mashed:
-        return mashed(words, laid_out(words, valid(words)))
-    return laid_out(words, sort(words))
+        return mashed(words, laid_out(words, valid(words, real_times)))
+    return laid_out(words, sort(words, real_times))

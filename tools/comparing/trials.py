@@ -32,7 +32,7 @@ def trial(seed, number, kinds):
     if kind == "script":
         form = words.choices(list(OF_SCRIPTS), list(OF_SCRIPTS.values()))[0]
         more = [words.choice(scripts.NAMES)] if form == "capture" else []
-        return Trial([form, *more], [scripts.script(words)])
+        return Trial([form, *more], [scripts.script(words, 0.5) if form == "waves" else scripts.script(words)])
     if kind == "capture":
         return Trial(words.choice(OF_CAPTURES), [captures.any_capture(words)])
     if kind == "rom":
