@@ -268,9 +268,16 @@ def with_a_fault(words, real_times):
         lines.insert(words.randint(0, len(lines)), other)
     if words.random() < 0.05:
         lines[:0] = [f"node m{k} 1" for k in range(words.choice([62, 63, 64]))]
-    if words.random() < 0.03:
-        lines += [f"maps {words.choice(NAMES)}"] * 101
     return lines
+
+
+def past_a_limit(words, real_times):
+    """A script with more turns or maps than there may be."""
+    lines = valid(words, real_times)
+    if words.random() < 0.6 or not any(line.startswith("node ") for line in lines):
+        return lines + ["turn 3", words.choice(["turn 2000000", "turn 1999999", "turn 1999998"])]
+    node = next(line for line in lines if line.startswith("node ")).split()[1]
+    return lines + ["settle"] + [f"maps {node}"] * words.choice([99, 100, 101])
 
 
 def laid_out(words, lines):
@@ -309,7 +316,7 @@ def mashed(words, data):
 
 def script(words, real_times=0.12):
     """A script of any of these sorts, of which such a part has the times of a standard."""
-    sort = words.choices([valid, at_an_edge, with_a_fault, mashed], [45, 15, 25, 15])[0]
+    sort = words.choices([valid, at_an_edge, with_a_fault, past_a_limit, mashed], [45, 15, 24, 1, 15])[0]
     if sort is mashed:
         return mashed(words, laid_out(words, valid(words, real_times)))
     return laid_out(words, sort(words, real_times))
