@@ -42,13 +42,15 @@ class Script:
 
     def write_head(self):
         words = self.words
-        # A model in Python is slow for long delays.
+        self.timed = words.random() < self.real_times
+        # A model in Python is slow for long delays. By real times a turn is no whole number of picoseconds if 3 or 7 of them
+        # are the delay.
         if words.random() < 0.7:
-            self.delay = words.choice([1, 1, 1, 2, 2, 3, 3, 3, 4, 5, 7, 8, words.randint(1, 16)])
+            delays = [3, 3, 7, words.randint(1, 16)] if self.timed else [1, 1, 1, 2, 2, 2, 3, 3, 4, 5, 8, words.randint(1, 16)]
+            self.delay = words.choice(delays)
             self.hold = 64 * self.delay
             self.lines.append(f"delay {self.delay}")
-        if words.random() < self.real_times:
-            self.timed = True
+        if self.timed:
             newer = words.random() < 0.6
             nanoseconds = words.randint(60, 400) if newer else words.randint(20, 120)
             self.hold = 166600 * self.delay // nanoseconds
@@ -156,13 +158,16 @@ class Script:
 
     def change(self, loops):
         """A line that changes something on the bus, or lets time pass."""
-        kind = self.words.choices(["plug", "pull", "reset", "turn", "hold", "settle", "twice"], [6, 3, 3, 7, 3, 3, 1])[0]
+        kind = self.words.choices(["plug", "pull", "reset", "turn", "hold", "settle", "twice", "again"],
+                                  [12, 6, 6, 14, 6, 6, 2, 3])[0]
         if kind == "plug":
             self.plug(loops)
         elif kind == "pull":
             self.pull()
         elif kind == "turn":
             self.turn()
+        elif kind == "again":
+            self.hold_and_pull()
         elif kind == "twice":
             # A second reset, where nodes are about to leave the first.
             for turns in (1, self.hold + self.words.randint(-3, 8)):
@@ -177,6 +182,18 @@ class Script:
             name, port = self.words.choice(self.ends(True))
             count = self.words.choice([1, 2, self.delay, self.words.randint(1, 12), self.words.randint(1, 300), 65535])
             self.lines.append(f"hold {name} {port} {count}")
+
+    def hold_and_pull(self):
+        """A wire is held, and its cable pulled and plugged in again."""
+        ends = self.ends(True)
+        if ends:
+            end = self.words.choice(ends)
+            far = self.cables[end]
+            self.lines.append(f"hold {end[0]} {end[1]} {self.words.choice([300, 2000, 65535])}")
+            self.lines.append(f"turn {self.words.randint(1, 20)}")
+            self.act(f"pull {far[0]} {far[1]}")
+            self.lines.append(f"turn {self.words.randint(1, 20)}")
+            self.join(end, far)
 
     def ask(self):
         """A line that needs a bus that has settled."""

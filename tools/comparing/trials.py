@@ -13,7 +13,7 @@ Trial = collections.namedtuple("Trial", "words inputs")
 # How long the model may take for an input before it is passed over.
 MODEL_SECONDS = 20
 # How often each form of a script is taken, and the forms of a capture.
-OF_SCRIPTS = {"run": 46, "advice": 8, "trace": 15, "waves": 10, "json-run": 8, "capture": 8, "dot-run": 5}
+OF_SCRIPTS = {"run": 46, "advice": 8, "trace": 15, "waves": 13, "json-run": 8, "capture": 8, "dot-run": 5}
 OF_CAPTURES = [[form, *more] for form in ("packets", "tree", "dot", "json") for more in ([], ["--1995"])] + [
     ["read"], ["read"], ["read"], ["read95"], ["read95"], ["read95"], ["maps"], ["maps"]]
 FORMS = {*OF_SCRIPTS, *(words[0] for words in OF_CAPTURES), "rom", "nosy", "resets", "diff", "make", "script"}
