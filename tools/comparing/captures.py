@@ -131,6 +131,23 @@ def any_capture(words):
     return with_bytes_changed(words, data) if sort == "bytes" else data
 
 
+def small_bus(words):
+    return Bus(words, words.choice(STANDARDS), words.choice(SHAPES), words.choice([1, 2, 3, 4, 5, 8, 12])).quads()
+
+
+def next_list(words, quads):
+    """The list of the next reset: the same, or of a bus that is near, or another."""
+    how = words.choices(["same", "initiated", "ports", "near", "another"], [25, 25, 25, 10, 15])[0]
+    if how == "another" or all(quad & FURTHER for quad in quads):
+        return small_bus(words)
+    if how == "initiated":
+        at = words.randrange(len(quads))
+        return [quad ^ 2 if k == at and not quad & FURTHER else quad for k, quad in enumerate(quads)]
+    if how == "ports":
+        return same_but_for_a_port(words, quads)
+    return near(words, quads) if how == "near" else quads
+
+
 def two_captures(words):
     """Two captures, of buses that mostly are near to each other."""
     bus = any_bus(words)

@@ -28,26 +28,8 @@ def other(words, time):
         packet(words, time, words.choice([0x00c00000, 0x41000000, 0x00800000])), packet(words, time, 0x807f8054)])
 
 
-def changed(words, quads):
-    """The list of the next reset: the same, or of a bus that is near, or another."""
-    how = words.choices(["same", "initiated", "ports", "near", "another"], [25, 25, 25, 10, 15])[0]
-    if how == "initiated":
-        at = words.randrange(len(quads))
-        return [quad ^ 2 if k == at and not quad & captures.FURTHER else quad for k, quad in enumerate(quads)]
-    if how == "ports":
-        return captures.same_but_for_a_port(words, quads)
-    if how == "near":
-        return captures.near(words, quads)
-    return small_bus(words) if how == "another" else quads
-
-
-def small_bus(words):
-    standard, shape = words.choice(captures.STANDARDS), words.choice(captures.SHAPES)
-    return captures.Bus(words, standard, shape, words.choice([1, 2, 3, 4, 5, 8, 12])).quads()
-
-
 def dump(words):
-    data, time, quads = b"", words.randrange(1 << 20), small_bus(words)
+    data, time, quads = b"", words.randrange(1 << 20), captures.small_bus(words)
     if words.random() < 0.2:
         data += other(words, time)
     for _ in range(words.choice([0, 1, 2, 3, 4, 6])):
@@ -57,9 +39,7 @@ def dump(words):
             data += packet(words, time, quad)
             if words.random() < 0.02:
                 data += other(words, time)
-        following = changed(words, quads)
-        # What is no bus's any more may have no packet zero left to change.
-        quads = following if any(not quad & captures.FURTHER for quad in following) else small_bus(words)
+        quads = captures.next_list(words, quads)
     how = words.randrange(12)
     if how == 0:
         data = data[:words.randint(0, len(data))]

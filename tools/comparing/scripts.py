@@ -27,8 +27,8 @@ BAD_LINES = ["shake a", "node", "node a2345678901234567 3", "node a2345678901234
 class Script:
     """A script that is being written: its lines, and the bus as far as lines show it."""
 
-    def __init__(self, words):
-        self.words, self.lines = words, []
+    def __init__(self, words, real_times):
+        self.words, self.lines, self.real_times = words, [], real_times
         self.delay, self.timed, self.hold = 4, False, 256
         self.ports, self.cables, self.pulled, self.looked = {}, {}, [], []
         self.settled = False
@@ -42,13 +42,15 @@ class Script:
 
     def write_head(self):
         words = self.words
-        # A model in Python is slow for long delays.
+        self.timed = words.random() < self.real_times
+        # A model in Python is slow for long delays. By real times a turn is no whole number of picoseconds if 3 or 7 of them
+        # are the delay.
         if words.random() < 0.7:
-            self.delay = words.choice([1, 1, 1, 1, 2, 2, 2, 3, 3, 4, 5, 8, words.randint(1, 16)])
+            delays = [3, 3, 7, words.randint(1, 16)] if self.timed else [1, 1, 1, 2, 2, 2, 3, 3, 4, 5, 8, words.randint(1, 16)]
+            self.delay = words.choice(delays)
             self.hold = 64 * self.delay
             self.lines.append(f"delay {self.delay}")
-        if words.random() < 0.12:
-            self.timed = True
+        if self.timed:
             newer = words.random() < 0.6
             nanoseconds = words.randint(60, 400) if newer else words.randint(20, 120)
             self.hold = 166600 * self.delay // nanoseconds
@@ -156,13 +158,16 @@ class Script:
 
     def change(self, loops):
         """A line that changes something on the bus, or lets time pass."""
-        kind = self.words.choices(["plug", "pull", "reset", "turn", "hold", "settle", "twice"], [6, 3, 3, 7, 3, 3, 1])[0]
+        kind = self.words.choices(["plug", "pull", "reset", "turn", "hold", "settle", "twice", "again"],
+                                  [12, 6, 6, 14, 6, 6, 2, 3])[0]
         if kind == "plug":
             self.plug(loops)
         elif kind == "pull":
             self.pull()
         elif kind == "turn":
             self.turn()
+        elif kind == "again":
+            self.hold_and_pull()
         elif kind == "twice":
             # A second reset, where nodes are about to leave the first.
             for turns in (1, self.hold + self.words.randint(-3, 8)):
@@ -177,6 +182,18 @@ class Script:
             name, port = self.words.choice(self.ends(True))
             count = self.words.choice([1, 2, self.delay, self.words.randint(1, 12), self.words.randint(1, 300), 65535])
             self.lines.append(f"hold {name} {port} {count}")
+
+    def hold_and_pull(self):
+        """A wire is held, and its cable pulled and plugged in again."""
+        ends = self.ends(True)
+        if ends:
+            end = self.words.choice(ends)
+            far = self.cables[end]
+            self.lines.append(f"hold {end[0]} {end[1]} {self.words.choice([300, 2000, 65535])}")
+            self.lines.append(f"turn {self.words.randint(1, 20)}")
+            self.act(f"pull {far[0]} {far[1]}")
+            self.lines.append(f"turn {self.words.randint(1, 20)}")
+            self.join(end, far)
 
     def ask(self):
         """A line that needs a bus that has settled."""
@@ -198,9 +215,19 @@ class Script:
             n = len(self.ports)
             if self.spend(self.delay * (2000 + 4 * n * n + 8 * n)):
                 self.lines += [f"manager {name}", f"plan {name}"] if words.random() < 0.9 else [f"plan {name}"]
+        elif kind == "look" and words.random() < 0.3:
+            self.look_and_act(name)
         else:
             self.looked += [name] if kind == "look" else []
             self.lines.append(f"{kind} {name}")
+
+    def look_and_act(self, name):
+        """A node looks at what another act then undoes."""
+        self.lines += [f"allocate {self.name()} {self.words.randrange(64)} {self.words.randint(1, 2000)}", f"look {name}"]
+        self.act(f"reset {self.name()}")
+        self.settle()
+        if self.settled:
+            self.lines.append(f"allocate {name} {self.words.randrange(64)} {self.words.randint(1, 2000)}")
 
     def register_words(self):
         words = self.words
@@ -229,13 +256,13 @@ class Script:
         return self.lines
 
 
-def valid(words):
-    return Script(words).write()
+def valid(words, real_times):
+    return Script(words, real_times).write()
 
 
-def at_an_edge(words):
+def at_an_edge(words, real_times):
     """A script of which some words are others, at the edge of what may stand there."""
-    lines = valid(words)
+    lines = valid(words, real_times)
     for _ in range(words.choice([1, 1, 1, 2, 4])):
         if lines:
             at = words.randrange(len(lines))
@@ -248,9 +275,9 @@ def at_an_edge(words):
     return lines
 
 
-def with_a_fault(words):
+def with_a_fault(words, real_times):
     """A script with a line that is at fault, in most places."""
-    lines = valid(words)
+    lines = valid(words, real_times)
     for _ in range(words.choice([1, 1, 2])):
         other = words.choice(lines) if lines and words.random() < 0.3 else words.choice(BAD_LINES)
         names = dict(zip("ab", words.sample([line.split()[1] for line in lines if line.startswith("node ")] + ["a", "b"], 2)))
@@ -258,9 +285,16 @@ def with_a_fault(words):
         lines.insert(words.randint(0, len(lines)), other)
     if words.random() < 0.05:
         lines[:0] = [f"node m{k} 1" for k in range(words.choice([62, 63, 64]))]
-    if words.random() < 0.03:
-        lines += [f"maps {words.choice(NAMES)}"] * 101
     return lines
+
+
+def past_a_limit(words, real_times):
+    """A script with more turns or maps than there may be."""
+    lines = valid(words, real_times)
+    if words.random() < 0.6 or not any(line.startswith("node ") for line in lines):
+        return lines + ["turn 3", words.choice(["turn 2000000", "turn 1999999", "turn 1999998"])]
+    node = next(line for line in lines if line.startswith("node ")).split()[1]
+    return lines + ["settle"] + [f"maps {node}"] * words.choice([99, 100, 101])
 
 
 def laid_out(words, lines):
@@ -297,9 +331,9 @@ def mashed(words, data):
     return bytes(data)
 
 
-def script(words):
-    """A script of any of these sorts."""
-    sort = words.choices([valid, at_an_edge, with_a_fault, mashed], [45, 15, 25, 15])[0]
+def script(words, real_times=0.12):
+    """A script of any of these sorts, of which such a part has the times of a standard."""
+    sort = words.choices([valid, at_an_edge, with_a_fault, past_a_limit, mashed], [45, 15, 24, 1, 15])[0]
     if sort is mashed:
-        return mashed(words, laid_out(words, valid(words)))
-    return laid_out(words, sort(words))
+        return mashed(words, laid_out(words, valid(words, real_times)))
+    return laid_out(words, sort(words, real_times))

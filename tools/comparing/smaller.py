@@ -9,7 +9,7 @@ SECONDS = 40
 
 def pieces(words, data):
     """The parts of an input that can be left out."""
-    if words[0] in OF_SCRIPTS:
+    if words[0] in OF_SCRIPTS or words[0] == "resets":
         return data.splitlines(keepends=True)
     size = 4 if words[0] in ("rom", "nosy") else 8
     return [data[at:at + size] for at in range(0, len(data), size)]

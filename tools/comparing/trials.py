@@ -6,19 +6,19 @@ import re
 import signal
 import tempfile
 
-from . import captures, dumps, roms, scripts, waves
+from . import captures, dumps, logs, roms, scripts, waves
 
 # The words of a call and its input; `diff` has two, of which files get the names `old` and `new`.
 Trial = collections.namedtuple("Trial", "words inputs")
 # How long the model may take for an input before it is passed over.
 MODEL_SECONDS = 20
 # How often each form of a script is taken, and the forms of a capture.
-OF_SCRIPTS = {"run": 46, "advice": 8, "trace": 15, "waves": 10, "json-run": 8, "capture": 8, "dot-run": 5}
+OF_SCRIPTS = {"run": 46, "advice": 8, "trace": 15, "waves": 13, "json-run": 8, "capture": 8, "dot-run": 5}
 OF_CAPTURES = [[form, *more] for form in ("packets", "tree", "dot", "json") for more in ([], ["--1995"])] + [
     ["read"], ["read"], ["read"], ["read95"], ["read95"], ["read95"], ["maps"], ["maps"]]
-FORMS = {*OF_SCRIPTS, *(words[0] for words in OF_CAPTURES), "rom", "nosy", "diff", "make", "script"}
+FORMS = {*OF_SCRIPTS, *(words[0] for words in OF_CAPTURES), "rom", "nosy", "resets", "diff", "make", "script"}
 READING = {2000: "read", 1995: "read95"}
-KINDS = {"script": 50, "capture": 24, "rom": 8, "dump": 6, "diff": 8, "words": 4}
+KINDS = {"script": 50, "capture": 24, "rom": 8, "dump": 5, "log": 6, "diff": 7, "words": 4}
 
 
 class TooSlow(Exception):
@@ -32,13 +32,14 @@ def trial(seed, number, kinds):
     if kind == "script":
         form = words.choices(list(OF_SCRIPTS), list(OF_SCRIPTS.values()))[0]
         more = [words.choice(scripts.NAMES)] if form == "capture" else []
-        return Trial([form, *more], [scripts.script(words)])
+        return Trial([form, *more], [scripts.script(words, 0.5) if form == "waves" else scripts.script(words)])
     if kind == "capture":
         return Trial(words.choice(OF_CAPTURES), [captures.any_capture(words)])
     if kind == "rom":
         return Trial(["rom"], [roms.rom(words)])
-    if kind == "dump":
-        return Trial(["nosy"] + words.choice([[], ["--1995"]]) + words.choice([[], [], ["--json"]]), [dumps.dump(words)])
+    if kind in ("dump", "log"):
+        form, data = ("nosy", dumps.dump(words)) if kind == "dump" else ("resets", logs.log(words))
+        return Trial([form] + words.choice([[], ["--1995"]]) + words.choice([[], [], ["--json"]]), [data])
     if kind == "diff":
         pair, standard = captures.two_captures(words)
         names = words.choice([["old", "new"], ["-", "new"], ["old", "-"]])
@@ -139,6 +140,7 @@ def difference(model, programs, one):
             return of_diff(model, programs, words, inputs)
         wanted = model_answer(model, words, inputs[0])
         if wanted is None:
+            model.reached["inputs of forms without a model"] += 1
             return None
     except TooSlow:
         model.reached["inputs that the model is too slow for"] += 1

@@ -361,12 +361,19 @@ def vectors_tool():
     return Entry(data_of(path), 0o755) if os.path.exists(path) else None
 
 
+def readers_of(prefix):
+    """The two small readers that docs/VECTORS.md names, below a folder."""
+    folder = "examples/readers"
+    return {f"{prefix}{folder}/{path}": Entry(data_of(f"{folder}/{path}")) for path in files_below(os.path.join(TOP, folder))}
+
+
 def vectors_tarball_of(built):
     files = {f"vectors/{path}": entry for path, entry in vectors_of(built).items()}
     if vectors_tool():
         files["bin/busconf-vectors"] = vectors_tool()
     if os.path.exists(os.path.join(TOP, "docs", "VECTORS.md")):
         files["VECTORS.md"] = Entry(data_of("docs/VECTORS.md"))
+        files.update(readers_of(""))
     files["PROVED"] = Entry(built.proved)
     files["copyright"] = copyright_of(built)
     return with_sums(files, "SHA256SUMS")

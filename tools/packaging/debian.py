@@ -6,7 +6,7 @@ import textwrap
 from dataclasses import dataclass, field
 
 from contents import (PROGRAMS, SONAME, TOP, Entry, completion, copyright_of, data_of, pages_of, pc_of,
-                      sums_of, vectors_of, vectors_tool, with_sums, zipped)
+                      readers_of, sums_of, vectors_of, vectors_tool, with_sums, zipped)
 
 ABOUT = """busconf configures FireWire cable buses (IEEE Std 1394-1995 and 1394a-2000) as their nodes do. It runs a bus
 from a script, and reads the self-ID packets of a real one. Every function of it is proved to meet its contract."""
@@ -180,6 +180,7 @@ def vectors_package_of(built):
             fields = {"Depends": "python3", **fields}
     if os.path.exists(os.path.join(TOP, "docs", "VECTORS.md")):
         files["usr/share/doc/busconf-vectors/VECTORS.md"] = Entry(data_of("docs/VECTORS.md"))
+        files.update(readers_of("usr/share/doc/busconf-vectors/"))
     return Package(
         "busconf-vectors", fields,
         "Valid and refused captures, ROMs and scripts with the answers of the proved programs, to try other readers "

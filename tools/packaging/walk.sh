@@ -50,7 +50,7 @@ module() {
 
 vectors() {
   cd "$(mktemp -d)"
-  cc $doc/busconf/examples/readers/is_bus.c -o reader
+  cc $doc/busconf-vectors/examples/readers/is_bus.c -o reader
   busconf-vectors --try ./reader /usr/share/busconf/vectors
 }
 
