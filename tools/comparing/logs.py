@@ -1,6 +1,6 @@
 """Logs of a Linux kernel with bus resets: both events of a trace, the OHCI driver's own lists, and lines between them.
 
-Each is made by a generator `words` (random.Random) alone. docs/VIEW.md, 'resets', has the lines.
+Each is made by a generator `words` (random.Random) alone. docs/VIEW-LOGS.md, 'resets', has the lines.
 """
 from . import captures
 
