@@ -47,7 +47,7 @@ pub use Rattle.cable_world.proofs.levels.LastSent.{child-if, choose, only, turne
 -- nodes, and cables delay by at most d turns. A node enters R0 because a neighbour did, at most d
 -- turns before. So the nodes that entered in the last turns form a chain, and there are no more of
 -- them than nodes.
-pub use Rattle.cable_world.proofs.resets.Entries.{Recent, after-delay, after-longest, after-length, comes-from, hold-left, in-turn, steady}
+pub use Rattle.cable_world.proofs.resets.Entries.{Recent, after-delay, after-longest, after-length, comes-from, hold-left, in-turn, in-turn-rises, RisesOrMisses, beat-misses, steady}
 -- A node that doesn't enter a reset counts none.
 pub use Rattle.cable_world.proofs.resets.ResetCounts.{turn-counts}
 -- Steps of single nodes between two turns, and when lists changed.
@@ -71,6 +71,7 @@ pub use Rattle.cable_world.proofs.tables.TablesInActs.{act-formed, altered, as_b
 -- pulled.
 pub use Rattle.cable_world.proofs.tables.TablesInSteps.{HasEntry, not-replaced, put-lengths, put-other, put-same, replaced, sent-length, step-cables}
 -- A turn keeps a world well formed.
+pub use Rattle.cable_world.proofs.tables.ClocksKept.{act-clocked}
 pub use Rattle.cable_world.proofs.tables.TablesInTurns.{turn-formed}
 -- Turns and acts change no node's times, so that who can be forced stays so.
 pub use Rattle.cable_world.proofs.tables.TimesKept.{act-forced, turn-forced}
@@ -104,3 +105,5 @@ pub use Rattle.cable_world.proofs.running.Sending.{no-sends}
 pub use Rattle.cable_world.proofs.running.Touched.{kept-set, kept-then}
 -- That a world is lawful has one proof at most.
 pub use Rattle.cable_world.proofs.OneProof.{lawful_prop}
+pub use Rattle.cable_world.proofs.tables.ClocksKept.{misses-slowly}
+pub use Rattle.cable_world.proofs.tables.TablesInTurns.{steady-at}

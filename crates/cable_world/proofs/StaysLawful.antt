@@ -11,7 +11,8 @@ use Rattle.cable_world.specs.Events.{Event, acts, holds, turns, Happens, Runs}
 use Rattle.cable_world.specs.Agreement.{LevelsAgree}
 use Rattle.cable_world.specs.Coupling.{IsCoupled}
 use Rattle.cable_world.specs.StaysLawful.{HoldsAtPowerOn, KeptByTurns, KeptByHolds, KeptByActs, ComesIsLawful, ReachedIsLawful, ReachedCanBeForced, TimesStay}
-use Rattle.cable_world.specs.Lawful.{IsWellFormed, IsLawful}
+use Rattle.cable_world.specs.Lawful.{IsPaced, IsWellFormed, IsLawful}
+use Rattle.cable_world.proofs.tables.ClocksKept.{turn-paced, act-paced}
 use Rattle.cable_world.proofs.tables.AtPowerOn.{power-on-formed, power-on-agrees}
 use Rattle.cable_world.proofs.Options.{some-same}
 use Rattle.cable_world.proofs.StaysReached.{reached-comes}
@@ -24,22 +25,22 @@ use Rattle.cable_world.proofs.coupling.CouplingInActs.{act-coupled, hold-coupled
 use Rattle.cable_world.proofs.coupling.RolesFollow.{coupled-roles}
 
 -- that child ports lead to parent ports follows from the rest
-lawful-of : (w : CableWorld) → IsWellFormed w → LevelsAgree w → IsCoupled w → IsLawful w
-lawful-of w f l c = record { well_formed = f; agrees = record { levels = l; roles = coupled-roles w c }; coupled = c }
+lawful-of : (w : CableWorld) → IsWellFormed w → IsPaced w → LevelsAgree w → IsCoupled w → IsLawful w
+lawful-of w f p l c = record { well_formed = f; paced = p; agrees = record { levels = l; roles = coupled-roles w c }; coupled = c }
 
 pub power-on-lawful : HoldsAtPowerOn IsLawful
-power-on-lawful w h = record { well_formed = power-on-formed w h; agrees = power-on-agrees w h; coupled = power-on-coupled w h }
+power-on-lawful w h = record { well_formed = power-on-formed w h; paced = h.clocks; agrees = power-on-agrees w h; coupled = power-on-coupled w h }
 
 pub turn-lawful : (w : CableWorld) → IsLawful w → IsLawful (turn w)
-turn-lawful w h = lawful-of (turn w) (turn-formed w h.well_formed) (turn-levels w h.well_formed h.agrees.levels h.coupled) (turn-coupled w h.well_formed h.agrees.levels h.coupled)
+turn-lawful w h = lawful-of (turn w) (turn-formed w h.well_formed) (turn-paced w h.well_formed h.paced) (turn-levels w h.well_formed h.agrees.levels h.coupled) (turn-coupled w h.well_formed h.agrees.levels h.coupled)
 
 pub hold-lawful : KeptByHolds IsLawful
 hold-lawful end n w none h =
-    lawful-of (hold end n w) (hold-formed end n w none h.well_formed) (hold-levels end n w none h.well_formed h.agrees.levels) (hold-coupled end n w none h.well_formed h.coupled)
+    lawful-of (hold end n w) (hold-formed end n w none h.well_formed) h.paced (hold-levels end n w none h.well_formed h.agrees.levels) (hold-coupled end n w none h.well_formed h.coupled)
 
 pub act-lawful : KeptByActs IsLawful
 act-lawful a w v did h =
-    lawful-of v (act-formed a w v did h.well_formed) (act-levels a w v did h.well_formed h.agrees.levels) (act-coupled a w v did h.well_formed h.coupled)
+    lawful-of v (act-formed a w v did h.well_formed) (act-paced a w v did.2 h.paced) (act-levels a w v did h.well_formed h.agrees.levels) (act-coupled a w v did h.well_formed h.coupled)
 
 pub turns-lawful : KeptByTurns IsLawful
 unfolding turns_after

@@ -11,6 +11,7 @@
 -- `Times`: times that barely suit a bus.
 pub mod Summary
 pub mod TwoNodes
+mod SlowClock
 pub mod ThreeNodes
 pub mod Held
 pub mod Desk

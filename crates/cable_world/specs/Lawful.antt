@@ -7,7 +7,7 @@ use Rattle.port_state.specs.Ports.{is_connected}
 use Rattle.port_state.specs.Valid.{IsValid}
 use Rattle.port_state.specs.Machine.{PortNode}
 use Rattle.cable_world.specs.Wire.{Travelling, empty_wire}
-use Rattle.cable_world.specs.Times.{Suits}
+use Rattle.cable_world.specs.Times.{Suits, KeepsTime}
 use Rattle.cable_world.specs.World.{CableWorld, wire_of}
 use Rattle.cable_world.specs.Agreement.{Agrees}
 use Rattle.cable_world.specs.Coupling.{IsCoupled}
@@ -40,7 +40,12 @@ pub record IsWellFormed (w : CableWorld) : Type 0 where
   pub ages : (a : End) → AgesFall (w.delay - 1) (wire_of w a).signals
   pub unplugged : (a : End) → far w.cabling a ≡ None → wire_of w a ≡ empty_wire
 
+abbrev pub IsPaced : CableWorld → Type 0
+IsPaced w =
+    (k : ℕ) (x : PortNode) → slice_get w.nodes k ≡ Some x → KeepsTime w.longest x.state.timing x.clock
+
 pub record IsLawful (w : CableWorld) : Type 0 where
   pub well_formed : IsWellFormed w
+  pub paced : IsPaced w
   pub agrees : Agrees w
   pub coupled : IsCoupled w

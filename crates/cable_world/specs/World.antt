@@ -9,7 +9,7 @@ use Rattle.port_state.specs.Valid.{IsValid}
 use Rattle.port_state.specs.declared.states.NodeState.{NodeState}
 use Rattle.port_state.specs.Machine.{PortNode}
 use Rattle.cable_world.specs.Wire.{Wire, empty_wire}
-use Rattle.cable_world.specs.Times.{Suits, CanBeForced, longest_in_range}
+use Rattle.cable_world.specs.Times.{Suits, KeepsTime, CanBeForced, longest_in_range}
 -- the number of a node, from 0, and a set of such numbers
 pub use Rattle.cabling.specs.Wiring.{NodeNumber}
 pub use Rattle.cabling.specs.NodeSet.{Nodes as NodeSet}
@@ -17,7 +17,7 @@ pub use Rattle.cabling.specs.NodeSet.{Nodes as NodeSet}
 pub record CableWorld : Type 0 where
   -- d: a cable delays a signal by at most so many turns
   pub delay : ℕ
-  -- no node has longer times: a bound for counting turns, which changes nothing that happens
+  -- no node takes longer, in turns: a bound for counting turns, which changes nothing that happens
   pub longest : Timing
   pub cabling : Wiring
   -- each node, by its number
@@ -84,6 +84,9 @@ pub record IsPowerOnWorld (w : CableWorld) : Type 0 where
   pub nodes :
       (k : ℕ) (x : PortNode) → slice_get w.nodes k ≡ Some x →
       IsPowered w.delay w.longest x.state
+  pub clocks :
+      (k : ℕ) (x : PortNode) → slice_get w.nodes k ≡ Some x →
+      KeepsTime w.longest x.state.timing x.clock
   pub is : w ≡ world_with_times w.delay w.longest w.nodes
 
 -- each node becomes root where it waits to be forced

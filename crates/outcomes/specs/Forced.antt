@@ -4,6 +4,7 @@ use Rattle.cabling.specs.NodeSet.{Holds}
 use Rattle.port_state.specs.declared.view.View.{View}
 use Rattle.port_state.specs.Heard.{is_resetting}
 use Rattle.port_state.specs.Machine.{PortNode}
+use Rattle.convergence.specs.Turns.{slack}
 use Rattle.cable_world.specs.Times.{CanBeForced}
 use Rattle.cable_world.specs.World.{CableWorld, NodeNumber, NodeSet}
 use Rattle.cable_world.specs.Phases.{is_before_tree, is_in_bus_reset}
@@ -79,11 +80,11 @@ EntriesTakeOver =
     slice_get w.nodes k ≡ Some x → slice_get (quiet_after holds i w).nodes k ≡ Some y →
     (y.state.view.force ≡ waits_due x.state.view) × (y.state.view.gap ≡ gap_due x.state.view)
 
--- the node of this number is given time enough to become root
+-- the node of this number is given time enough to become root, where all clocks are even
 abbrev pub CanBeForcedAt : CableWorld → NodeNumber → Type 0
 CanBeForcedAt w node =
-    (x : PortNode) → slice_get w.nodes node ≡ Some x →
-    CanBeForced w.delay w.longest x.state.timing
+    (slack w ≡ 0) × ((x : PortNode) → slice_get w.nodes node ≡ Some x →
+    CanBeForced w.delay w.longest x.state.timing)
 
 -- in a component without loop, which has just been reset, this node alone waits to become root, and
 -- is given time enough for it

@@ -123,7 +123,7 @@ module _ (d : ℕ) (x y : Side) (j : Pair d x y) where
 
   pub came :
       EntersReset x.node (hearing x) →
-      (is_resetting (ticking x).state.view.phase ≡ true) × ((ticking x).state.view.timer ≡ 1)
+      (is_resetting (ticking x).state.view.phase ≡ true) × ((ticking x).state.view.timer ≤ 1)
   came c = came_after d x j.some_delay j.short_delay j.near c
 
   -- the facts, one by one
@@ -145,7 +145,7 @@ module _ (d : ℕ) (x y : Side) (j : Pair d x y) where
 
       calm :
           NoEntry x.node (hearing x) →
-          (((ticking x).state.view.phase ≡ (hearing x).state.view.phase) × ((ticking x).state.view.timer ≤ risen (hearing x).state.view.timer) × ((ticking x).sends ≡ []))
+          (((ticking x).state.view.phase ≡ (hearing x).state.view.phase) × ((ticking x).state.view.timer ≤ (hearing x).state.view.timer + 1) × ((ticking x).sends ≡ []))
           ⊎ ((ticking x).state.view.timer ≡ 0) →
           AllAsOldAs ((ticking x).state.view.timer - slack (ticking x).state.view.phase) (wire_after x)
       calm h (inl s) =
@@ -263,7 +263,7 @@ module _ (d : ℕ) (x y : Side) (j : Pair d x y) where
   early_after s = elim (known-cases d (ticking x).state s) [
     | inl r ↦ or_left (is_before_tree (ticking y).state.view.phase) (is_asking (ticking y).state y.port)
         (bus_reset-before_tree (ticking y).state.view.phase
-        (watches-turn y.inbox y.coin y.node j.other.hears j.other.ticks j.other.watches y.port (j.other.ticks.cables y.port ∙ heard_connected d y j.other) (shows_reset_after d x y j r.0 r.1)))
+        (watches-turn y.inbox y.beat y.node j.other.hears j.other.ticks j.other.watches y.port (j.other.ticks.cables y.port ∙ heard_connected d y j.other) (shows_reset_after d x y j r.0 r.1)))
     | inr m ↦ elim j.near.hears.cases [ inl h ↦ middle (known_before d x y j m h) | inr c ↦ absurd (unknown d x y j c s) ]
   ]
     where
@@ -483,7 +483,7 @@ module _ (d : ℕ) (x y : Side) (j : Pair d x y) where
 
       go :
           NoEntry x.node (hearing x) →
-          (((hearing x).state.view.phase ≡ phase.Contend) × ((ticking x).state.view.parent ≡ (hearing x).state.view.parent) × ((ticking x).state.view.timer ≤ risen (hearing x).state.view.timer) × ((ticking x).state.view.wait ≡ (hearing x).state.view.wait))
+          (((hearing x).state.view.phase ≡ phase.Contend) × ((ticking x).state.view.parent ≡ (hearing x).state.view.parent) × ((ticking x).state.view.timer ≤ (hearing x).state.view.timer + 1) × ((ticking x).state.view.wait ≡ (hearing x).state.view.wait))
           ⊎ (((ticking x).state.view.timer ≡ 0) × (((ticking x).state.view.wait ≡ (hearing x).state.timing.short) ⊎ ((ticking x).state.view.wait ≡ (hearing x).state.timing.long))) →
           NoneTakesBack ((ticking x).state.view.timer - d) (level_shown (ticking x).state x.port) (wire_after y)
       go h (inr z) = none (omega (arith, z.0))

@@ -5,6 +5,7 @@ use Rattle.std.proofs.lemmas.List.Elements.{All-map}
 use Rattle.cabling.specs.Wiring.{Wiring, ArePortCounts, without_cables}
 use Rattle.port_state.specs.declared.timing.Timing.{Timing}
 use Rattle.port_state.specs.Valid.{IsValid}
+use Rattle.cable_world.specs.Times.{KeepsTime}
 use Rattle.port_state.specs.Machine.{PortNode}
 use Rattle.cable_world.specs.Wire.{Wire, empty_wire}
 use Rattle.cable_world.specs.World.{IsPowered, IsPowerOnWorld, no_wires, world_with_times}
@@ -60,5 +61,7 @@ start-is d longest n nodes counts c wires changed p cc_is w k long =
 
 pub power-on :
     (d : ℕ) (longest : Timing) (nodes : List PortNode) → 1 ≤ d → d ≤ 16 → length nodes ≤ 63 →
-    EachNode (λ x. IsPowered d longest x.state) nodes → IsPowerOnWorld (world_with_times d longest nodes)
-power-on d longest nodes one sixteen few h = record { some_delay = one; short_delay = sixteen; few_nodes = few; nodes = h; is = refl }
+    EachNode (λ x. IsPowered d longest x.state) nodes →
+    EachNode (λ x. KeepsTime longest x.state.timing x.clock) nodes →
+    IsPowerOnWorld (world_with_times d longest nodes)
+power-on d longest nodes one sixteen few h paced = record { clocks = paced; some_delay = one; short_delay = sixteen; few_nodes = few; nodes = h; is = refl }

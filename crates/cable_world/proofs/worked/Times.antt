@@ -1,5 +1,6 @@
 -- Times that barely suit a bus, and times that don't; and two nodes with such times. d is 1 here, and
 -- the longest times are those in range.
+use Rattle.port_state.specs.Clock.{even}
 use Rattle.std.proofs.Common.{◌≡◌, ℕ, zero, suc, true, false, [], ◌∷◌, Some, map, slice_get, refl, subst, arith}
 use Rattle.self_id.specs.Group.{group}
 use Rattle.port_state.specs.declared.timing.Timing.{Timing}
@@ -10,7 +11,7 @@ use Rattle.port_state.specs.PowerOn.{power_on}
 use Rattle.port_state.specs.Tick.{tick}
 use Rattle.port_state.specs.Machine.{PortNode}
 use Rattle.port_state.proofs.Lemmas.{valid-power_on}
-use Rattle.cable_world.specs.Times.{Suits, CanBeForced, longest_in_range}
+use Rattle.cable_world.specs.Times.{KeepsTime, Suits, CanBeForced, longest_in_range}
 use Rattle.cable_world.specs.World.{CableWorld, AllCanBeForced, IsPowered, world_with_times}
 use Rattle.cable_world.specs.Turn.{turn, turns_after}
 use Rattle.cable_world.specs.Run.{IsReached, starts}
@@ -59,7 +60,7 @@ too-long-a-wait s = omega (arith, s.long_most)
 -- ---- two nodes with such times on one cable, of which the first draws 0 and the second 1
 
 abbrev node : ℕ → PortNode
-node coin = record { state = power_on 3 (attrs true 2 false) false barely; coins = coins_of_bits coin 1 }
+node coin = record { state = power_on 3 (attrs true 2 false) false barely; coins = coins_of_bits coin 1; clock = even }
 
 abbrev alone : CableWorld
 alone = world_with_times 1 (longest_in_range 1) (node 0 ∷ node 1 ∷ [])
@@ -79,6 +80,11 @@ each-powered zero x e = subst (λ (z : PortNode). IsPowered 1 (longest_in_range 
 each-powered (suc zero) x e = subst (λ (z : PortNode). IsPowered 1 (longest_in_range 1) z.state) (some-same (node 1) x e) (powered 1)
 each-powered (suc (suc k)) x e = absurd cc
 
+each-clock : (k : ℕ) (x : PortNode) → slice_get alone.nodes k ≡ Some x → KeepsTime (longest_in_range 1) x.state.timing x.clock
+each-clock zero x e = subst (λ (z : PortNode). KeepsTime (longest_in_range 1) z.state.timing z.clock) (some-same (node 0) x e) tt
+each-clock (suc zero) x e = subst (λ (z : PortNode). KeepsTime (longest_in_range 1) z.state.timing z.clock) (some-same (node 1) x e) tt
+each-clock (suc (suc k)) x e = absurd cc
+
 each-forced : AllCanBeForced alone
 each-forced zero x e = subst (λ (z : PortNode). CanBeForced 1 (longest_in_range 1) z.state.timing) (some-same (node 0) x e) barely-forced
 each-forced (suc zero) x e = subst (λ (z : PortNode). CanBeForced 1 (longest_in_range 1) z.state.timing) (some-same (node 1) x e) barely-forced
@@ -86,7 +92,7 @@ each-forced (suc (suc k)) x e = absurd cc
 
 start-reached : IsReached start
 start-reached = comes-plugged alone (at 0 0) (at 1 0) refl (starts alone (
-  record { some_delay = omega arith; short_delay = omega arith; few_nodes = omega arith; nodes = each-powered; is = refl },
+  record { some_delay = omega arith; short_delay = omega arith; few_nodes = omega arith; nodes = each-powered; clocks = each-clock; is = refl },
   each-forced,
 ))
 

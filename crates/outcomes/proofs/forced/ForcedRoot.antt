@@ -11,6 +11,8 @@ use Rattle.outcomes.proofs.forced.FreeTrees.{all-late}
 use Rattle.outcomes.proofs.roots.RootWalk.{root-walk}
 use Rattle.outcomes.specs.Forced.{CanBeForcedAt}
 use Rattle.outcomes.proofs.forced.Waits.{steadily, late-parentless, spread-most, forces, waiting}
+use Rattle.convergence.specs.Turns.{seen_turns}
+use Rattle.convergence.proofs.Lemmas.{slack-later}
 
 node-at :
     (v : CableWorld) (k : ℕ) → k < length v.nodes → (x : PortNode) × (slice_get v.nodes k ≡ Some x)
@@ -44,7 +46,7 @@ module _
   start-lawful = quiet-lawful hs first w l
 
   start-done : ResetsAreDone start
-  start-done = let low : (w.longest.hold + w.delay) ≤ (w.longest.hold + w.delay) = omega arith in resets-done hs w l ((w.longest.hold + w.delay)) low
+  start-done = let low : w.longest.hold + seen_turns w ≤ w.longest.hold + w.delay = omega (arith, can.0) in resets-done hs w l ((w.longest.hold + w.delay)) low
 
   there : f < length w.nodes
   there = let y = some-of (slice_get w.nodes f) _ alone.waits in slice_get_within w.nodes f y.0 y.1
@@ -68,7 +70,7 @@ module _
       let same : length start.nodes ≡ length w.nodes = after-length hs w l first in
       let closed : IsClosed start.cabling set = subst (λ c. IsClosed c set) (sym (after-cabling hs first w)) comp.closed in
       let ways_then : WaysUp start.cabling set f up.0 = subst (λ c. WaysUp c set f up.0) (sym (after-cabling hs first w)) up.1 in
-      all-late rest start start-lawful start-done set f closed alone.holds (omega (arith, there, same)) up.0 ways_then free
+      all-late rest start start-lawful start-done (omega (arith, can.0, slack-later hs w l first)) set f closed alone.holds (omega (arith, there, same)) up.0 ways_then free
 
   -- 2 n d turns, the longest hold and d
   abbrev pub enough : ℕ

@@ -9,12 +9,23 @@ use Rattle.outcomes.proofs.Common.{contrary, PortView, NodeState, is_parent, pas
 use Rattle.outcomes.specs.WaysUp.{Lowest}
 use Rattle.convergence.proofs.Lemmas.{Left, TwoLeft, count, count-most, count-le, count-less, count-some, count-found, IsEarly, Started, started, start-early, early-at-first, done-at, Silent, TwoSilent, early_there, shown-parent}
 use Rattle.outcomes.proofs.forced.Forced.{kept-heard, undecided-free, undecided-one}
+use Rattle.convergence.specs.Turns.{slack}
+use Rattle.convergence.proofs.Lemmas.{StaysInStart, some-slack}
 
-module _ (hs : HoldSchedule) (v : CableWorld) (l : IsLawful v) (done : ResetsAreDone v) where
+module _ (hs : HoldSchedule) (v : CableWorld) (l : IsLawful v) (done : ResetsAreDone v) (even : slack v ≡ 0) where
   -- ---- a node that stays in T0
 
   abbrev now : (i k : ℕ) (n : IsEarly (quiet_after hs (i + 1) v) k) → NodeState
   now i k n = heard_by (quiet_after hs i v) k (started hs v l done i k n.node n.at n.early).calm.node
+
+  -- no clock misses a turn
+  ticked : (i k : ℕ) (n : IsEarly (quiet_after hs (i + 1) v) k) → StaysInStart (now i k n) n.node.state
+  ticked i k n =
+      let s = started hs v l done i k n.node n.at n.early in
+      elim s.kept [
+        | inl m ↦ absurd (omega (arith, even, some-slack hs v l i k (record { node = s.calm.node; at = s.calm.at; missed = m.0 })))
+        | inr t ↦ t
+      ]
 
   -- a port that is left there shows no Parent after the turn
   silent :
@@ -25,7 +36,7 @@ module _ (hs : HoldSchedule) (v : CableWorld) (l : IsLawful v) (done : ResetsAre
     silent = ap is_parent (ap (λ (z : NodeState). level_shown z p) s.calm.is ∙ s.calm.ticks.shown p) ∙ go (slice_get (now i k n).view.ports p) h.on h.silent;
   }
     where
-      s : Started hs v l done i k n.node.state
+      s : Started hs v l done i k n.node
       s = started hs v l done i k n.node n.at n.early
 
       go :
@@ -41,7 +52,7 @@ module _ (hs : HoldSchedule) (v : CableWorld) (l : IsLawful v) (done : ResetsAre
       TwoSilent n.node.state
   stays-by-two i k n free = record { low = two.low; high = two.high; apart = two.apart; low_silent = silent i k n two.low two.low_left; high_silent = silent i k n two.high two.high_left }
     where
-      s : Started hs v l done i k n.node.state
+      s : Started hs v l done i k n.node
       s = started hs v l done i k n.node n.at n.early
 
       force : (raise_timer (now i k n)).view.force ≡ false
@@ -50,14 +61,14 @@ module _ (hs : HoldSchedule) (v : CableWorld) (l : IsLawful v) (done : ResetsAre
           ∙ free (record { node = s.calm.node; at = s.calm.at; early = start-early s.calm.node.state.view.phase s.start })
 
       two : TwoLeft (now i k n).view.ports
-      two = undecided-free (raise_timer (now i k n)) s.kept.undecided force
+      two = undecided-free (raise_timer (now i k n)) (ticked i k n).undecided force
 
   -- any has one
   stays-by-one : (i k : ℕ) (n : IsEarly (quiet_after hs (i + 1) v) k) →
       (p : ℕ) × Silent n.node.state p
   stays-by-one i k n =
-      let s : Started hs v l done i k n.node.state = started hs v l done i k n.node n.at n.early in
-      let one = undecided-one (raise_timer (now i k n)) s.kept.undecided in
+      let s : Started hs v l done i k n.node = started hs v l done i k n.node n.at n.early in
+      let one = undecided-one (raise_timer (now i k n)) (ticked i k n).undecided in
       (one.0, silent i k n one.0 one.1)
 
   -- it leads to a node that was in T0 d turns ago
@@ -86,7 +97,7 @@ module _ (hs : HoldSchedule) (v : CableWorld) (l : IsLawful v) (done : ResetsAre
 
 -- ---- the nodes but one
 
-module _ (hs : HoldSchedule) (v : CableWorld) (l : IsLawful v) (done : ResetsAreDone v) (set top : ℕ) (closed : IsClosed v.cabling set) (has : Holds set top) (there : top < length v.nodes) (up : ℕ → Option ℕ) (ways : WaysUp v.cabling set top up)
+module _ (hs : HoldSchedule) (v : CableWorld) (l : IsLawful v) (done : ResetsAreDone v) (even : slack v ≡ 0) (set top : ℕ) (closed : IsClosed v.cabling set) (has : Holds set top) (there : top < length v.nodes) (up : ℕ → Option ℕ) (ways : WaysUp v.cabling set top up)
     (free : (i k : ℕ) (x : PortNode) → Holds set k → k ≢ top → slice_get (quiet_after hs i v).nodes k ≡ Some x → x.state.view.force ≡ false) where
   -- those in T0 after so many turns
   member : ℕ → ℕ → Bool
@@ -147,10 +158,10 @@ module _ (hs : HoldSchedule) (v : CableWorld) (l : IsLawful v) (done : ResetsAre
         (b : Bool) → is_port (up low.node) q ≡ b → b ≡ true
     only-up low n q s true e = refl
     only-up low n q s false e =
-        let a = leads hs v l done (t + v.delay) low.node n q s in
+        let a = leads hs v l done even (t + v.delay) low.node n q s in
         let ne : up low.node ≢ Some q = λ f. contrary (is-port (up low.node) q f) e in
         let other : a.0.node ≢ top = not-top low.node q a.0 low.in_set a.1 ne in
-        absurd (asked-by hs v l done t low.node n q a.0 a.1 s (λ y.
+        absurd (asked-by hs v l done even t low.node n q a.0 a.1 s (λ y.
         contrary (member-from t a.0.node (record { holds = closed (end_at low.node q) a.0 a.1 low.in_set; other = other; early = y })) (low.others q a.0 a.1 ne)))
 
     gone :
@@ -161,7 +172,7 @@ module _ (hs : HoldSchedule) (v : CableWorld) (l : IsLawful v) (done : ResetsAre
         let p = member-parts (t + v.delay) low.node m in
         let z = before-last t in
         let n : IsEarly (quiet_after hs (t + (v.delay - 1) + 1) v) low.node = subst (λ j. IsEarly (quiet_after hs j v) low.node) z p.early in
-        let two : TwoSilent n.node.state = stays-by-two hs v l done (t + (v.delay - 1)) low.node n (λ x. free (t + (v.delay - 1)) low.node x.node p.holds p.other x.at) in
+        let two : TwoSilent n.node.state = stays-by-two hs v l done even (t + (v.delay - 1)) low.node n (λ x. free (t + (v.delay - 1)) low.node x.node p.holds p.other x.at) in
         let at-end : IsEarly (quiet_after hs (t + v.delay) v) low.node = record { node = n.node; at = ap (λ j. slice_get (quiet_after hs j v).nodes low.node) z ∙ n.at; early = n.early } in
         absurd (omega (
           arith,
@@ -233,11 +244,11 @@ module _ (hs : HoldSchedule) (v : CableWorld) (l : IsLawful v) (done : ResetsAre
   top-late early =
       let z = before-last last in
       let n : IsEarly (quiet_after hs (last + (v.delay - 1) + 1) v) top = subst (λ j. IsEarly (quiet_after hs j v) top) z early in
-      let one = stays-by-one hs v l done (last + (v.delay - 1)) top n in
+      let one = stays-by-one hs v l done even (last + (v.delay - 1)) top n in
       let at-end : IsEarly (quiet_after hs (last + v.delay) v) top = record { node = n.node; at = ap (λ j. slice_get (quiet_after hs j v).nodes top) z ∙ n.at; early = n.early } in
-      let a = leads hs v l done (last + v.delay) top at-end one.0 one.1 in
+      let a = leads hs v l done even (last + v.delay) top at-end one.0 one.1 in
       let ne : up top ≢ Some one.0 = λ f. let bad : None ≡ Some one.0 = sym ways.ups.none ∙ f in absurd cc in
-      asked-by hs v l done last top at-end one.0 a.0 a.1 one.1
+      asked-by hs v l done even last top at-end one.0 a.0 a.1 one.1
       (others-late a.0.node (closed (end_at top one.0) a.0 a.1 has) (not-top top one.0 a.0 has a.1 ne))
 
   -- so after n d turns all are

@@ -5,7 +5,7 @@ use Rattle.std.proofs.Common.{◌≡◌, ◌≢◌, inl, inr, ℕ, zero, suc, �
 use Rattle.std.specs.Prelude.{nat_lt}
 use Rattle.std.proofs.lemmas.Bool.{cases_eq, cases_lt}
 use Rattle.std.proofs.lemmas.Bool.Decides.{nat_tests}
-use Rattle.outcomes.proofs.Common.{contrary, Level, Phase, PortView, NodeState, coin, is_parent, is_remaining, lowest, passes, port_is, is_connected, is_port, is_resetting, is_decided, Row, raise_timer, does, next_row, tick, PortNode, End, Wiring, far, Holds, IsEmpty, IsComponent, IsCore, LeadsUp, end_at, age_wire, gives, CableWorld, wire_of, turn, level_sent, shown_or_idle, level_shown, leads_down, level_after, is_before_tree, is_after_hold, signals_of, has_reset, IsLawful, IsFresh, in-turn, after-delay, child-if, cable-connected, some-same, late-roles, Chosen, chosen, comes, port-is, start-before_tree, one-quiet, quiet-lawful, after-cabling, joined-of, Calmly, signals, heard_by, port-is-not, WaitsAlone, HoldSchedule, with_holds, quiet_after}
+use Rattle.outcomes.proofs.Common.{contrary, Level, Phase, PortView, NodeState, coin, is_parent, is_remaining, lowest, passes, port_is, is_connected, is_port, is_resetting, is_decided, Row, raise_timer, does, next_row, tick, PortNode, End, Wiring, far, Holds, IsEmpty, IsComponent, IsCore, LeadsUp, end_at, age_wire, gives, CableWorld, wire_of, turn, level_sent, shown_or_idle, level_shown, leads_down, level_after, is_before_tree, is_after_hold, signals_of, has_reset, IsLawful, IsFresh, after-delay, child-if, cable-connected, some-same, late-roles, Chosen, chosen, comes, port-is, start-before_tree, one-quiet, quiet-lawful, after-cabling, joined-of, Calmly, signals, heard_by, port-is-not, WaitsAlone, HoldSchedule, with_holds, quiet_after}
 use Rattle.port_state.specs.Row as row
 use Rattle.port_state.proofs.Lemmas.{decided_few, left_is}
 use Rattle.cable_world.specs.Agreement.{level_sent_at}
@@ -14,11 +14,15 @@ use Rattle.cable_world.specs.Signals.{shows_no_notice}
 use Rattle.cable_world.specs.Coupling.{is_reset_known, Coupling}
 use Rattle.cable_world.proofs.Lemmas.{hears, steady, between-known}
 use Rattle.convergence.proofs.Lemmas.{late-start}
-use Rattle.outcomes.proofs.forced.Forced.{kept-heard, Takes, tick-takes}
+use Rattle.outcomes.proofs.forced.Forced.{kept-heard, Takes, beat-tick-takes}
 use Rattle.outcomes.proofs.forced.ForcedRoot.{up, late, parentless, enough}
 use Rattle.outcomes.proofs.forced.Spread.{Turned, turned, all-reset, some-nodes}
 use Rattle.outcomes.specs.Forced.{CanBeForcedAt}
 use Rattle.outcomes.proofs.forced.Waits.{outside, steadily, spread-most, waiting}
+use Rattle.port_state.specs.Machine.{beat, on_beat}
+use Rattle.convergence.proofs.turns.Moves.{coin_of}
+use Rattle.cable_world.proofs.Lemmas.{in-turn-rises}
+use Rattle.convergence.proofs.Lemmas.{some-slack}
 
 -- ---- ticks
 
@@ -58,6 +62,12 @@ unfolding tick
 tick-calms coin x o h u =
     let c = row-calms coin (next_row x) (raise_timer x) o (chosen x.view.phase (raise_timer x) refl) h u in
     record { calm = c.calm; draws = c.draws; parent = c.parent }
+
+beat-tick-calms :
+    (b : Option Bool) (x : NodeState) (o : Option ℕ) → is_contending x.view.phase ≡ false →
+    Unasked o x → Calms (coin_of b) x (on_beat b x).state
+beat-tick-calms None x o h u = record { calm = h; draws = refl; parent = λ g. refl }
+beat-tick-calms (Some coin) x o h u = tick-calms coin x o h u
 
 -- the one port that is left becomes the parent port
 left-parent :
@@ -156,7 +166,10 @@ module _
           → suc j ≤ y.state.view.timer
       go before =
           let there : is_resetting t.node.state.view.phase ≡ true = was (is_resetting t.node.state.view.phase) refl in
-          omega (arith, (in-turn (quiet_after hs (reached + j) w) (quiet-lawful hs (reached + j) w l) k t.node y t.at at-turn).rises there r, before t.node h t.at there)
+          elim (in-turn-rises (quiet_after hs (reached + j) w) (quiet-lawful hs (reached + j) w l) k t.node y t.at at-turn there r).0 [
+            | inl m ↦ absurd (omega (arith, can.0, some-slack hs w l (reached + j) k (record { node = t.node; at = t.at; missed = m.0 })))
+            | inr u ↦ omega (arith, u.0, before t.node h t.at there)
+          ]
 
   -- once a node has left R0, those in R0 or before the tree have known of the reset for long
   known :
@@ -343,15 +356,15 @@ module _
       (λ p e. let b = way-leads k p h e in unasked-at now p (heard-unasked i past all k c.node h c.at (out-of g) p b.0 b.1 b.2)),
     )
 
-    calms : Calms (coin c.node.coins) now (tick (coin c.node.coins) now).state
-    calms = tick-calms (coin c.node.coins) now (way k) (ap is_contending c.heard.phase ∙ (all k c.node h c.at).calm) unasked
+    calms : Calms (coin_of (beat c.node)) now (on_beat (beat c.node) now).state
+    calms = beat-tick-calms (beat c.node) now (way k) (ap is_contending c.heard.phase ∙ (all k c.node h c.at).calm) unasked
 
     faces-next : is_before_tree y.state.view.phase ≡ false → y.state.view.parent ≡ way k
     faces-next g = go (is_before_tree now.view.phase) refl
       where
         taken : is_before_tree now.view.phase ≡ true → k ≢ f → y.state.view.parent ≡ way k
         taken e other =
-            let takes : Takes now (tick (coin c.node.coins) now).state = tick-takes (coin c.node.coins) now e (sym (ap (λ (z : NodeState). is_before_tree z.view.phase) c.is) ∙ g) in
+            let takes : Takes now (on_beat (beat c.node) now).state = beat-tick-takes (beat c.node) now e (sym (ap (λ (z : NodeState). is_before_tree z.view.phase) c.is) ∙ g) in
             let u : LeadsUp w.cabling way k = (up hs w l node set core comp is_core empty small fresh f alone can).1.ups.others k h other in
             let out_x : is_resetting c.node.state.view.phase ≡ false = ap is_resetting (sym c.heard.phase ∙ takes.start) in
             let quiet : is_parent (level_shown now u.port) ≡ false = heard-unasked i past all k c.node h c.at out_x u.port u.end u.joined u.child in
