@@ -2,6 +2,7 @@
 -- lawful.
 use Rattle.std.proofs.Common.{◌≡◌, ℕ, zero, suc, List, [], ◌∷◌, slice_get, refl, ◌∙◌, ap, subst, sym}
 use Rattle.port_state.specs.declared.timing.Timing.{Timing}
+use Rattle.port_state.specs.Clock.{Clock}
 use Rattle.port_state.specs.Machine.{PortNode}
 use Rattle.cable_world.specs.World.{CableWorld}
 use Rattle.cable_world.specs.Turn.{turn, turns_after}
@@ -10,13 +11,12 @@ use Rattle.cable_world.specs.Run.{starts, acted, held, turned}
 use Rattle.cable_world.specs.Events.{Event, acts, holds, turns, Happens, Runs}
 use Rattle.cable_world.specs.Agreement.{LevelsAgree}
 use Rattle.cable_world.specs.Coupling.{IsCoupled}
-use Rattle.cable_world.specs.StaysLawful.{HoldsAtPowerOn, KeptByTurns, KeptByHolds, KeptByActs, ComesIsLawful, ReachedIsLawful, ReachedCanBeForced, TimesStay}
+use Rattle.cable_world.specs.StaysLawful.{HoldsAtPowerOn, KeptByTurns, KeptByHolds, KeptByActs, ComesIsLawful, ReachedIsLawful, ReachedCanBeForced, ReachedIsEven, TimesStay}
 use Rattle.cable_world.specs.Lawful.{IsPaced, IsWellFormed, IsLawful}
-use Rattle.cable_world.proofs.tables.ClocksKept.{turn-paced, act-paced}
 use Rattle.cable_world.proofs.tables.AtPowerOn.{power-on-formed, power-on-agrees}
 use Rattle.cable_world.proofs.Options.{some-same}
 use Rattle.cable_world.proofs.StaysReached.{reached-comes}
-use Rattle.cable_world.proofs.tables.TimesKept.{Timed, turn-timed, act-timed, turn-forced, act-forced}
+use Rattle.cable_world.proofs.tables.TimesKept.{Timed, GoesOn, turn-timed, act-timed, turn-forced, act-forced, turn-even, act-even, turn-paced, act-paced}
 use Rattle.cable_world.proofs.tables.TablesInTurns.{turn-formed}
 use Rattle.cable_world.proofs.tables.TablesInActs.{act-formed, hold-formed}
 use Rattle.cable_world.proofs.levels.LevelsInActs.{act-levels, hold-levels}
@@ -64,21 +64,21 @@ event-lawful (holds end n) w v h l = subst IsLawful (sym h.1) (hold-lawful end n
 event-lawful turns w v h l = subst IsLawful (sym h) (turn-lawful w l)
 
 event-timed :
-    (P : ℕ → Timing → Type 0) (e : Event) (w v : CableWorld) → Happens e w v → IsLawful w →
+    (P : ℕ → Timing → Clock → Type 0) (e : Event) (w v : CableWorld) → GoesOn P → Happens e w v → IsLawful w →
     Timed P w.nodes → Timed P v.nodes
-event-timed P (acts a) w v h l t = act-timed P a w v h.2 t
-event-timed P (holds end n) w v h l t = subst (λ (u : CableWorld). Timed P u.nodes) (sym h.1) t
-event-timed P turns w v h l t = subst (λ (u : CableWorld). Timed P u.nodes) (sym h) (turn-timed P w l.well_formed t)
+event-timed P (acts a) w v on h l t = act-timed P a w v h.2 t
+event-timed P (holds end n) w v on h l t = subst (λ (u : CableWorld). Timed P u.nodes) (sym h.1) t
+event-timed P turns w v on h l t = subst (λ (u : CableWorld). Timed P u.nodes) (sym h) (turn-timed P w on l.well_formed t)
 
 runs-timed :
-    (P : ℕ → Timing → Type 0) (events : List Event) (w v : CableWorld) → Runs events w v →
+    (P : ℕ → Timing → Clock → Type 0) (events : List Event) (w v : CableWorld) → GoesOn P → Runs events w v →
     IsLawful w → Timed P w.nodes → Timed P v.nodes
-runs-timed P [] w v r l t = subst (λ (u : CableWorld). Timed P u.nodes) (sym r) t
-runs-timed P (e ∷ events) w v r l t = runs-timed P events r.0 v r.2 (event-lawful e w r.0 r.1 l) (event-timed P e w r.0 r.1 l t)
+runs-timed P [] w v on r l t = subst (λ (u : CableWorld). Timed P u.nodes) (sym r) t
+runs-timed P (e ∷ events) w v on r l t = runs-timed P events r.0 v on r.2 (event-lawful e w r.0 r.1 l) (event-timed P e w r.0 on r.1 l t)
 
 pub times-stay : TimesStay
 times-stay events w v k x y l r at_x at_y =
-    runs-timed (λ j t. j ≡ k → t ≡ x.state.timing) events w v r l
+    runs-timed (λ j t c. j ≡ k → t ≡ x.state.timing) events w v (λ j t c p. p) r l
     (λ j z at same. ap (λ (u : PortNode). u.state.timing) (some-same z x (sym at ∙ ap (slice_get w.nodes) same ∙ at_x))) k y at_y refl
 
 pub reached-forced : ReachedCanBeForced
@@ -86,3 +86,9 @@ reached-forced _ (starts w p) = p.1
 reached-forced _ (acted a w v did r) = act-forced a w v did.2 (reached-forced w r)
 reached-forced _ (held end n w none r) = reached-forced w r
 reached-forced _ (turned w r) = turn-forced w (reached-lawful w r).well_formed (reached-forced w r)
+
+pub reached-even : ReachedIsEven
+reached-even _ (starts w p) = p.2
+reached-even _ (acted a w v did r) = act-even a w v did.2 (reached-even w r)
+reached-even _ (held end n w none r) = reached-even w r
+reached-even _ (turned w r) = turn-even w (reached-lawful w r).well_formed (reached-even w r)

@@ -53,7 +53,7 @@ reached-comes _ (held end n w none r) = held end n w none (reached-comes w r)
 reached-comes _ (turned w r) = turned w (reached-comes w r)
 
 pub power-on-reached : ReachedAtPowerOn
-power-on-reached w h forced = starts w (h, forced)
+power-on-reached w h forced even = starts w (h, forced, even)
 
 pub turn-reached : (w : CableWorld) → IsReached w → IsReached (turn w)
 turn-reached = turned

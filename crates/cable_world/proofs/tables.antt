@@ -12,5 +12,4 @@ pub mod TablesInSteps
 pub mod CountsInActs
 pub mod TablesInActs
 pub mod TimesKept
-pub mod ClocksKept
 pub mod CableEnds

@@ -7,6 +7,7 @@ use Rattle.port_state.specs.declared.timing.Timing.{Timing}
 use Rattle.port_state.specs.Timing.{InRange}
 use Rattle.port_state.specs.Valid.{IsValid}
 use Rattle.port_state.specs.declared.states.NodeState.{NodeState}
+use Rattle.port_state.specs.Clock.{even}
 use Rattle.port_state.specs.Machine.{PortNode}
 use Rattle.cable_world.specs.Wire.{Wire, empty_wire}
 use Rattle.cable_world.specs.Times.{Suits, KeepsTime, CanBeForced, longest_in_range}
@@ -88,6 +89,10 @@ pub record IsPowerOnWorld (w : CableWorld) : Type 0 where
       (k : ℕ) (x : PortNode) → slice_get w.nodes k ≡ Some x →
       KeepsTime w.longest x.state.timing x.clock
   pub is : w ≡ world_with_times w.delay w.longest w.nodes
+
+-- no clock misses a turn
+abbrev pub AllEven : CableWorld → Type 0
+AllEven w = (k : ℕ) (x : PortNode) → slice_get w.nodes k ≡ Some x → x.clock ≡ even
 
 -- each node becomes root where it waits to be forced
 abbrev pub AllCanBeForced : CableWorld → Type 0

@@ -4,7 +4,7 @@ ghost use Rattle.cable_world.specs.Turn.{turn};
 ghost use Rattle.port_state.specs.Machine.{PortNode};
 ghost use Rattle.cable_world.specs.World.{world_of_nodes, world_with_times};
 ghost use Rattle.cable_world.specs.World.{IsNodeAtPowerOn, IsPowered};
-ghost use Rattle.cable_world.specs.Times.{CanBeForced, KeepsTime, longest_in_range};
+ghost use Rattle.cable_world.specs.Times.{CanBeForced};
 ghost use Rattle.cable_world.specs.Run.{IsReached};
 ghost use Rattle.cable_world.specs.Parts.{world_record};
 
@@ -49,8 +49,6 @@ impl<M: PortMachine + Drop> World<M> {
         requires short_delay { delay ≤ 16 }
         requires few { length machines.items ≤ 63 }
         requires power_on { All (λ m. IsNodeAtPowerOn delay (M.record_of m).state) machines.items }
-        requires clocks { All (λ m. KeepsTime (longest_in_range delay) (M.record_of m).state.timing (M.record_of m).clock)
-            machines.items }
         ensures world { IfOk result (λ w.
             ⟦<World<M> as WorldRun>⟧.world w
             ≡ world_of_nodes delay (map M.record_of machines.items)) }
@@ -73,8 +71,6 @@ impl<M: PortMachine + Drop> World<M> {
         requires power_on { All (λ m. IsPowered delay longest (M.record_of m).state)
             machines.items }
         requires forced { All (λ m. CanBeForced delay longest (M.record_of m).state.timing)
-            machines.items }
-        requires clocks { All (λ m. KeepsTime longest (M.record_of m).state.timing (M.record_of m).clock)
             machines.items }
         ensures world { IfOk result (λ w.
             ⟦<World<M> as WorldRun>⟧.world w

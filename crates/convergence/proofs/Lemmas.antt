@@ -20,7 +20,7 @@ pub use Rattle.convergence.proofs.ranks.RanksInTurns.{turn-acyclic}
 pub use Rattle.convergence.proofs.ranks.StaysAcyclic.{quiet-acyclic, comes-acyclic}
 -- In quiet turns nobody is in R0 or R1 any more, the longest hold and d turns after the last entry at the
 -- latest.
-pub use Rattle.convergence.proofs.resets.ResetsDone.{done-over, only-wait, resets-done}
+pub use Rattle.convergence.proofs.resets.ResetsDone.{done-over, none-enters-done, resets-done, steady-enters}
 -- After n * d quiet turns a Reset is under way to nodes in R0 alone: any other would enter
 -- R0 when it comes.
 pub use Rattle.convergence.proofs.resets.ResetsOver.{OldReset, none-older, old-after, resets-over, some-old}
@@ -72,5 +72,7 @@ pub use Rattle.convergence.proofs.turns.Roles.{early-parentless, parent-late, pa
 -- Five nodes in a line, and five in a star: the middle becomes root without contention. Each milestone
 -- on the way is there by the share that it is allowed, and long before.
 pub use Rattle.convergence.proofs.worked.FiveNodes.{line, star}
-pub use Rattle.convergence.proofs.turns.TwoTurns.{slack-most, slack-later, Misses, some-slack, not-twice}
+-- A coin that a tick draws, or none where the clock misses the turn.
+pub use Rattle.convergence.proofs.turns.Moves.{coin_of}
+pub use Rattle.convergence.proofs.turns.TwoTurns.{slack-most, slack-later, reached-slack, Misses, some-slack, not-twice}
 pub use Rattle.convergence.proofs.turns.BeforeTree.{start-on}

@@ -62,6 +62,7 @@ reached-first :
 reached-first nodes a few = starts (world_of_nodes 4 nodes) (
   record { some_delay = omega arith; short_delay = omega arith; few_nodes = few; nodes = λ k x e. powered-in-range 4 x.state (omega arith) (omega arith) (all-at nodes a k x e).0; clocks = λ k x e. subst (λ c. KeepsTime (longest_in_range 4) x.state.timing c) (sym (all-at nodes a k x e).1) tt; is = refl },
   λ k x e. in-range-forced 4 x.state.timing (omega arith) (all-at nodes a k x e).0.timing,
+  λ k x e. (all-at nodes a k x e).1,
 )
 
 -- ---- the worked runs

@@ -3,7 +3,8 @@ use Rattle.std.proofs.Common.{◌≡◌, ◌⊎◌, inl, inr, ℕ, zero, suc, �
 use Rattle.convergence.proofs.Common.{PortNode, CableWorld, turn, turn_at, IsLawful, node-after, some-same, before, one-quiet, quiet-lawful, HoldSchedule, quiet_after}
 use Rattle.port_state.specs.Clock.{Clock, even, is_even, misses, clock_after, TicksFor}
 use Rattle.cable_world.specs.Times.{Suits}
-use Rattle.cable_world.proofs.Lemmas.{misses-slowly}
+use Rattle.cable_world.specs.Run.{IsReached}
+use Rattle.cable_world.proofs.Lemmas.{misses-slowly, reached-even}
 use Rattle.convergence.specs.Turns.{slack_of, slack}
 use Rattle.convergence.proofs.turns.Clocks.{ticks-less, ticks-missed, misses-none}
 
@@ -59,6 +60,10 @@ slack-later hs v l i = elim (even-or v.nodes) [
   | inl a ↦ omega (arith, even-none (quiet_after hs i v).nodes (even-later hs v l a.0 i))
   | inr a ↦ omega (arith, a, slack-most (quiet_after hs i v))
 ]
+
+-- so are all those of a world that runs
+pub reached-slack : (w : CableWorld) → IsReached w → slack w ≡ 0
+reached-slack w r = even-none w.nodes (λ k x at. ap is_even (reached-even w r k x at))
 
 -- ---- missed turns
 

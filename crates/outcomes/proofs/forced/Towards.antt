@@ -20,7 +20,7 @@ use Rattle.outcomes.proofs.forced.Spread.{Turned, turned, all-reset, some-nodes}
 use Rattle.outcomes.specs.Forced.{CanBeForcedAt}
 use Rattle.outcomes.proofs.forced.Waits.{outside, steadily, spread-most, waiting}
 use Rattle.port_state.specs.Machine.{beat, on_beat}
-use Rattle.convergence.proofs.turns.Moves.{coin_of}
+use Rattle.convergence.proofs.Lemmas.{coin_of}
 use Rattle.cable_world.proofs.Lemmas.{in-turn-rises}
 use Rattle.convergence.proofs.Lemmas.{some-slack}
 

@@ -10,8 +10,9 @@ use Rattle.cable_world.specs.Times.{Suits, CanBeForced}
 use Rattle.outcomes.specs.Forced.{CanBeForcedAt}
 use Rattle.port_state.specs.declared.view.View.{View}
 use Rattle.cable_world.specs.Phases.{is_timed}
-use Rattle.cable_world.proofs.Lemmas.{quiet-timed, steady}
-use Rattle.convergence.proofs.Lemmas.{late-start}
+use Rattle.cable_world.specs.Run.{IsReached}
+use Rattle.cable_world.proofs.Lemmas.{quiet-timed, reached-forced, steady}
+use Rattle.convergence.proofs.Lemmas.{late-start, reached-slack}
 use Rattle.outcomes.proofs.forced.Forced.{SameDue, due-heard, kept-heard, beat-tick-holds, Takes, beat-tick-takes, waits-parentless}
 use Rattle.outcomes.proofs.forced.Spread.{Turned, turned, spreads, all-reset}
 use Rattle.port_state.specs.Machine.{beat, on_beat}
@@ -29,6 +30,10 @@ tree-between p h = rw h refl
 
 tree-timed : (p : Phase) → p ≡ phase.TreeStart → is_timed p ≡ true
 tree-timed p h = rw h refl
+
+-- a world that runs gives each node time enough to be forced
+pub reached-enough : (w : CableWorld) (k : ℕ) → IsReached w → CanBeForcedAt w k
+reached-enough w k r = (reached-slack w r, reached-forced w r k)
 
 -- ---- turns after the last entry
 
@@ -155,7 +160,7 @@ module _
             let takes : Takes now (on_beat (beat c.node) now).state = beat-tick-takes (beat c.node) now (ap is_before_tree c.heard.phase ∙ e) (sym (ap (λ (z : NodeState). is_before_tree z.view.phase) c.is) ∙ h) in
             let timer : c.node.state.view.timer + c.node.state.timing.hold ≤ i = q.tree (sym c.heard.phase ∙ takes.start) in
             let time : CanBeForced w.delay w.longest c.node.state.timing =
-            quiet-timed (λ j t. j ≡ k → CanBeForced w.delay w.longest t) hs i w l (λ j x at_j same. can.1 x (subst (λ n. slice_get w.nodes n ≡ Some x) same at_j)) k c.node c.at refl in
+            quiet-timed (λ j t c. j ≡ k → CanBeForced w.delay w.longest t) hs i w (λ j t c p. p) l (λ j x at_j same. can.1 x (subst (λ n. slice_get w.nodes n ≡ Some x) same at_j)) k c.node c.at refl in
             let force : w.longest.hold + 127 * w.delay < c.node.state.timing.hold + now.timing.force = omega (arith, time.enough, ap (λ (z : Timing). z.force) c.hears.timing) in
             let waits : now.view.force ≡ true = (kept-heard (signals v k) c.node.state (ap is_resetting c.heard.phase)).0 ∙ q.waits in
             ap (λ (z : NodeState). z.view.parent) c.is ∙ takes.parent

@@ -21,8 +21,8 @@ quiet_turns_for-quiet-requires-clause-short_delay g c =
 pub returns : goal.returns
 returns g c few fine =
     let w = g.W.WorldRun.world c.args.world.now in
-    let lawful = lawful-now w (g.met.W.WorldRun.reached c.args.world.now (sym c.spent.ensures ∙ c.if-spent.false)) in
+    let reached = g.met.W.WorldRun.reached c.args.world.now (sym c.spent.ensures ∙ c.if-spent.false) in
     let q : c.quiet_turns_for-quiet.result ≡ quiet_turns_of w =
-    c.quiet_turns_for-quiet.ensures w (sized w c.nodes.result c.delay.result c.longest.result lawful (c.nodes.ensures.value ∙ ap length c.cabling.ensures) c.delay.ensures c.longest.ensures) in
+    c.quiet_turns_for-quiet.ensures w (sized w c.nodes.result c.delay.result c.longest.result reached (c.nodes.ensures.value ∙ ap length c.cabling.ensures) c.delay.ensures c.longest.ensures) in
     let small : w.turns + c.quiet_turns_for-quiet.result ≤ 4000000000 = search rules in
     subst (λ (n : ℕ). w.turns + n ≤ 4000000000) q small
