@@ -447,7 +447,8 @@ enum busconf_status busconf_trace_event(const char *text, size_t count, size_t a
                                         size_t *next);
 
 /* Is called for an event with what busconf_trace_each was given for it. `line` is the event's line, of `length` bytes with
- * its line feed, and the names of the event are parts of it. Both are there until this returns. */
+ * its line feed, and the names of the event are parts of it. Both are there until this returns. It must return: a
+ * longjmp or an exception of C++ out of it would leave the memory of busconf_trace_each behind. */
 typedef int (*busconf_event_call)(void *context, const struct busconf_event *event, const char *line, size_t length);
 
 /* Calls back for each event of a script's bus, in the order in which they happen, until a call returns something other

@@ -442,6 +442,9 @@ class Refused(ValueError):
         self.sentence = sentence
         self.which = which
 
+    def __reduce__(self) -> tuple[Any, ...]:
+        return Refused, (self.fault, self.line, self.sentence, self.which)
+
 
 class Denied(Exception):
     """An allocation or a release is refused. `detail` and `now` are those of the header's struct busconf_grant."""
@@ -450,13 +453,22 @@ class Denied(Exception):
         super().__init__(f"{kind.name}: {detail}, now {now}")
         self.kind, self.detail, self.now = kind, detail, now
 
+    def __reduce__(self) -> tuple[Any, ...]:
+        return Denied, (self.kind, self.detail, self.now)
+
 
 # ---- the shared object
 
 
 def _load() -> ctypes.CDLL:
-    library = ctypes.CDLL(os.environ.get("BUSCONF_LIBRARY", "libbusconf.so.0"))
-    library.busconf_version.restype = U32
+    name = os.environ.get("BUSCONF_LIBRARY") or "libbusconf.so.0"
+    try:
+        library = ctypes.CDLL(name)
+        library.busconf_version.restype = U32
+    except OSError as error:
+        raise ImportError(f"the library {name} can't be loaded: {error}") from error
+    except AttributeError as error:
+        raise ImportError(f"{name} is no libbusconf: it has no call busconf_version") from error
     found = library.busconf_version()
     if found // 1000 != VERSION[0] * 1000 + VERSION[1]:
         raise ImportError(f"libbusconf has the version {found}, and this module is for {'.'.join(map(str, VERSION))}")
@@ -483,15 +495,29 @@ def _answer(status: int) -> Status:
     return Status(status)
 
 
+def _fits(what: str, value: int, item: Any) -> Any:
+    """A number as the calls take it, where it has the room of a C type."""
+    most = (1 << 8 * ctypes.sizeof(item)) - 1
+    if not 0 <= value <= most:
+        raise ValueError(f"{what} is 0 to {most}")
+    return item(value)
+
+
+def _year(standard: int) -> Any:
+    if standard not in tuple(Standard):
+        raise ValueError("the standard is neither 1995 nor 2000")
+    return U32(standard)
+
+
 def _listed(quads: Iterable[int]) -> tuple[Any, Any]:
     """A list as the calls take it: a pointer and a length."""
-    values = list(quads)
-    if any(not 0 <= it < 1 << 32 for it in values):
-        raise ValueError("a quadlet is 0 to 4294967295")
+    values = [_fits("a quadlet", it, U32).value for it in quads]
     return (U32 * len(values))(*values), SIZE(len(values))
 
 
 def _bytes(data: bytes) -> tuple[Any, Any]:
+    """Bytes as the calls take them. Of a view whose items are wider it is the bytes that count."""
+    data = memoryview(data).tobytes()
     return (ctypes.c_char * len(data)).from_buffer_copy(data), SIZE(len(data))
 
 
@@ -547,18 +573,18 @@ def _node_of(node: _Node) -> Node:
 
 def read(quads: Iterable[int], standard: int = Standard.IEEE2000) -> Bus:
     """The bus of a list. Raises `Refused`, and `ValueError` of another standard."""
-    return _read(_library.busconf_read, _library.busconf_sentence, (*_listed(quads), U32(standard)))
+    return _read(_library.busconf_read, _library.busconf_sentence, (*_listed(quads), _year(standard)))
 
 
 def read_capture(data: bytes, standard: int = Standard.IEEE2000) -> Bus:
     """The bus of the bytes of a capture: of each packet its quadlet and then the bitwise inverse of it, each with its
     highest byte first. Raises as `read`."""
-    words = (*_bytes(data), U32(standard))
+    words = (*_bytes(data), _year(standard))
     return _read(_library.busconf_read_capture, _library.busconf_sentence_capture, words)
 
 
 def _of_list(call: Callable[..., int], quads: Iterable[int], standard: int, found: Any) -> Status:
-    words, fault = (*_listed(quads), U32(standard)), _Fault()
+    words, fault = (*_listed(quads), _year(standard)), _Fault()
     status = _answer(call(*words, ctypes.byref(found), ctypes.byref(fault)))
     if status == Status.REFUSED:
         raise _refused(fault, _library.busconf_sentence, words)
@@ -601,17 +627,17 @@ def diff(old: Iterable[int], new: Iterable[int], standard: int = Standard.IEEE20
     exactly what differs is told. Raises as `read`: `which` of the exception is the list that is refused."""
     lists = _listed(old), _listed(new)
     which, fault = U8(), _Fault()
-    before, behind = (*lists[0], *lists[1], U32(standard)), (ctypes.byref(which), ctypes.byref(fault))
+    before, behind = (*lists[0], *lists[1], _year(standard)), (ctypes.byref(which), ctypes.byref(fault))
     status, told = _told(_library.busconf_diff, before, behind, _Change)
     if status == Status.REFUSED:
-        refused = _refused(fault, _library.busconf_sentence, (*lists[which.value - 1], U32(standard)))
+        refused = _refused(fault, _library.busconf_sentence, (*lists[which.value - 1], _year(standard)))
         refused.which = Which(which.value)
         raise refused
     return [_change_of(it) for it in told]
 
 
 def _map(call: Callable[..., int], quads: Iterable[int], standard: int, more: tuple[Any, ...], item: Any) -> Any:
-    words, fault = (*_listed(quads), U32(standard)), _Fault()
+    words, fault = (*_listed(quads), _year(standard)), _Fault()
     status, told = _told(call, (*words, *more), (ctypes.byref(fault),), item)
     if status == Status.REFUSED:
         raise _refused(fault, _library.busconf_sentence, words)
@@ -620,12 +646,12 @@ def _map(call: Callable[..., int], quads: Iterable[int], standard: int, more: tu
 
 def topology_map(quads: Iterable[int], generation: int, standard: int = Standard.IEEE2000) -> list[int]:
     """The quadlets of the topology map of a list's bus. Raises as `read`."""
-    return _map(_library.busconf_topology_map, quads, standard, (U32(generation),), U32)
+    return _map(_library.busconf_topology_map, quads, standard, (_fits("a generation", generation, U32),), U32)
 
 
 def speed_map(quads: Iterable[int], generation: int, standard: int = Standard.IEEE2000) -> list[int]:
     """The quadlets of the speed map of a list's bus. Raises as `read`."""
-    return _map(_library.busconf_speed_map, quads, standard, (U32(generation),), U32)
+    return _map(_library.busconf_speed_map, quads, standard, (_fits("a generation", generation, U32),), U32)
 
 
 def speed_rows(quads: Iterable[int], standard: int = Standard.IEEE2000) -> bytes:
@@ -646,9 +672,7 @@ class Reader:
 
     def push(self, quad: int) -> None:
         """Takes the next quadlet, 0 to 4294967295."""
-        if not 0 <= quad < 1 << 32:
-            raise ValueError("a quadlet is 0 to 4294967295")
-        _library.busconf_reader_push(ctypes.byref(self._reader), U32(quad))
+        _library.busconf_reader_push(ctypes.byref(self._reader), _fits("a quadlet", quad, U32))
 
     def state(self) -> tuple[Status, Fault | None]:
         """OK where a bus sends the list so far by IEEE 1394a-2000; REFUSED with the fault that the list keeps however it
@@ -661,7 +685,7 @@ class Reader:
         """By either standard: OK with the bus that sends the list so far, or REFUSED or INCOMPLETE with a fault, as
         `state` says it."""
         nodes, bus, fault = (_Node * MAX_NODES)(), _Bus(), _Fault()
-        status = _answer(_library.busconf_reader_bus(ctypes.byref(self._reader), U32(standard), nodes, SIZE(MAX_NODES),
+        status = _answer(_library.busconf_reader_bus(ctypes.byref(self._reader), _year(standard), nodes, SIZE(MAX_NODES),
                                                      ctypes.byref(bus), ctypes.byref(fault)))
         return status, _bus_of(bus, nodes) if status == Status.OK else _fault_of(fault)
 
@@ -674,19 +698,24 @@ class Reader:
 # ---- packets and the CRC
 
 
+_FIELDS = tuple(it[0] for it in _Packet._fields_)
+
+
 def decode(quad: int) -> dict[str, int]:
     """The packet that a quadlet shows: its `kind`, a `PacketKind`, and the fields of the header's struct
     busconf_packet."""
     packet = _Packet()
-    _library.busconf_decode(U32(quad), ctypes.byref(packet))
-    return {it[0]: getattr(packet, it[0]) for it in _Packet._fields_} | {"kind": PacketKind(packet.kind)}
+    _library.busconf_decode(_fits("a quadlet", quad, U32), ctypes.byref(packet))
+    return {it: getattr(packet, it) for it in _FIELDS} | {"kind": PacketKind(packet.kind)}
 
 
 def encode(packet: dict[str, int]) -> int:
-    """The quadlet of a packet, of which a field that isn't there is 0. Raises `ValueError` where the kind is none or a
-    field doesn't fit its bits."""
+    """The quadlet of a packet, of which a field that isn't there is 0. Raises `ValueError` where the kind is none, a field
+    doesn't fit its bits, or a name is that of no field."""
     found, quad = _Packet(), U32()
     for name, value in packet.items():
+        if name not in _FIELDS:
+            raise ValueError(f"a packet has no field {name}")
         setattr(found, name, value)
         if getattr(found, name) != value:
             raise ValueError(f"{name} doesn't fit its bits")
@@ -806,14 +835,16 @@ class Registers:
     def read(self, offset: int) -> tuple[int, int]:
         """The value at an offset and the response code: complete 0, address error 7."""
         reply = _Reply()
-        _library.busconf_registers_read(ctypes.byref(self._registers), U32(offset), ctypes.byref(reply))
+        at = _fits("an offset", offset, U32)
+        _library.busconf_registers_read(ctypes.byref(self._registers), at, ctypes.byref(reply))
         return reply.value, reply.rcode
 
     def lock(self, offset: int, arg: int, value: int, kind: int = 2) -> tuple[int, int]:
         """A lock, by default compare_swap: the value found and the response code."""
         reply = _Reply()
-        _library.busconf_registers_lock(ctypes.byref(self._registers), U32(offset), U8(kind), U32(arg), U32(value),
-                                        ctypes.byref(reply))
+        numbers = (_fits("an offset", offset, U32), _fits("a kind", kind, U8), _fits("an argument", arg, U32),
+                   _fits("a value", value, U32))
+        _library.busconf_registers_lock(ctypes.byref(self._registers), *numbers, ctypes.byref(reply))
         return reply.value, reply.rcode
 
     def look(self) -> tuple[int, int, int]:
@@ -834,7 +865,10 @@ class Registers:
     def _ask(self, call: Callable[..., int], channel: int, units: int, seen: tuple[int, int, int] | None) -> None:
         if not (0 <= channel <= 63 and 0 <= units <= 4915):
             raise ValueError("a channel is 0 to 63 and units are 0 to 4915")
-        saw, grant = _Seen(*(seen or self.look())), _Grant()
+        numbers = tuple(self.look() if seen is None else seen)
+        if len(numbers) != 3:
+            raise ValueError("what was seen is the bandwidth and both words of the channels")
+        saw, grant = _Seen(*(_fits("a number seen", it, U32) for it in numbers)), _Grant()
         status = _answer(call(ctypes.byref(self._registers), ctypes.byref(saw), U8(channel), U16(units),
                               ctypes.byref(grant)))
         if status == Status.REFUSED:

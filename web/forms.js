@@ -14,7 +14,8 @@ function readText(text, inverses) {
 }
 
 function readBytes(bytes, inverses) {
-  if (isText(bytes)) return readText(String.fromCharCode(...bytes), inverses);
+  const text = textOf(bytes);
+  if (text !== null) return readText(text, inverses);
   if (beginsTurned(bytes, 0)) return turned(bytes, 0, "a capture with the bytes of its quadlets turned round");
   if (beginsTurned(bytes, 4)) return turned(bytes, 4, "the self-ID buffer of an OHCI controller");
   return { form: "bytes", lists: [listOfBytes("", bytes, inverses)] };
@@ -42,7 +43,7 @@ function readTrace(text) {
     const ofNode = numbersOf(line, "self_id_sequence");
     const name = nameOfEvent(line);
     if (ofNode && sequence && sequence.name === name) {
-      sequence.pairs.push(...listOfFirsts(name, ofNode).pairs);
+      addFirsts(sequence, ofNode);
       continue;
     }
     if (ofNode) lists.push(sequence = listOfFirsts(name, ofNode));
@@ -72,7 +73,7 @@ function readLog(text) {
     const packet = line.match(/\bselfID [0n]: ([0-9a-f]{8})\b/i);
     if (begin) lists.push(listOfFirsts(`generation ${begin[1]}`, []));
     if (packet && lists.length === 0) lists.push(listOfFirsts("", []));
-    if (packet) lists.at(-1).pairs.push(...listOfFirsts("", [parseInt(packet[1], 16)]).pairs);
+    if (packet) addFirsts(lists.at(-1), [parseInt(packet[1], 16)]);
   }
   return lists.length > 0 ? lists : null;
 }
@@ -106,14 +107,30 @@ function readWords(text, inverses) {
 // Digits with white space or colons, or none.
 function readDigits(text, inverses) {
   const digits = text.replace(/[\s:]/g, "");
-  if (!/^([0-9a-f]{2})*$/i.test(digits)) return null;
+  if (digits.length % 2 !== 0 || /[^0-9a-f]/i.test(digits)) return null;
   return [listOfBytes("", bytesOfDigits(digits), inverses)];
 }
 
 // ---- Bytes
 
-function isText(bytes) {
-  return bytes.length > 0 && bytes.every((byte) => (byte >= 32 && byte < 127) || [9, 10, 13].includes(byte));
+// The text that bytes are, or null. Text has no control characters but tabs and the ends of lines. It is UTF-8; or
+// UTF-16 after a byte order mark; or bytes of any letters in which an event of a trace or a driver's line is found. No
+// capture is UTF-8, since its first byte is 80.
+function textOf(bytes) {
+  if (bytes.length === 0) return null;
+  const marked = { "fffe": "utf-16le", "feff": "utf-16be" }[hexOf(bytes.subarray(0, 2))];
+  if (marked) return new TextDecoder(marked).decode(bytes);
+  if (bytes.some((byte) => byte < 32 && ![9, 10, 13].includes(byte))) return null;
+  try {
+    return new TextDecoder("utf-8", { fatal: true }).decode(bytes);
+  } catch {
+    const text = new TextDecoder("latin1").decode(bytes);
+    return /\b(self_ids|packet_data|self_id_sequence)=|\bselfID [0n]:/.test(text) ? text : null;
+  }
+}
+
+function hexOf(bytes) {
+  return Array.from(bytes, (byte) => byte.toString(16).padStart(2, "0")).join("");
 }
 
 // Whether a pair of node 0 stands at a place, its quadlets with the lowest byte first.
@@ -130,7 +147,7 @@ function turned(bytes, at, form) {
 }
 
 function bytesOfDigits(digits) {
-  return Uint8Array.from(digits.match(/../g) ?? [], (two) => parseInt(two, 16));
+  return Uint8Array.from({ length: digits.length / 2 }, (_, at) => parseInt(digits.slice(2 * at, 2 * at + 2), 16));
 }
 
 // The bytes of quadlets, of each the highest first.
@@ -159,6 +176,10 @@ function listOfBytes(name, bytes, inverses) {
 
 function listOfFirsts(name, quadlets) {
   return { name, pairs: quadlets.map((first) => ({ first, second: null })), rest: 0 };
+}
+
+function addFirsts(list, quadlets) {
+  for (const first of quadlets) list.pairs.push({ first, second: null });
 }
 
 function listOfPairs(name, bytes) {

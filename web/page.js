@@ -13,6 +13,16 @@ const EXAMPLES = {
 `,
 };
 
+// The version of this page, which has to be the module's.
+const VERSION = "0.3.0";
+
+// The most that is read, in bytes of a file or characters of a text: as much as the programs take.
+const MOST = 1048576;
+// The most packets that are shown field by field. No bus has more than 252.
+const MOST_ROWS = 1000;
+
+const NO_MODULE = "The module busconf-wasm.js isn't beside this page, so nothing can be judged. Put all files of the "
+  + "page into one folder.";
 const OLD_BROWSER = "This browser can't run the module, which needs WebAssembly with addresses of 64 bits. Chromium "
   + "and Chrome have that since version 133, Firefox since 134.";
 
@@ -21,15 +31,16 @@ const find = (id) => document.getElementById(id);
 // The bytes of the dropped file that is shown, or null where the text is.
 let dropped = null;
 let library = null;
+// How often something was typed, chosen or dropped. A file that is read later than that isn't shown.
+let turns = 0;
 
 function begin() {
-  try {
-    library = new Library(Uint8Array.from(atob(BUSCONF_WASM), (letter) => letter.charCodeAt(0)));
-  } catch (error) {
-    showVerdict("bad", [OLD_BROWSER, String(error)]);
+  const fault = loadLibrary();
+  if (fault) {
+    showVerdict("bad", fault);
     return;
   }
-  find("version").textContent = `busconf ${versionOf(library.calls.busconf_version())}`;
+  find("version").textContent = `busconf ${VERSION}`;
   find("input").addEventListener("input", () => { dropped = null; update(); });
   find("file").addEventListener("change", (event) => takeFile(event.target.files[0]));
   for (const field of document.querySelectorAll("[name=standard], #inverses")) field.addEventListener("change", update);
@@ -39,6 +50,23 @@ function begin() {
   }
   takeDrops();
   showExample("hub");
+}
+
+// Loads the module, and answers what is wrong with it, or nothing.
+function loadLibrary() {
+  if (typeof BUSCONF_WASM === "undefined") return [NO_MODULE];
+  let made;
+  try {
+    made = new Library(Uint8Array.from(atob(BUSCONF_WASM), (letter) => letter.charCodeAt(0)));
+  } catch (error) {
+    return [OLD_BROWSER, String(error)];
+  }
+  const version = versionOf(made.calls.busconf_version());
+  if (version !== VERSION) {
+    return [`The module beside this page is of version ${version}, and the page of ${VERSION}: take both from one package.`];
+  }
+  library = made;
+  return null;
 }
 
 function showExample(name) {
@@ -64,9 +92,34 @@ function takeDrops() {
   });
 }
 
+// Reads a file and shows it, unless something else was shown meanwhile.
 async function takeFile(file) {
   if (!file) return;
-  showBytes(file.name, new Uint8Array(await file.arrayBuffer()));
+  const turn = ++turns;
+  if (file.size > MOST) {
+    refuse(tooLong(file.name, `${file.size} bytes`));
+    return;
+  }
+  let bytes;
+  try {
+    bytes = new Uint8Array(await file.arrayBuffer());
+  } catch (error) {
+    if (turn === turns) refuse([`${file.name} can't be read. A folder is no file.`, String(error)]);
+    return;
+  }
+  if (turn === turns) showBytes(file.name, bytes);
+}
+
+function tooLong(name, length) {
+  return [`${name} has ${length}. This page reads ${MOST} at most.`, "busview resets reads logs of any length."];
+}
+
+// Says why nothing is shown. Nothing of what was shown before stays.
+function refuse(lines) {
+  dropped = null;
+  find("input").value = "";
+  clear();
+  showVerdict("bad", lines);
 }
 
 function showText(text) {
@@ -77,8 +130,9 @@ function showText(text) {
 
 // Shows a file. Text goes into the field, where it can be changed.
 function showBytes(name, bytes) {
-  if (isText(bytes)) {
-    showText(String.fromCharCode(...bytes));
+  const text = textOf(bytes);
+  if (text !== null) {
+    showText(text);
     return;
   }
   dropped = { name, bytes };
@@ -86,11 +140,27 @@ function showBytes(name, bytes) {
   update();
 }
 
+// Shows what there is now. Where that fails, it says so: no verdict of what was there before stays.
 function update() {
+  turns += 1;
+  try {
+    show();
+  } catch (error) {
+    clear();
+    showVerdict("bad", ["The page failed over this input, so there is no verdict on it.", String(error)]);
+  }
+}
+
+function show() {
   const inverses = find("inverses").value;
   const text = find("input").value;
   if (!dropped && text.trim() === "") {
     clear();
+    return;
+  }
+  if (text.length > MOST) {
+    clear();
+    showVerdict("bad", tooLong("This text", `${text.length} characters`));
     return;
   }
   const read = dropped ? readBytes(dropped.bytes, inverses) : readText(text, inverses);
@@ -171,11 +241,18 @@ function gapsOf(bus) {
   return `Hops: ${hops}, ${hops > 15 ? "past the end of the standard's table" : table}. ${said}`;
 }
 
+// Shows the packets. Of a longer list the first rows are shown, and the one at fault.
 function showPackets(list, fault) {
   find("packets").hidden = false;
-  const rows = list.pairs.map((pair, at) => rowOf(pair, at, fault));
-  if (list.rest > 0) rows.push(rowOfRest(list));
-  find("rows").replaceChildren(...rows);
+  const rows = document.createDocumentFragment();
+  list.pairs.slice(0, MOST_ROWS).forEach((pair, at) => rows.append(rowOf(pair, at, fault)));
+  const hidden = list.pairs.length - MOST_ROWS;
+  if (hidden > 0) rows.append(rowWith([withText("td", ""), withText("td", `${hidden} more aren't shown`)]));
+  if (fault && fault.at >= MOST_ROWS && fault.at < list.pairs.length) {
+    rows.append(rowOf(list.pairs[fault.at], fault.at, fault));
+  }
+  if (list.rest > 0) rows.append(rowOfRest(list));
+  find("rows").replaceChildren(rows);
 }
 
 function rowOf({ first, second }, at, fault) {

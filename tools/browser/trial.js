@@ -155,6 +155,72 @@ async function tryDrop() {
   expect("a buffer", "the verdict", verdict(), TWO);
 }
 
+const sleep = (milliseconds) => new Promise((done) => setTimeout(done, milliseconds));
+
+// A long trace, and the most bytes that the programs take, are shown whole or said to be too long; none leaves the
+// verdict of the bus before it.
+async function trySizes() {
+  const line = "firewire: bus_reset_handle: status=0 self_ids={0x807f8094,0x817f88d4}\n";
+  showExample("hub");
+  await takeFile(new File([line.repeat(Math.ceil(300000 / line.length))], "long.txt"));
+  expect("a trace of 300 KB", "the verdict", verdict(), TWO);
+  showExample("hub");
+  await takeFile(new File([new Uint8Array(MOST).fill(0x80)], "most.bin"));
+  expect("1,048,576 bytes", "the verdict", verdict(), "refused pair 0 BadInverse");
+  expect("1,048,576 bytes", "the rows", find("rows").children.length, MOST_ROWS + 1);
+  showExample("hub");
+  await takeFile(new File([new Uint8Array(2 * MOST)], "two.bin"));
+  expect("2 MB", "the verdict", verdict(), `two.bin has ${2 * MOST} bytes. This page reads ${MOST} at most.`);
+  expect("2 MB", "no drawing", find("bus").hidden, true);
+  showExample("hub");
+  type("80".repeat(MOST));
+  expect("a long text", "the verdict", verdict(), `This text has ${2 * MOST} characters. This page reads ${MOST} at most.`);
+  type("80".repeat(MOST / 2));
+  expect("262,144 quadlets alone", "the verdict", verdict().split(" ").slice(0, 3).join(" "), "refused pair 1");
+  type(`self_ids={${"0x807f8094,".repeat(90000)}0x0}`);
+  expect("90,001 numbers", "the verdict", verdict().split(" ")[0], "refused");
+}
+
+// A file that can't be read, one that comes late, and an error of the page itself.
+async function tryFaults() {
+  showExample("hub");
+  await takeFile({ name: "folder", size: 4096, arrayBuffer: () => Promise.reject(new Error("no file")) });
+  expect("a folder", "the verdict", verdict(), "folder can't be read. A folder is no file.");
+  expect("a folder", "no drawing", find("bus").hidden, true);
+  const late = toBytes("807f80947f807f6b817f88d47e80772b");
+  const slow = takeFile({ name: "late", size: 16, arrayBuffer: async () => { await sleep(300); return late.buffer; } });
+  showExample("hub");
+  await slow;
+  expect("a late file", "the verdict", verdict(), HUB);
+  const { read } = library;
+  library.read = () => { throw new Error("broken"); };
+  type("807f8094");
+  library.read = read;
+  expect("an error", "the verdict", verdict(), "The page failed over this input, so there is no verdict on it.");
+  expect("an error", "no packets", find("packets").hidden, true);
+}
+
+// Texts in other letters than ASCII, in each of the ways in which they come.
+function tryLetters() {
+  const line = "h\u00e9-1 self_ids={0x807f8094,0x817f88d4}\n";
+  const utf16 = (text, isBig) => Uint8Array.from([...`\uFEFF${text}`].flatMap((letter) => {
+    const pair = [letter.charCodeAt(0) % 256, letter.charCodeAt(0) >> 8];
+    return isBig ? pair.reverse() : pair;
+  }));
+  const ways = {
+    "UTF-8": new TextEncoder().encode(line),
+    "UTF-8 after a mark": new TextEncoder().encode(`\uFEFF${line}`),
+    "latin 1": Uint8Array.from(line, (it) => it.charCodeAt(0)),
+    "UTF-16": utf16(line, false),
+    "big-endian UTF-16": utf16(line, true),
+  };
+  for (const [name, bytes] of Object.entries(ways)) {
+    showExample("hub");
+    showBytes(name, bytes);
+    expect(name, "the verdict", verdict(), TWO);
+  }
+}
+
 async function runTrial() {
   try {
     READ.forEach(tryRead);
@@ -163,13 +229,16 @@ async function runTrial() {
     tryLists();
     tryOther();
     await tryDrop();
+    await trySizes();
+    await tryFaults();
+    tryLetters();
   } catch (error) {
     failed.push(`FAILED: ${error.stack}`);
   }
   const told = document.createElement("pre");
   told.id = "trial";
   const passed = `passed: ${READ.length} captures as digits and as bytes (${seen.alone ?? 0} once it is said that they are `
-    + `pairs), ${PACKETS.length} packet by packet, ${seen.forms} texts, resets, examples and a dropped file`;
+    + `pairs), ${PACKETS.length} packet by packet, ${seen.forms} texts, resets, examples, files, sizes, faults and letters`;
   told.textContent = failed.length > 0 ? failed.slice(0, 20).join("\n") : passed;
   document.body.append(told);
 }

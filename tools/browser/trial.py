@@ -75,6 +75,7 @@ def test(folder):
     if not said.startswith("passed"):
         return 1
     served(folder)
+    without_its_module(folder)
     picture(os.path.join(folder, "picture.png"), folder)
     return 0
 
@@ -95,6 +96,24 @@ def served(folder):
     if '<p>nodes 5 root 4 irm none</p>' not in shown:
         sys.exit("web: a web server doesn't show the page as it is")
     print("web: a web server shows the page")
+
+
+def without_its_module(folder):
+    """Beside no module, or one of another version, the page says so."""
+    other = os.path.join(folder, "other")
+    shutil.copytree(folder, other)
+    page = os.path.join(other, "page.js")
+    script = data_of(page).decode()
+    with open(page, "w", encoding="utf-8") as file:
+        file.write(re.sub(r'VERSION = ".*?"', 'VERSION = "0.0.1"', script))
+    shown = chromium("--dump-dom", f"file://{other}/index.html")
+    if "and the page of 0.0.1: take both from one package." not in shown:
+        sys.exit("web: the page doesn't say that its module is of another version")
+    os.remove(os.path.join(other, "busconf-wasm.js"))
+    if "<p>The module busconf-wasm.js isn't beside this page" not in chromium("--dump-dom", f"file://{other}/index.html"):
+        sys.exit("web: the page doesn't say that its module isn't there")
+    shutil.rmtree(other)
+    print("web: the page says where its module isn't there, or is of another version")
 
 
 def picture(to, folder):

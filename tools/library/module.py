@@ -2,10 +2,14 @@
 
 The first argument is the top of the repository; BUSCONF_LIBRARY names the shared object.
 """
+import array
 import ctypes
+import ctypes.util
 import glob
 import os
+import pickle
 import re
+import subprocess
 import sys
 
 top = sys.argv[1]
@@ -263,14 +267,53 @@ except busconf.Denied as denied:
     expect(denied.kind == busconf.GrantKind.CHANGED and denied.now == 4000, "by which register")
 registers.release(31, 915)
 expect(registers.attempt(5) == (True, 5) and registers.attempt(6) == (False, 5), "one bus manager")
-for wrong in (lambda: busconf.read([1 << 32]), lambda: busconf.read([], 1996), lambda: busconf.run(b"\n" * 1048577)):
+WIDE = 1 << 32
+before = registers.values()
+for what, wrong in {
+    "a quadlet of a list": lambda: busconf.read([WIDE]),
+    "a quadlet below 0": lambda: busconf.decode(-1),
+    "a quadlet to decode": lambda: busconf.decode(WIDE + 5),
+    "a quadlet of a reader": lambda: busconf.Reader().push(WIDE),
+    "another standard": lambda: busconf.read([], 1996),
+    "a wide standard": lambda: busconf.read(quads, WIDE + 2000),
+    "a long script": lambda: busconf.run(b"\n" * 1048577),
+    "a generation": lambda: busconf.topology_map(quads, -1),
+    "a wide generation": lambda: busconf.speed_map(quads, WIDE),
+    "a field that there is not": lambda: busconf.encode({"kind": busconf.PacketKind.SELF_ZERO, "gap_count": 5}),
+    "an offset": lambda: registers.read(WIDE + 0x220),
+    "a kind": lambda: registers.lock(0x220, 4915, 1, 258),
+    "an argument": lambda: registers.lock(0x220, WIDE, 1),
+    "a value": lambda: registers.lock(0x220, 4915, -1),
+    "two numbers seen": lambda: registers.allocate(1, 1, (1, 2)),
+    "a number seen": lambda: registers.allocate(1, 1, (WIDE, 0, 0)),
+}.items():
     try:
         wrong()
-        bad.append("no ValueError")
+        bad.append(f"{what}: no ValueError")
     except busconf.Refused:
-        bad.append("refused in place of a ValueError")
+        bad.append(f"{what}: refused in place of a ValueError")
     except ValueError:
         pass
+expect(registers.values() == before, "a lock past its width writes nothing")
+
+# Views count by their bytes, whatever their items.
+for view in (array.array("I", capture), memoryview(capture).cast("I"), bytearray(capture)):
+    expect(busconf.read_capture(view) == bus, f"a capture as {type(view).__name__}")
+
+# Exceptions go from one process to another.
+for wrong in (lambda: busconf.read(quads[:1]), lambda: registers.allocate(31, 4915, seen)):
+    try:
+        wrong()
+        bad.append("no exception")
+    except (busconf.Refused, busconf.Denied) as told:
+        copy = pickle.loads(pickle.dumps(told))
+        expect(type(copy) is type(told) and copy.__dict__ == told.__dict__ and str(copy) == str(told), "a copied exception")
+
+# Libraries that can't be had, or are others.
+for library, said in (("/nothing.so", "can't be loaded"), (ctypes.util.find_library("m") or "libm.so.6", "is no libbusconf")):
+    how = {**os.environ, "BUSCONF_LIBRARY": library, "PYTHONPATH": os.path.join(top, "python")}
+    done = subprocess.run([sys.executable, "-c", "import busconf"], capture_output=True, text=True, env=how, check=False)
+    expect("ImportError: " in done.stderr and said in done.stderr, f"the library {library}")
 
 print("\n".join(f"library: module.py: {it}: not what is wanted" for it in bad) or "library: module.py: all of busconf.py")
 sys.exit(1 if bad else 0)

@@ -2,10 +2,12 @@
 import hashlib
 import io
 import os
+import re
 import subprocess
 import tarfile
 import tempfile
 
+import answers
 from contents import (Built, Fault, machine_tarball_of, page_tarball_of, run, tarball_of,
                       vectors_tarball_of)
 from debian import packages_of
@@ -74,14 +76,29 @@ def tarballs_of(built):
         yield f"busconf-vectors-{built.version}", vectors_tarball_of(built)
 
 
+# The names of the files that make leaves.
+OURS = re.compile(r"((lib)?busconf(-web|-vectors)?-[\d.]+(-\w+-linux)?\.tar\.xz"
+                  r"|(busconf|busconf-web|busconf-vectors|python3-busconf|libbusconf0|libbusconf-dev)_[\w.-]+\.deb"
+                  r"|SHA256SUMS|PROVED)")
+
+
 def make(to, vectors=None, backwards=False):
-    """Makes all packages in a folder, with their checksums, and answers what they were made of. What stood there of
-    earlier packages is removed."""
+    """Makes all packages in a folder, with their checksums, and answers what they were made of. Earlier packages of ours
+    that are there are removed, and nothing else. Each file comes into the folder whole."""
     built = Built(vectors)
+    answers.check(built)
     os.makedirs(to, exist_ok=True)
-    for name in os.listdir(to):
-        if name.endswith((".deb", ".tar.xz")) or name in ("SHA256SUMS", "PROVED"):
+    with tempfile.TemporaryDirectory(prefix=".making-", dir=to) as room:
+        made = make_all(built, room, backwards)
+        for name in filter(OURS.fullmatch, os.listdir(to)):
             os.remove(os.path.join(to, name))
+        for name in made:
+            os.rename(os.path.join(room, name), os.path.join(to, name))
+    return built, sorted(made)
+
+
+def make_all(built, to, backwards):
+    """Makes all packages in an empty folder, and answers their names, SHA256SUMS last."""
     made = []
     for name, files in tarballs_of(built):
         made.append(f"{name}.tar.xz")
@@ -95,7 +112,7 @@ def make(to, vectors=None, backwards=False):
     sums = "".join(f"{sum_of(os.path.join(to, name))}  {name}\n" for name in sorted(made))
     with open(os.path.join(to, "SHA256SUMS"), "w", encoding="utf-8") as file:
         file.write(sums)
-    return built, sorted([*made, "SHA256SUMS"])
+    return [*made, "SHA256SUMS"]
 
 
 def sum_of(path):

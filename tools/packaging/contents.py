@@ -1,4 +1,5 @@
 """What the packages hold: which built file, page or example stands where in each of them."""
+import base64
 import hashlib
 import os
 import re
@@ -7,8 +8,9 @@ from dataclasses import dataclass
 
 TOP = os.path.dirname(os.path.dirname(os.path.dirname(os.path.realpath(__file__))))
 PROGRAMS = ("busconf", "busview")
-# Where ./build puts the page with its module.
+# Where ./build puts the page with its module, and the files of the module. A browser reads the second.
 PAGE = "crates/heapless_c/out/web"
+MODULE = ("busconf.wasm", "busconf-wasm.js")
 SONAME = "libbusconf.so.0"
 # Where Debian has the libraries of x86-64, below /usr.
 MULTIARCH = "lib/x86_64-linux-gnu"
@@ -73,6 +75,18 @@ def files_below(folder):
             yield os.path.relpath(os.path.join(at, name), folder)
 
 
+def committed(*parts):
+    """The files that git has in these folders, with their bytes, which have to be those of the last commit."""
+    found = {}
+    for line in text_of("git", "ls-tree", "-r", "HEAD", "--", *parts).splitlines():
+        about, path = line.split("\t", 1)
+        data = data_of(path) if os.path.isfile(os.path.join(TOP, path)) else None
+        if data is None or hashlib.sha1(b"blob %d\0" % len(data) + data).hexdigest() != about.split()[2]:
+            raise Fault(f"{path} isn't as the last commit has it")
+        found[path] = data
+    return found
+
+
 class Built:
     """What ./build has proved and built, and what there is to say of it."""
 
@@ -118,13 +132,20 @@ class Built:
         return changed(place, f"{tool}strip", "--enable-deterministic-archives", how)
 
     def page_now(self):
-        """The files of the page, once it is sure that its module was built from these sources and the rest is that of web/."""
+        """The files of the page, once it is sure that its module was built from these sources, that the script which a
+        browser reads has that very module, and that all else is what is committed in web/."""
         files = {name: Entry(data_of(f"{PAGE}/{name}")) for name in files_below(os.path.join(TOP, PAGE))}
-        ours = {name: Entry(data_of(f"web/{name}")) for name in files_below(os.path.join(TOP, "web"))}
+        ours = {os.path.basename(path): Entry(data) for path, data in committed("web").items()}
         mark = os.path.join(TOP, f"{PAGE}.sources")
         is_same = os.path.exists(mark) and data_of(mark).decode().strip() == self.sources
         if not is_same or {**files, **ours} != files:
             raise Fault(f"{PAGE} isn't made from these sources; run ./build first")
+        strange = sorted(set(files) - set(ours) - set(MODULE))
+        if strange:
+            raise Fault(f"{PAGE}/{strange[0]} is no file of the page; remove it, or run ./build")
+        script = re.fullmatch(rb'"use strict";\n// .*\nconst BUSCONF_WASM = "([\w+/=]*)";\n', files["busconf-wasm.js"].data)
+        if not script or base64.b64decode(script.group(1)) != files["busconf.wasm"].data:
+            raise Fault(f"{PAGE}/busconf-wasm.js hasn't the bytes of busconf.wasm; run ./build")
         logic = re.search(rb"rattle logic=([0-9a-f]+)", files["busconf.wasm"].data)
         if not logic or not logic.group(1).decode().startswith(self.kit.split()[-1]):
             raise Fault(f"{PAGE}/busconf.wasm doesn't say that it was proved in the logic of {self.kit}")
@@ -238,13 +259,8 @@ def zipped(data):
 
 def pages_of(prefix):
     """The pages and examples below a folder, in the places that their links lead to."""
-    found = {}
-    for page in ("README.md", "CHANGELOG.md", "CONTRIBUTING.md"):
-        found[f"{prefix}/{page}"] = Entry(data_of(page))
-    for part in ("docs", "examples"):
-        for path in files_below(os.path.join(TOP, part)):
-            found[f"{prefix}/{part}/{path}"] = Entry(data_of(f"{part}/{path}"))
-    return found
+    parts = ("README.md", "CHANGELOG.md", "CONTRIBUTING.md", "docs", "examples")
+    return {f"{prefix}/{path}": Entry(data) for path, data in committed(*parts).items()}
 
 
 def pc_of(prefix, folder):

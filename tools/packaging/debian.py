@@ -134,14 +134,19 @@ def header_of(built, library):
         files, architecture=library.machine.debian)
 
 
+def next_minor(version):
+    """The next version of which the module for Python takes no library."""
+    major, minor = version.split(".")[:2]
+    return f"{major}.{int(minor) + 1}"
+
+
 def python_of(built):
     """The package of the module for Python, which loads the shared library."""
     return Package(
         "python3-busconf",
         {
-            "Depends": f"python3 (>= 3.9), libbusconf0 (>= {built.version})",
+            "Depends": f"python3 (>= 3.9), libbusconf0 (>= {built.version}), libbusconf0 (<< {next_minor(built.version)}~)",
             "Section": "python",
-            "Multi-Arch": "foreign",
         },
         "The module busconf for Python, over the shared library of the proved calls.",
         "FireWire cable buses, read, planned and run: the module for Python",

@@ -8,20 +8,25 @@ import sys
 import tempfile
 
 from archives import make, sum_of
-from contents import AARCH64, MULTIARCH, PROGRAMS, SONAME, TOP, X86_64, Fault, data_of, files_below, run
+from contents import AARCH64, MULTIARCH, PAGE, SONAME, TOP, X86_64, Fault, data_of, files_below, run
 
 # The commands that the checks call, and Debian's package that has each.
 TOOLS = {
     "lintian": "lintian", "pkg-config": "pkg-config", "man": "man-db", "groff": "groff-base", "cc": "gcc",
     "dpkg": "dpkg", "dpkg-deb": "dpkg", "xz": "xz-utils", "strip": "binutils",
     "aarch64-linux-gnu-gcc": "gcc-aarch64-linux-gnu libc6-dev-arm64-cross", "qemu-aarch64": "qemu-user",
-    "chromium": "chromium",
+    "chromium": "chromium", "valgrind": "valgrind", "clang": "clang",
 }
 # Those without which the rest can be tried.
 SPARED = ("lintian", "aarch64-linux-gnu-gcc", "qemu-aarch64", "chromium")
 # Where Debian has glibc for AArch64 on other machines.
 CROSS = "/usr/aarch64-linux-gnu/lib"
-STATUSES = range(7)
+# The cases without an answer whose words are a form, with their statuses: a word that names no file, a script without a
+# node, and buses that don't differ.
+SILENT = {
+    "busview/capture/two-names": 3, "busview/trace/no-nodes": 0, "busview/diff/same-bus": 0,
+    "busview/diff/initiator-is-no-change": 0,
+}
 
 
 def is_here(command):
@@ -103,6 +108,18 @@ def cases_of(folder):
     return sorted(it[: -len(".stdout")] for it in glob.glob(os.path.join(TOP, "cases", folder, "*.stdout")))
 
 
+def status_of(case, answer):
+    """The status of a case, which its answer tells: none where the words are no form, something refused or garbled, or
+    else all is well. With `diff`, any answer says that something differs."""
+    path = os.path.relpath(case, os.path.join(TOP, "cases"))
+    if not answer:
+        return SILENT.get(path, 2)
+    if path.startswith("busview/diff/"):
+        return 1
+    refused = rb'^refused |^line \d+ garbled|"refused":[{1-9]|"garbled":true'
+    return 1 if re.search(refused, answer, re.M) else 0
+
+
 def run_cases(root, folder):
     """Runs the packaged programs over the cases of the repository."""
     count = 0
@@ -115,7 +132,8 @@ def run_cases(root, folder):
         done = root.call(f"{folder}/{program}", *asked, data=data_of(case))
         if laid:
             os.remove(laid)
-        if done.stdout != data_of(case + ".stdout") or done.returncode not in STATUSES:
+        wanted = data_of(case + ".stdout")
+        if done.stdout != wanted or done.returncode != status_of(case, wanted):
             raise Fault(f"{program} on {os.path.relpath(case, TOP)}: status {done.returncode}, not what is wanted")
         count += 1
     return count
@@ -303,7 +321,28 @@ class Trial:
         for place in (os.path.join(folder, "usr/share/busconf/web"), os.path.join(folder, name, "web")):
             if {path: data_of(os.path.join(place, path)) for path in files_below(place)} != wanted:
                 raise Fault("a package doesn't hold the files of the page")
-        return f"busconf-web has the {len(self.built.page)} files of the page"
+        self.page_is_ours()
+        return f"busconf-web has the {len(self.built.page)} files of the page, and nothing else can get into it"
+
+    def page_is_ours(self):
+        """A page with another module or another file is refused."""
+        wrongs = {"busconf-wasm.js": lambda data: data.replace(b"AGFzbQ", b"AGFzbR", 1), "extra.js": lambda data: b"1;\n"}
+        for name, wrong in wrongs.items():
+            place = os.path.join(TOP, PAGE, name)
+            was = data_of(place) if os.path.exists(place) else None
+            try:
+                with open(place, "wb") as file:
+                    file.write(wrong(was or b""))
+                self.built.page_now()
+            except Fault:
+                continue
+            finally:
+                if was is None:
+                    os.remove(place)
+                else:
+                    with open(place, "wb") as file:
+                        file.write(was)
+            raise Fault(f"a page with a changed {name} would be packed")
 
     def vectors(self):
         """The set of vectors is whole in its package."""

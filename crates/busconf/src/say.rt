@@ -3,6 +3,7 @@
 use bus_cli::{CaptureForm, Form, MAX_INPUT, NO_MEMORY, READ_FAULT, TOO_LONG, WRITE_FAULT};
 use capture_hint::{Likeness, hint_text, likeness_of, other_hint};
 use io_edges::{WriteSink, write_whole};
+use program_edges::Shown;
 
 /// What is said of a refused ROM whose quadlets have their bytes turned round.
 const TURNED_ROM: &[u8] =
@@ -36,6 +37,7 @@ pub(crate) fn say_refusal(rt: &HostRuntime, form: Form, line: &[u8]) {
 
 /// Says on standard error why of an input nothing was written, or not all.
 pub(crate) fn explain(rt: &HostRuntime, status: u8, name: &str) {
+    let name = Shown::new(name);
     let _ = match status {
         READ_FAULT => eprintln!(rt; "busconf: reading {name} failed"),
         WRITE_FAULT => eprintln!(rt; "busconf: writing standard output failed"),

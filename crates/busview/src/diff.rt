@@ -3,7 +3,7 @@
 use capture_hint::{hint_text, likeness_of};
 use diff_form::{DiffStop, Outcome, Side, diff_status, show_difference};
 use io_edges::{ReadSource, WriteSink, write_whole};
-use program_edges::{FrontSource, PipeWriter};
+use program_edges::{FrontSource, PipeWriter, Shown};
 use self_id::Standard;
 use std::io::{Read, Write};
 
@@ -19,7 +19,7 @@ struct Begun<'a> {
 fn say_hint(rt: &HostRuntime, begun: Begun<'_>) {
     let hint = hint_text(likeness_of(begun.front));
     if !hint.is_empty() {
-        let file = begun.file;
+        let file = Shown::new(begun.file);
         let _ = eprint!(rt; "{file}: ");
         let mut errors = WriteSink::new(rt.stderr());
         let _ = write_whole(&mut errors, hint);
@@ -73,7 +73,7 @@ fn diff_into<R: Read + Drop, Q: Read + Drop, W: Write>(
 
 /// Says on standard error why the difference of the files of these names wasn't written.
 fn explain(rt: &HostRuntime, names: (&str, &str), stop: DiffStop) {
-    let (old, new) = names;
+    let (old, new) = (Shown::new(names.0), Shown::new(names.1));
     let _ = match stop {
         DiffStop::ReadFault(Side::Old) => eprintln!(rt; "busview: reading {old} failed"),
         DiffStop::ReadFault(Side::New) => eprintln!(rt; "busview: reading {new} failed"),

@@ -4,6 +4,7 @@ use bus_cli::{MAX_INPUT, NO_MEMORY, READ_FAULT, REFUSED, TOO_LONG, WRITE_FAULT};
 use bus_view::{CaptureView, ViewForm};
 use capture_hint::{begins_capture, hint_text, likeness_of, other_hint};
 use io_edges::{WriteSink, write_whole};
+use program_edges::Shown;
 use reset_log::LogForm;
 
 /// All that is shown of a log without an event.
@@ -137,6 +138,7 @@ pub(crate) fn explain(rt: &HostRuntime, form: &ViewForm, status: u8, name: &str)
         ViewForm::Resets(_) | ViewForm::Nosy(_) => 9_223_372_036_854_775_807,
         _ => MAX_INPUT as u64,
     };
+    let name = Shown::new(name);
     let _ = match status {
         READ_FAULT => eprintln!(rt; "busview: reading {name} failed"),
         WRITE_FAULT => eprintln!(rt; "busview: writing standard output failed"),

@@ -6,10 +6,12 @@ mod files;
 mod front;
 mod pipe;
 mod program;
+mod shown;
 mod words;
 
 pub use files::FileCount;
 pub use front::{FrontSink, FrontSource};
 pub use pipe::PipeWriter;
 pub use program::{Call, Program, run};
+pub use shown::Shown;
 pub use words::WordsFault;

@@ -1,6 +1,7 @@
 //! What a program does with its words: it answers a form over files, or over standard input.
 
 use crate::files::{FileCount, is_input, judge_files};
+use crate::shown::Shown;
 use crate::words::{WordsFault, words_of};
 use std::fs;
 use std::io::{self, Read};
@@ -95,7 +96,7 @@ fn call_of<P: Program>(words: &[String]) -> Result<Call<'_, P::Form>, WordsFault
 /// Says why a file couldn't be opened, and answers the exit status. A standard error that can't be written
 /// changes no status.
 fn unopened<P: Program>(rt: &HostRuntime, file: &str, error: io::Error) -> u8 {
-    let program = P::name();
+    let (program, file) = (P::name(), Shown::new(file));
     let _ = eprintln!(rt; "{program}: {file}: {error}");
     READ_FAULT
 }
@@ -155,7 +156,8 @@ fn answer_each<P: Program>(rt: &HostRuntime, call: &Call<'_, P::Form>) -> u8 {
     let mut greatest = VALID;
     for file in call.files {
         let name = file.as_str();
-        if call.files.len() > 1 && println!(rt; "{name}:").is_err() {
+        let shown = Shown::new(name);
+        if call.files.len() > 1 && println!(rt; "{shown}:").is_err() {
             return WRITE_FAULT;
         }
         let status = answer_file::<P>(rt, call, name);
@@ -209,12 +211,25 @@ fn helped_form<P: Program>(words: &[String]) -> Option<&str> {
     }
 }
 
+/// Says why there are no words, and answers the exit status: there was no memory for them, or one isn't UTF-8.
+fn unworded<P: Program>(rt: &HostRuntime, error: io::Error) -> u8 {
+    let program = P::name();
+    // A standard error that can't be written changes no status.
+    if error.kind() == io::ErrorKind::OutOfMemory {
+        let _ = eprintln!(rt; "{program}: out of memory");
+        return NO_MEMORY;
+    }
+    let _ = eprintln!(rt;
+        "{program}: a word isn't UTF-8 (a file of such a name can be given on standard input)"
+    );
+    NO_FORM
+}
+
 /// Answers the words after the program's name, and answers the exit status.
 fn status_of<P: Program>(rt: &HostRuntime) -> u8 {
     let words = match words_of(rt) {
         Ok(words) => words,
-        Err(error) if error.kind() == io::ErrorKind::OutOfMemory => return NO_MEMORY,
-        Err(_) => return NO_FORM,
+        Err(error) => return unworded::<P>(rt, error),
     };
     if let Some(form) = helped_form::<P>(&words) {
         return match write_form_help::<P>(rt, form) {

@@ -1,5 +1,6 @@
 //! The words of a call, and why they can't be answered.
 
+use crate::shown::Shown;
 use std::fmt::{self, Display, Formatter, Write};
 use std::rt::Env;
 use std::{env, io};
@@ -59,8 +60,12 @@ impl Display for WordsFault<'_> {
     fn fmt<W: Write>(&self, f: &mut Formatter<W>) -> fmt::Result {
         match self {
             WordsFault::NoForm => f.write_str("what to do isn't said"),
-            WordsFault::UnknownForm { word } => write!(f, "there is no form {word}"),
+            WordsFault::UnknownForm { word } => {
+                let word = Shown::new(word);
+                write!(f, "there is no form {word}")
+            }
             WordsFault::UnknownOption { form, word } => {
+                let word = Shown::new(word);
                 write!(
                     f,
                     "{form}: {word} is no option here (a file of this name is ./{word})"
@@ -76,7 +81,10 @@ impl Display for WordsFault<'_> {
                 )
             }
             WordsFault::Lacks { form, words } => write!(f, "{form} wants {words} behind it"),
-            WordsFault::Misfit { form, word, wanted } => write!(f, "{form}: {word} isn't {wanted}"),
+            WordsFault::Misfit { form, word, wanted } => {
+                let word = Shown::new(word);
+                write!(f, "{form}: {word} isn't {wanted}")
+            }
         }
     }
 }
