@@ -72,7 +72,9 @@ pub use Rattle.convergence.proofs.turns.Roles.{early-parentless, parent-late, pa
 -- Five nodes in a line, and five in a star: the middle becomes root without contention. Each milestone
 -- on the way is there by the share that it is allowed, and long before.
 pub use Rattle.convergence.proofs.worked.FiveNodes.{line, star}
+-- How often a clock ticks in so many turns, by what a timer counts.
+pub use Rattle.convergence.proofs.turns.SlowTurns.{HasRun, run-on, run-over}
 -- A coin that a tick draws, or none where the clock misses the turn.
 pub use Rattle.convergence.proofs.turns.Moves.{coin_of}
-pub use Rattle.convergence.proofs.turns.TwoTurns.{slack-most, slack-later, reached-slack, Misses, some-slack, not-twice}
+pub use Rattle.convergence.proofs.turns.TwoTurns.{slack-most, slack-later, reached-slack, Misses, some-slack, not-missed, not-twice}
 pub use Rattle.convergence.proofs.turns.BeforeTree.{start-on}

@@ -141,7 +141,7 @@ one-waits = record {
     waits = refl;
     others = each-held (λ k. k ≢ 1 → AtView plugged k (λ v. waits_due v ≡ false)) 3 (0 ∷ 1 ∷ []) refl ((λ ne. refl), ((λ ne. absurd (ne refl)), tt));
   };
-  enough = (refl, act-forced (Plug (at 0 0) (at 1 0)) alone plugged refl (λ k x e. in-range-forced 4 x.state.timing (omega arith) (each-on k x e).timing) 1);
+  enough = act-forced (Plug (at 0 0) (at 1 0)) alone plugged refl (λ k x e. in-range-forced 4 x.state.timing (omega arith) (each-on k x e).timing) 1;
 }
 
 pub second-is-root : (t : Tree) × IsTree (quiet_after no_holds (turns_to_settle plugged) plugged) 3 1 t

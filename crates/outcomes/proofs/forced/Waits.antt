@@ -11,6 +11,7 @@ use Rattle.outcomes.specs.Forced.{CanBeForcedAt}
 use Rattle.port_state.specs.declared.view.View.{View}
 use Rattle.cable_world.specs.Phases.{is_timed}
 use Rattle.cable_world.specs.Run.{IsReached}
+use Rattle.convergence.specs.Turns.{seen_turns}
 use Rattle.cable_world.proofs.Lemmas.{quiet-timed, reached-forced, steady}
 use Rattle.convergence.proofs.Lemmas.{late-start, reached-slack}
 use Rattle.outcomes.proofs.forced.Forced.{SameDue, due-heard, kept-heard, beat-tick-holds, Takes, beat-tick-takes, waits-parentless}
@@ -33,7 +34,9 @@ tree-timed p h = rw h refl
 
 -- a world that runs gives each node time enough to be forced
 pub reached-enough : (w : CableWorld) (k : ℕ) → IsReached w → CanBeForcedAt w k
-reached-enough w k r = (reached-slack w r, reached-forced w r k)
+reached-enough w k r x at =
+    let e : w.delay ≡ seen_turns w = omega (arith, reached-slack w r) in
+    subst (λ d. CanBeForced d w.longest x.state.timing) e (reached-forced w r k x at)
 
 -- ---- turns after the last entry
 
@@ -125,7 +128,7 @@ module _
     | inr start ↦ contrary (ap is_before_tree (sym c.heard.phase ∙ start)) past
   ])
 
-  module _ (q : Waiting i c.node.state) (can : CanBeForcedAt w k) (soon : i + 1 ≤ w.longest.hold + 127 * w.delay) where
+  module _ (q : Waiting i c.node.state) (can : CanBeForcedAt w k) (soon : i + 1 ≤ w.longest.hold + 127 * seen_turns w) where
     same-hold : y.state.timing.hold ≡ c.node.state.timing.hold
     same-hold = ap (λ (z : NodeState). z.timing.hold) c.is ∙ ap (λ (z : Timing). z.hold) (c.ticks.timing ∙ c.hears.timing)
 
@@ -159,12 +162,12 @@ module _
         go true e =
             let takes : Takes now (on_beat (beat c.node) now).state = beat-tick-takes (beat c.node) now (ap is_before_tree c.heard.phase ∙ e) (sym (ap (λ (z : NodeState). is_before_tree z.view.phase) c.is) ∙ h) in
             let timer : c.node.state.view.timer + c.node.state.timing.hold ≤ i = q.tree (sym c.heard.phase ∙ takes.start) in
-            let time : CanBeForced w.delay w.longest c.node.state.timing =
-            quiet-timed (λ j t c. j ≡ k → CanBeForced w.delay w.longest t) hs i w (λ j t c p. p) l (λ j x at_j same. can.1 x (subst (λ n. slice_get w.nodes n ≡ Some x) same at_j)) k c.node c.at refl in
-            let force : w.longest.hold + 127 * w.delay < c.node.state.timing.hold + now.timing.force = omega (arith, time.enough, ap (λ (z : Timing). z.force) c.hears.timing) in
+            let time : CanBeForced (seen_turns w) w.longest c.node.state.timing =
+            quiet-timed (λ j t c. j ≡ k → CanBeForced (seen_turns w) w.longest t) hs i w (λ j t c p. p) l (λ j x at_j same. can x (subst (λ n. slice_get w.nodes n ≡ Some x) same at_j)) k c.node c.at refl in
+            let force : w.longest.hold + 127 * seen_turns w < c.node.state.timing.hold + now.timing.force = omega (arith, time.enough, ap (λ (z : Timing). z.force) c.hears.timing) in
             let waits : now.view.force ≡ true = (kept-heard (signals v k) c.node.state (ap is_resetting c.heard.phase)).0 ∙ q.waits in
             ap (λ (z : NodeState). z.view.parent) c.is ∙ takes.parent
-            ∙ waits-parentless (raise_timer now) takes.decided waits (low now.view.timer c.node.state.view.timer c.node.state.timing.hold i now.timing.force (w.longest.hold + 127 * w.delay) c.heard.timer timer force soon)
+            ∙ waits-parentless (raise_timer now) takes.decided waits (low now.view.timer c.node.state.view.timer c.node.state.timing.hold i now.timing.force (w.longest.hold + 127 * seen_turns w) c.heard.timer timer force soon)
           where
             low :
                 (a b c i f n : ℕ) → a ≡ b → b + c ≤ i → n < c + f → i + 1 ≤ n →
@@ -274,6 +277,13 @@ module _
       room : (n d : ℕ) → d * n ≤ d * 63 → n * d ≤ 63 * d
       room n d h = grind (arith, h)
 
+  -- and so is what is seen by one node after the other
+  pub seen-most : length w.nodes * seen_turns w ≤ 63 * seen_turns w
+  seen-most = room (length w.nodes) (seen_turns w) (mul-le-mul_left (seen_turns w) few)
+    where
+      room : (n d : ℕ) → d * n ≤ d * 63 → n * d ≤ 63 * d
+      room n d h = grind (arith, h)
+
   in-time : spread < 64 * w.delay
   in-time = omega (arith, spread-most, l.well_formed.some_delay)
 
@@ -331,7 +341,7 @@ module _
 
   -- so a node that waits takes no parent port in these turns
   pub waiting :
-      (j k : ℕ) (x : PortNode) → CanBeForcedAt w k → spread + j ≤ w.longest.hold + 127 * w.delay → Holds set k →
+      (j k : ℕ) (x : PortNode) → CanBeForcedAt w k → spread + j ≤ w.longest.hold + 127 * seen_turns w → Holds set k →
       AtView w k (λ v. waits_due v ≡ true) → slice_get (later (spread + j)).nodes k ≡ Some x →
       Waiting (spread + j) x.state
   waiting zero k x can soon h due at = record {
