@@ -15,8 +15,8 @@ pub use Rattle.cable_world.proofs.QuietTurns.{after-cabling, holds-are-calls, ho
 -- Quiet turns one after the other, and runs without an act.
 pub use Rattle.cable_world.proofs.Rests.{one-hold, one-turn, quiet-run, rests-cabling, rests-come, rests-then, turns-rest}
 -- Turns, holds and acts keep a world lawful, and so every world that comes of a power-on world is
--- lawful; and each node of a reached world can be forced.
-pub use Rattle.cable_world.proofs.StaysLawful.{act-lawful, comes-lawful, hold-lawful, power-on-lawful, reached-even, reached-forced, reached-lawful, turn-lawful}
+-- lawful; and each reached world can run.
+pub use Rattle.cable_world.proofs.StaysLawful.{act-lawful, comes-lawful, hold-lawful, power-on-lawful, reached-lawful, reached-runs, turn-lawful}
 -- What comes of a world that comes of power-on comes of it too, and so for reached worlds.
 pub use Rattle.cable_world.proofs.StaysReached.{act-comes, act-reached, event-comes, hold-comes, hold-reached, power-on-comes, power-on-reached, reached-comes, run-comes, turn-comes, turn-reached, turns-come, turns-reached}
 -- What plugging and pulling do to the cables.
@@ -58,7 +58,7 @@ pub use Rattle.cable_world.proofs.running.Lists.{no-packets}
 -- The tables of a world at power-on.
 pub use Rattle.cable_world.proofs.running.Start.{are-counts, as-long, each-node, even-paced, power-on, rows-are, start-is}
 -- A world by its parts: what a lawful one gives to the code, and its turn.
-pub use Rattle.cable_world.proofs.running.Whole.{all-young, fault-of, held-is, lawful-now, put-long, rows-long, sent-long, settled, turn-is, vectors-related, young-from}
+pub use Rattle.cable_world.proofs.running.Whole.{all-young, fault-of, held-is, lawful-now, put-long, rows-long, sent-long, settled, short-now, turn-is, vectors-related, young-from}
 -- The power-on world is well formed, and as no cable is there its wires agree.
 pub use Rattle.cable_world.proofs.tables.AtPowerOn.{power-on-apart}
 -- An end of a cable: its node, its port and its wire are there.

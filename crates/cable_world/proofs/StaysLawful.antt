@@ -1,21 +1,25 @@
 -- Turns, holds and acts keep a world lawful, and so every world that comes of a power-on world is
 -- lawful.
-use Rattle.std.proofs.Common.{◌≡◌, ℕ, zero, suc, List, [], ◌∷◌, slice_get, refl, ◌∙◌, ap, subst, sym}
+use Rattle.std.proofs.Common.{◌≡◌, ◌≤◌, ℕ, zero, suc, List, [], ◌∷◌, slice_get, refl, ◌∙◌, ap, subst, sym}
 use Rattle.port_state.specs.declared.timing.Timing.{Timing}
 use Rattle.port_state.specs.Clock.{Clock}
 use Rattle.port_state.specs.Machine.{PortNode}
-use Rattle.cable_world.specs.World.{CableWorld}
+use Rattle.cabling.specs.declared.cable.End.{End}
+use Rattle.cable_world.specs.declared.act.Act.{Act}
+use Rattle.cable_world.specs.World.{CableWorld, CanRun}
 use Rattle.cable_world.specs.Turn.{turn, turns_after}
-use Rattle.cable_world.specs.Act.{hold}
+use Rattle.cable_world.specs.Act.{hold, ActLeads}
 use Rattle.cable_world.specs.Run.{starts, acted, held, turned}
 use Rattle.cable_world.specs.Events.{Event, acts, holds, turns, Happens, Runs}
 use Rattle.cable_world.specs.Agreement.{LevelsAgree}
 use Rattle.cable_world.specs.Coupling.{IsCoupled}
-use Rattle.cable_world.specs.StaysLawful.{HoldsAtPowerOn, KeptByTurns, KeptByHolds, KeptByActs, ComesIsLawful, ReachedIsLawful, ReachedCanBeForced, ReachedIsEven, TimesStay}
+use Rattle.cable_world.specs.StaysLawful.{HoldsAtPowerOn, KeptByTurns, KeptByHolds, KeptByActs, ComesIsLawful, ReachedIsLawful, ReachedCanRun, TimesStay}
 use Rattle.cable_world.specs.Lawful.{IsPaced, IsWellFormed, IsLawful}
 use Rattle.cable_world.proofs.tables.AtPowerOn.{power-on-formed, power-on-agrees}
 use Rattle.cable_world.proofs.Options.{some-same}
 use Rattle.cable_world.proofs.StaysReached.{reached-comes}
+use Rattle.cable_world.proofs.tables.CountsInActs.{act-keeps}
+use Rattle.cable_world.proofs.turns.ByNumber.{delay-after}
 use Rattle.cable_world.proofs.tables.TimesKept.{Timed, GoesOn, turn-timed, act-timed, turn-forced, act-forced, turn-even, act-even, turn-paced, act-paced}
 use Rattle.cable_world.proofs.tables.TablesInTurns.{turn-formed}
 use Rattle.cable_world.proofs.tables.TablesInActs.{act-formed, hold-formed}
@@ -81,14 +85,25 @@ times-stay events w v k x y l r at_x at_y =
     runs-timed (λ j t c. j ≡ k → t ≡ x.state.timing) events w v (λ j t c p. p) r l
     (λ j z at same. ap (λ (u : PortNode). u.state.timing) (some-same z x (sym at ∙ ap (slice_get w.nodes) same ∙ at_x))) k y at_y refl
 
-pub reached-forced : ReachedCanBeForced
-reached-forced _ (starts w p) = p.1
-reached-forced _ (acted a w v did r) = act-forced a w v did.2 (reached-forced w r)
-reached-forced _ (held end n w none r) = reached-forced w r
-reached-forced _ (turned w r) = turn-forced w (reached-lawful w r).well_formed (reached-forced w r)
+turn-runs : (w : CableWorld) → IsLawful w → CanRun w → CanRun (turn w)
+turn-runs w l h = record {
+  short_delay = rw (delay-after w) h.short_delay;
+  forced = turn-forced w l.well_formed h.forced;
+  even = turn-even w l.well_formed h.even;
+}
 
-pub reached-even : ReachedIsEven
-reached-even _ (starts w p) = p.2
-reached-even _ (acted a w v did r) = act-even a w v did.2 (reached-even w r)
-reached-even _ (held end n w none r) = reached-even w r
-reached-even _ (turned w r) = turn-even w (reached-lawful w r).well_formed (reached-even w r)
+act-runs : (a : Act) (w v : CableWorld) → ActLeads a w v → CanRun w → CanRun v
+act-runs a w v led h = record {
+  short_delay = rw (act-keeps a w v led).delay h.short_delay;
+  forced = act-forced a w v led h.forced;
+  even = act-even a w v led h.even;
+}
+
+hold-runs : (end : End) (n : ℕ) (w : CableWorld) → CanRun w → CanRun (hold end n w)
+hold-runs end n w h = record { short_delay = h.short_delay; forced = h.forced; even = h.even }
+
+pub reached-runs : ReachedCanRun
+reached-runs _ (starts w p) = p.1
+reached-runs _ (acted a w v did r) = act-runs a w v did.2 (reached-runs w r)
+reached-runs _ (held end n w none r) = hold-runs end n w (reached-runs w r)
+reached-runs _ (turned w r) = turn-runs w (reached-lawful w r) (reached-runs w r)

@@ -30,7 +30,6 @@ pub record FitsCables (w : CableWorld) (k : ℕ) (x : NodeState) : Type 0 where
 -- The tables of a world fit its nodes and its cables, and no signal is under way for too long.
 pub record IsWellFormed (w : CableWorld) : Type 0 where
   pub some_delay : 1 ≤ w.delay
-  pub short_delay : w.delay ≤ 16
   pub cabling : IsCabling w.cabling
   pub count : length w.nodes ≡ length w.cabling
   pub wire_rows : length w.wires ≡ length w.cabling

@@ -80,7 +80,6 @@ pub record IsPowered (d : ℕ) (longest : Timing) (x : NodeState) : Type 0 where
 -- the power-on world: every node was just powered on, and there is no cable
 pub record IsPowerOnWorld (w : CableWorld) : Type 0 where
   pub some_delay : 1 ≤ w.delay
-  pub short_delay : w.delay ≤ 16
   pub few_nodes : length w.nodes ≤ 63
   pub nodes :
       (k : ℕ) (x : PortNode) → slice_get w.nodes k ≡ Some x →
@@ -99,3 +98,10 @@ abbrev pub AllCanBeForced : CableWorld → Type 0
 AllCanBeForced w =
     (k : ℕ) (x : PortNode) → slice_get w.nodes k ≡ Some x →
     CanBeForced w.delay w.longest x.state.timing
+
+-- what the code asks of a world that runs: signals no older than a byte tells, nodes that can be forced,
+-- and clocks that miss no turn
+pub record CanRun (w : CableWorld) : Type 0 where
+  pub short_delay : w.delay ≤ 16
+  pub forced : AllCanBeForced w
+  pub even : AllEven w

@@ -49,7 +49,7 @@ IsNear d x y e =
     ⊎ ((x.view.timer ≤ y.view.timer + d) × TicksFor (y.view.wait - y.view.timer) e
     × (y.timing.short + 2 * d < x.timing.long))
 
--- or both are in T3, and their waits began less than d turns apart;
+-- or both are in T3, and their waits began less than d turns apart, or d where a clock missed one;
 pub record HaveMet (d : ℕ) (x : NodeState) (c : Clock) (y : NodeState) (e : Clock) : Type 0 where
   pub here : x.view.phase ≡ Contend
   pub there : y.view.phase ≡ Contend

@@ -1,5 +1,5 @@
 -- After how many quiet turns a milestone is reached, for n nodes whose cables delay by at
--- most d turns, and none of which has longer times than the world names.
+-- most d turns, and none of which takes longer, in turns, than the world names.
 use Rattle.std.specs.Prelude.{ℕ, ◌+◌, ◌*◌, ◌≤◌, List, [], ◌∷◌, length, max, if◌then◌else◌}
 use Rattle.port_state.specs.Clock.{is_even}
 use Rattle.port_state.specs.Machine.{PortNode}
@@ -64,8 +64,8 @@ turns_to_loops w = turns_to_done w + loop_turns w
 abbrev pub turns_to_decision : CableWorld → ℕ
 turns_to_decision w = turns_to_trees w + decision_turns w
 
--- Loops have timed out, and trees have come to rest: in 5 n d turns from where they are decided,
--- for which 315 d are enough for 63 nodes.
+-- Loops have timed out, and trees have come to rest: for each node five times what it takes until
+-- something is seen, from where they are decided. For 63 nodes 315 times that is enough.
 abbrev pub turns_to_settle : CableWorld → ℕ
 turns_to_settle w = max (turns_to_loops w) (turns_to_decision w + 315 * seen_turns w)
 

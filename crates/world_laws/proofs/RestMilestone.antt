@@ -1,4 +1,4 @@
--- Trees come to rest 315 d turns after tree identify is over.
+-- Trees come to rest 315 seen_turns after tree identify is over.
 use Rattle.std.proofs.Common.{◌≡◌, ◌⊎◌, inl, inr, ℕ, ◌+◌, ◌-◌, ◌*◌, ◌^◌, ◌<◌, ◌≤◌, length, sym, ◌∙◌, ap, subst, arith}
 use Rattle.std.proofs.lemmas.Option.{slice_get_within}
 use Rattle.cabling.specs.Wiring.{Wiring}

@@ -98,7 +98,7 @@ each-clock (suc zero) x e = subst (λ (z : PortNode). KeepsTime (longest_in_rang
 each-clock (suc (suc k)) x e = absurd cc
 
 first-world : IsPowerOnWorld alone
-first-world = record { some_delay = omega arith; short_delay = omega arith; few_nodes = omega arith; nodes = λ k x e. powered-in-range 4 x.state (omega arith) (omega arith) (each-on k x e); clocks = each-clock; is = refl }
+first-world = record { some_delay = omega arith; few_nodes = omega arith; nodes = λ k x e. powered-in-range 4 x.state (omega arith) (omega arith) (each-on k x e); clocks = each-clock; is = refl }
 
 at-once : RunsAtOnce alone plugged (acts (Plug (at 0 0) (at 1 0)) ∷ [])
 at-once = record { run = (plugged, (tt, refl, refl), refl); no_turn = refl }

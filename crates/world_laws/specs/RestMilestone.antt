@@ -13,7 +13,8 @@ use Rattle.outcomes.specs.Numbered.{IsAtRest}
 abbrev pub TreesAreAtRest : CableWorld → Type 0
 TreesAreAtRest w = OfTrees w (λ set. IsAtRest w set ⊎ HasContention w set)
 
--- from tree identify to rest: 5 d turns for each of 63 nodes at most
+-- from tree identify to rest: for each of 63 nodes at most five times what it takes until something is
+-- seen
 abbrev pub rest_turns : CableWorld → ℕ
 rest_turns w = 315 * seen_turns w
 

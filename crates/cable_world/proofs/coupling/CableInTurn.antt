@@ -27,7 +27,6 @@ use Rattle.cable_world.proofs.coupling.Sides.{Side, hearing, ticking, arrivals, 
 -- what is so of both before the turn
 pub record Pair (d : ℕ) (x y : Side) : Type 0 where
   pub some_delay : 1 ≤ d
-  pub short_delay : d ≤ 16
   pub near : Ready d x
   pub other : Ready d y
   pub comes : sent_on x.port x.inbox ≡ arrivals y
@@ -42,7 +41,6 @@ pub record Pair (d : ℕ) (x y : Side) : Type 0 where
 pub turned-round : (d : ℕ) (x y : Side) → Pair d x y → Pair d y x
 turned-round d x y j = record {
   some_delay = j.some_delay;
-  short_delay = j.short_delay;
   near = j.other;
   other = j.near;
   comes = j.goes;
@@ -124,7 +122,7 @@ module _ (d : ℕ) (x y : Side) (j : Pair d x y) where
   pub came :
       EntersReset x.node (hearing x) →
       (is_resetting (ticking x).state.view.phase ≡ true) × ((ticking x).state.view.timer ≤ 1)
-  came c = came_after d x j.some_delay j.short_delay j.near c
+  came c = came_after d x j.some_delay j.near c
 
   -- the facts, one by one
   timed_after :
@@ -176,7 +174,7 @@ module _ (d : ℕ) (x y : Side) (j : Pair d x y) where
       ap (λ ts. level_after (level_shown (ticking y).state y.port) (signals_of ts)) (sym (empty_after r t)) ∙ levels_after ∙ start-sent (ticking x).state.view.phase (leads_down (ticking x).state.view.ports x.port) r
 
   unknown : EntersReset x.node (hearing x) → is_reset_known d (ticking x).state ≡ true → ⊥
-  unknown c s = came_unknown d x j.some_delay j.short_delay j.near c s
+  unknown c s = came_unknown d x j.some_delay j.near c s
 
   -- past R0, the reset was known before
   known_before :
@@ -249,7 +247,7 @@ module _ (d : ℕ) (x y : Side) (j : Pair d x y) where
           let r : is_resetting x.node.view.phase ≡ true = j.coupled.reset b in
           let t : x.node.view.timer - slack x.node.view.phase ≤ d - 1 = reset-age (d - 1) (x.node.view.timer - slack x.node.view.phase) x.wire b (j.coupled.timed (start-timed x.node.view.phase r)) j.near.ages in
           let i : SuitsCables d (hearing x).state.timing = heard_timing d x j.near in
-          (j.near.ticks.holds (ap is_resetting h.phase ∙ r) (omega (arith, t, start-slack x.node.view.phase r, h.timer, i.hold_least, j.some_delay)) (hold_fits d x j.some_delay j.short_delay j.near)).0
+          (j.near.ticks.holds (ap is_resetting h.phase ∙ r) (omega (arith, t, start-slack x.node.view.phase r, h.timer, i.hold_least, j.some_delay)) (hold_fits d x j.some_delay j.near)).0
 
 -- ---- facts that look at both sides
 
@@ -448,7 +446,7 @@ module _ (d : ℕ) (x y : Side) (j : Pair d x y) where
           has_no_takeback on_tick ≡ true
       ticks o = elim j.other.hears.cases [
         | inl h ↦ j.other.ticks.asks y.port (heard_connected d y j.other) (ap is_shaking h.phase ∙ o.0) (heard_parent y h y.port o.1) (heard_idle c a t)
-        | inr z ↦ ap (λ ss. has_no_takeback (sent_on y.port ss)) (came_silent d y j.some_delay j.short_delay j.other z)
+        | inr z ↦ ap (λ ss. has_no_takeback (sent_on y.port ss)) (came_silent d y j.some_delay j.other z)
       ]
 
       no_falls :

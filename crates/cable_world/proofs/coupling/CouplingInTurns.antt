@@ -99,7 +99,6 @@ pair w a b x y f l c e at_x at_y =
     let back : far w.cabling b ≡ Some a = f.cabling.both_ways a b e in
     record {
       some_delay = f.some_delay;
-      short_delay = f.short_delay;
       near = ready w a b x f c e at_x;
       other = ready w b a y f c back at_y;
       comes = comes w b a e;

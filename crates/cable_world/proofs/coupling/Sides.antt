@@ -173,9 +173,9 @@ pub calm_sent :
     (d : ℕ) (x : Side) → Ready d x → NoEntry x.node (hearing x) → has_reset (departures x) ≡ false
 calm_sent d x r h = has_reset-append (sent_on x.port (hearing x).sends) (sent_on x.port (ticking x).sends) ∙ (rw (h.calm x.port, r.ticks.calm x.port) refl)
 
-module _ (d : ℕ) (x : Side) (some_delay : 1 ≤ d) (short_delay : d ≤ 16) (r : Ready d x) where
+module _ (d : ℕ) (x : Side) (some_delay : 1 ≤ d) (r : Ready d x) where
   pub hold_fits : (hearing x).state.timing.hold ≤ 65535
-  hold_fits = omega (arith, (heard_timing d x r).hold_most, short_delay)
+  hold_fits = omega (arith, (heard_timing d x r).hold_most)
 
   -- a node that begins a reset stays in R0, and says nothing more
   came_holds :

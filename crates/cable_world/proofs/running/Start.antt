@@ -67,8 +67,8 @@ start-is d longest n nodes counts c wires changed p cc_is w k long =
     rw (cables, rows, none) refl
 
 pub power-on :
-    (d : ℕ) (longest : Timing) (nodes : List PortNode) → 1 ≤ d → d ≤ 16 → length nodes ≤ 63 →
+    (d : ℕ) (longest : Timing) (nodes : List PortNode) → 1 ≤ d → length nodes ≤ 63 →
     EachNode (λ x. IsPowered d longest x.state) nodes →
     EachNode (λ x. KeepsTime longest x.state.timing x.clock) nodes →
     IsPowerOnWorld (world_with_times d longest nodes)
-power-on d longest nodes one sixteen few h paced = record { some_delay = one; short_delay = sixteen; few_nodes = few; nodes = h; clocks = paced; is = refl }
+power-on d longest nodes one few h paced = record { some_delay = one; few_nodes = few; nodes = h; clocks = paced; is = refl }

@@ -225,7 +225,6 @@ nodes-fit w k y f e = elim (slice_get_cases w.nodes k).1 [
 pub turn-formed : (w : CableWorld) → IsWellFormed w → IsWellFormed (turn w)
 turn-formed w f = record {
   some_delay = rw (delay-after w) f.some_delay;
-  short_delay = rw (delay-after w) f.short_delay;
   cabling = rw (cabling-after w) f.cabling;
   count = nodes-after w f.count ∙ rw (cabling-after w) f.count;
   wire_rows = rows-after w ∙ rw (cabling-after w) f.wire_rows;

@@ -60,9 +60,12 @@ all-at (y ∷ ys) a (suc k) x e = all-at ys a.1 k x e
 reached-first :
     (nodes : List PortNode) → AllOn nodes → length nodes ≤ 63 → IsReached (world_of_nodes 4 nodes)
 reached-first nodes a few = starts (world_of_nodes 4 nodes) (
-  record { some_delay = omega arith; short_delay = omega arith; few_nodes = few; nodes = λ k x e. powered-in-range 4 x.state (omega arith) (omega arith) (all-at nodes a k x e).0; clocks = λ k x e. subst (λ c. KeepsTime (longest_in_range 4) x.state.timing c) (sym (all-at nodes a k x e).1) tt; is = refl },
-  λ k x e. in-range-forced 4 x.state.timing (omega arith) (all-at nodes a k x e).0.timing,
-  λ k x e. (all-at nodes a k x e).1,
+  record { some_delay = omega arith; few_nodes = few; nodes = λ k x e. powered-in-range 4 x.state (omega arith) (omega arith) (all-at nodes a k x e).0; clocks = λ k x e. subst (λ c. KeepsTime (longest_in_range 4) x.state.timing c) (sym (all-at nodes a k x e).1) tt; is = refl },
+  record {
+    short_delay = omega arith;
+    forced = λ k x e. in-range-forced 4 x.state.timing (omega arith) (all-at nodes a k x e).0.timing;
+    even = λ k x e. (all-at nodes a k x e).1;
+  },
 )
 
 -- ---- the worked runs

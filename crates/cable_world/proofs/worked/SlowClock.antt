@@ -67,7 +67,7 @@ each-clock (suc zero) x e = subst (λ (z : PortNode). KeepsTime longest z.state.
 each-clock (suc (suc k)) x e = absurd cc
 
 powered-on : IsPowerOnWorld alone
-powered-on = record { some_delay = omega arith; short_delay = omega arith; few_nodes = omega arith; nodes = each-powered; clocks = each-clock; is = refl }
+powered-on = record { some_delay = omega arith; few_nodes = omega arith; nodes = each-powered; clocks = each-clock; is = refl }
 
 -- ---- its run
 

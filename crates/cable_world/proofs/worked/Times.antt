@@ -93,9 +93,8 @@ each-forced (suc (suc k)) x e = absurd cc
 
 start-reached : IsReached start
 start-reached = comes-plugged alone (at 0 0) (at 1 0) refl (starts alone (
-  record { some_delay = omega arith; short_delay = omega arith; few_nodes = omega arith; nodes = each-powered; clocks = even-paced (longest_in_range 1) alone.nodes each-even; is = refl },
-  each-forced,
-  each-even,
+  record { some_delay = omega arith; few_nodes = omega arith; nodes = each-powered; clocks = even-paced (longest_in_range 1) alone.nodes each-even; is = refl },
+  record { short_delay = omega arith; forced = each-forced; even = each-even },
 ))
 
 -- a hold of 64 turns, a long wait of 6, and the rest: the second is root

@@ -270,7 +270,7 @@ module _
   time-is zero = omega arith
   time-is (suc c) = let z : suc c * (v.delay + slack v) ≡ c * (v.delay + slack v) + (v.delay + slack v) = grind arith in omega (arith, z, time-is c)
 
-  -- after so many times d turns so many are gone, or all
+  -- after so many times d + slack turns so many are gone, or all
   fewer :
       (c : ℕ) → (count (member (time c)) (length v.nodes) + c ≤ length v.nodes)
       ⊎ (count (member (time c)) (length v.nodes) ≡ 0)

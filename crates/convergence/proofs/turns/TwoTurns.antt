@@ -4,7 +4,7 @@ use Rattle.convergence.proofs.Common.{PortNode, CableWorld, turn, turn_at, IsLaw
 use Rattle.port_state.specs.Clock.{Clock, even, is_even, misses, clock_after, TicksFor}
 use Rattle.cable_world.specs.Times.{Suits}
 use Rattle.cable_world.specs.Run.{IsReached}
-use Rattle.cable_world.proofs.Lemmas.{misses-slowly, reached-even}
+use Rattle.cable_world.proofs.Lemmas.{misses-slowly, reached-runs}
 use Rattle.convergence.specs.Turns.{slack_of, slack}
 use Rattle.convergence.proofs.turns.Clocks.{ticks-less, ticks-missed, misses-none}
 
@@ -63,7 +63,7 @@ slack-later hs v l i = elim (even-or v.nodes) [
 
 -- so are all those of a world that runs
 pub reached-slack : (w : CableWorld) → IsReached w → slack w ≡ 0
-reached-slack w r = even-none w.nodes (λ k x at. ap is_even (reached-even w r k x at))
+reached-slack w r = even-none w.nodes (λ k x at. ap is_even ((reached-runs w r).even k x at))
 
 -- ---- missed turns
 

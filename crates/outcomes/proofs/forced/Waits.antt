@@ -12,7 +12,7 @@ use Rattle.port_state.specs.declared.view.View.{View}
 use Rattle.cable_world.specs.Phases.{is_timed}
 use Rattle.cable_world.specs.Run.{IsReached}
 use Rattle.convergence.specs.Turns.{seen_turns}
-use Rattle.cable_world.proofs.Lemmas.{quiet-timed, reached-forced, steady}
+use Rattle.cable_world.proofs.Lemmas.{quiet-timed, reached-runs, steady}
 use Rattle.convergence.proofs.Lemmas.{late-start, reached-slack}
 use Rattle.outcomes.proofs.forced.Forced.{SameDue, due-heard, kept-heard, beat-tick-holds, Takes, beat-tick-takes, waits-parentless}
 use Rattle.outcomes.proofs.forced.Spread.{Turned, turned, spreads, all-reset}
@@ -36,7 +36,7 @@ tree-timed p h = rw h refl
 pub reached-enough : (w : CableWorld) (k : ℕ) → IsReached w → CanBeForcedAt w k
 reached-enough w k r x at =
     let e : w.delay ≡ seen_turns w = omega (arith, reached-slack w r) in
-    subst (λ d. CanBeForced d w.longest x.state.timing) e (reached-forced w r k x at)
+    subst (λ d. CanBeForced d w.longest x.state.timing) e ((reached-runs w r).forced k x at)
 
 -- ---- turns after the last entry
 

@@ -165,7 +165,7 @@ module _ (d : ℕ) (x y : Side) (t : Told d x y) where
       go :
           (b : Bool) → nat_lt ((hearing x).state.view.timer + 1) (hearing x).state.timing.hold ≡ b →
           64 * d ≤ x.node.view.timer + 1
-      go true e = absurd (true≢false (sym (j.near.ticks.holds (ap is_resetting h.phase ∙ r) (ltb-true ((hearing x).state.view.timer + 1) (hearing x).state.timing.hold e) (hold_fits d x j.some_delay j.short_delay j.near)).0 ∙ out))
+      go true e = absurd (true≢false (sym (j.near.ticks.holds (ap is_resetting h.phase ∙ r) (ltb-true ((hearing x).state.view.timer + 1) (hearing x).state.timing.hold e) (hold_fits d x j.some_delay j.near)).0 ∙ out))
       go false e = omega (arith, ltb-false ((hearing x).state.view.timer + 1) (hearing x).state.timing.hold e, h.timer, (heard_timing d x j.near).hold_least)
 
   nothing-under-way :

@@ -69,7 +69,6 @@ module _ (w : CableWorld) (l : IsLawful w) (i : IsIdentifying w) where
       record {
         pair = record {
           some_delay = l.well_formed.some_delay;
-          short_delay = l.well_formed.short_delay;
           near = ready w a b x l.well_formed l.coupled e at_x;
           other = ready w b a y l.well_formed l.coupled back at_y;
           comes = comes w b a e;

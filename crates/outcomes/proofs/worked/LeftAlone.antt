@@ -36,7 +36,7 @@ clocked (suc zero) x e = subst (λ (z : PortNode). KeepsTime (longest_in_range 4
 clocked (suc (suc k)) x e = absurd cc
 
 at-first : IsPowerOnWorld (world_of_nodes 4 pair.nodes)
-at-first = record { some_delay = omega arith; short_delay = omega arith; few_nodes = omega arith; nodes = λ k x e. powered-in-range 4 x.state (omega arith) (omega arith) (powered k x e); clocks = clocked; is = refl }
+at-first = record { some_delay = omega arith; few_nodes = omega arith; nodes = λ k x e. powered-in-range 4 x.state (omega arith) (omega arith) (powered k x e); clocks = clocked; is = refl }
 
 free : act_fault (Plug (at 0 0) (at 1 0)) (world_of_nodes 4 pair.nodes) ≡ None
 free = refl

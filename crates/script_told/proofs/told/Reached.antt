@@ -276,7 +276,7 @@ pub record IsSoundDraft (draft : Draft) : Type 0 where
 pub draft-power : (draft : Draft) → IsSoundDraft draft →
     IsPowerOnWorld (world_with_times draft.delay draft.times.ranges.most draft.nodes)
 draft-power draft h =
-    power-on draft.delay draft.times.ranges.most draft.nodes h.some_delay h.short_delay h.few (λ k x at. (h.powered k x at).powered)
+    power-on draft.delay draft.times.ranges.most draft.nodes h.some_delay h.few (λ k x at. (h.powered k x at).powered)
     (even-paced draft.times.ranges.most draft.nodes (λ k x at. (h.powered k x at).even))
 
 pub draft-bus : (draft : Draft) → IsSoundDraft draft →
@@ -284,8 +284,11 @@ pub draft-bus : (draft : Draft) → IsSoundDraft draft →
 draft-bus draft h = record {
   reached = power-on-reached (world_with_times draft.delay draft.times.ranges.most draft.nodes)
       (draft-power draft h)
-      (λ k x at. (h.powered k x at).forced)
-      (λ k x at. (h.powered k x at).even);
+      (record {
+        short_delay = h.short_delay;
+        forced = λ k x at. (h.powered k x at).forced;
+        even = λ k x at. (h.powered k x at).even;
+      });
   named = h.same;
   reported = tt;
 }

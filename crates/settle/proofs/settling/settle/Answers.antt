@@ -2,7 +2,7 @@ use Rattle.std.proofs.Math.Logic.{∥∥₁_map}
 use Rattle.std.proofs.Common.{◌≡◌, ◌∙◌, ◌+◌, ◌≤◌, ℕ, length, ap, sym, subst, arith}
 use Rattle.cable_world.specs.Turn.{turns_after}
 use Rattle.cable_world.specs.Unchanged.{TurnsPass}
-use Rattle.cable_world.proofs.Lemmas.{lawful-now}
+use Rattle.cable_world.proofs.Lemmas.{lawful-now, short-now}
 use Rattle.settle.specs.Report.{quiet_turns_of}
 use Rattle.settle.proofs.TurnsGiven.{sized, on-err}
 use Rattle.settle.proofs.LeftAlone.{settled-after}
@@ -21,8 +21,8 @@ pub quiet_turns_for-quiet-requires-clause-short_delay :
     goal.quiet_turns_for-quiet-requires-clause-short_delay
 quiet_turns_for-quiet-requires-clause-short_delay g c =
     let w = g.W.WorldRun.world c.args.world.now in
-    let lawful = lawful-now w (g.met.W.WorldRun.reached c.args.world.now (sym c.spent.ensures ∙ c.if-spent.false)) in
-    omega (arith, c.delay.ensures, lawful.well_formed.short_delay)
+    let short = short-now w (g.met.W.WorldRun.reached c.args.world.now (sym c.spent.ensures ∙ c.if-spent.false)) in
+    omega (arith, c.delay.ensures, short)
 
 pub run_turns-requires : goal.run_turns-requires
 run_turns-requires g c =

@@ -36,7 +36,7 @@ invariant_of-result g c =
     let paced = even-paced longest nodes even in
     let few : length nodes ≤ 63 = omega (arith, long, c.requires.few) in
     record {
-      reached = λ fine. subst (λ w. ∥ IsReached w ∥₁) (sym start) ∣ power-on-reached (world_with_times d longest nodes) (power-on d longest nodes c.requires.some_delay c.requires.short_delay few h paced) forced even ∣₁;
+      reached = λ fine. subst (λ w. ∥ IsReached w ∥₁) (sym start) ∣ power-on-reached (world_with_times d longest nodes) (power-on d longest nodes c.requires.some_delay few h paced) (record { short_delay = c.requires.short_delay; forced = forced; even = even }) ∣₁;
       marks = ap length c.in_ok-no_changes.ensures ∙ length-replicate c.len.result 0 ∙ omega (arith, c.len.ensures, c.args.machines.ok.0);
       same = λ fine. ap (λ rows. map length rows) c.in_ok-arrival_rows.ensures ∙ as-long [] empty_wire counts ∙ sym (ap (λ rows. map length rows) c.in_ok-wire_rows.ensures);
     }

@@ -47,7 +47,7 @@ invariant_of-result g c =
     let many : length agenda ≡ length c.args.machines.items = sym (length-map agenda r) ∙ ap length c.in_ok-agenda_nodes.ensures.nodes ∙ long in
     record {
       reached = λ fine. subst (λ w. ∥ IsReached w ∥₁) (sym start)
-          ∣ c.worlds_stay_reached.ensures.power_on (world_with_times d longest nodes) (power-on d longest nodes c.requires.some_delay c.requires.short_delay few h (even-paced longest nodes even)) forced even ∣₁;
+          ∣ c.worlds_stay_reached.ensures.power_on (world_with_times d longest nodes) (power-on d longest nodes c.requires.some_delay few h (even-paced longest nodes even)) (record { short_delay = c.requires.short_delay; forced = forced; even = even }) ∣₁;
       early = omega arith;
       abreast = λ fine e. c.in_ok-agenda_nodes.ensures.clocks;
       behind = λ fine. All-weaker (λ n. n.clock ≡ 0) (λ n. n.clock ≤ 0) (λ n e. omega (arith, e)) agenda c.in_ok-agenda_nodes.ensures.clocks;
