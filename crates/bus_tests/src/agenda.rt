@@ -1,5 +1,5 @@
 //! A world that passes over turns makes few calls of its machines.
-ghost use Rattle.std.specs.Prelude.{◌≡◌, ◌<◌, All, IfOk, length};
+ghost use Rattle.std.specs.Prelude.{◌≡◌, ◌<◌, All, IfOk, length, refl};
 ghost use Rattle.phy_machine.specs.Field.{field_node};
 ghost use Rattle.cable_world.specs.World.{IsNodeAtPowerOn};
 
@@ -88,6 +88,8 @@ impl PortMachine for Counting<'_> {
     }
 
     ghost valid = { λ m. m.machine.valid };
+
+    ghost steady = { λ m. refl };
 }
 
 /// A machine that was just powered on.

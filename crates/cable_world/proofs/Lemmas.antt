@@ -15,8 +15,8 @@ pub use Rattle.cable_world.proofs.QuietTurns.{after-cabling, holds-are-calls, ho
 -- Quiet turns one after the other, and runs without an act.
 pub use Rattle.cable_world.proofs.Rests.{one-hold, one-turn, quiet-run, rests-cabling, rests-come, rests-then, turns-rest}
 -- Turns, holds and acts keep a world lawful, and so every world that comes of a power-on world is
--- lawful; and each node of a reached world can be forced.
-pub use Rattle.cable_world.proofs.StaysLawful.{act-lawful, comes-lawful, hold-lawful, power-on-lawful, reached-forced, reached-lawful, turn-lawful}
+-- lawful; and each reached world can run.
+pub use Rattle.cable_world.proofs.StaysLawful.{act-lawful, comes-lawful, hold-lawful, power-on-lawful, reached-lawful, reached-runs, turn-lawful}
 -- What comes of a world that comes of power-on comes of it too, and so for reached worlds.
 pub use Rattle.cable_world.proofs.StaysReached.{act-comes, act-reached, event-comes, hold-comes, hold-reached, power-on-comes, power-on-reached, reached-comes, run-comes, turn-comes, turn-reached, turns-come, turns-reached}
 -- What plugging and pulling do to the cables.
@@ -47,7 +47,7 @@ pub use Rattle.cable_world.proofs.levels.LastSent.{child-if, choose, only, turne
 -- nodes, and cables delay by at most d turns. A node enters R0 because a neighbour did, at most d
 -- turns before. So the nodes that entered in the last turns form a chain, and there are no more of
 -- them than nodes.
-pub use Rattle.cable_world.proofs.resets.Entries.{Recent, after-delay, after-longest, after-length, comes-from, hold-left, in-turn, steady}
+pub use Rattle.cable_world.proofs.resets.Entries.{Recent, after-delay, after-longest, after-length, comes-from, hold-left, in-turn, in-turn-rises, RisesOrMisses, beat-misses, steady}
 -- A node that doesn't enter a reset counts none.
 pub use Rattle.cable_world.proofs.resets.ResetCounts.{turn-counts}
 -- Steps of single nodes between two turns, and when lists changed.
@@ -56,9 +56,9 @@ pub use Rattle.cable_world.proofs.running.Acting.{same-itself}
 -- from its length.
 pub use Rattle.cable_world.proofs.running.Lists.{no-packets}
 -- The tables of a world at power-on.
-pub use Rattle.cable_world.proofs.running.Start.{are-counts, as-long, each-node, power-on, rows-are, start-is}
+pub use Rattle.cable_world.proofs.running.Start.{are-counts, as-long, each-node, even-paced, power-on, rows-are, start-is}
 -- A world by its parts: what a lawful one gives to the code, and its turn.
-pub use Rattle.cable_world.proofs.running.Whole.{all-young, fault-of, held-is, lawful-now, put-long, rows-long, sent-long, settled, turn-is, vectors-related, young-from}
+pub use Rattle.cable_world.proofs.running.Whole.{all-young, fault-of, held-is, lawful-now, put-long, rows-long, sent-long, settled, short-now, turn-is, vectors-related, young-from}
 -- The power-on world is well formed, and as no cable is there its wires agree.
 pub use Rattle.cable_world.proofs.tables.AtPowerOn.{power-on-apart}
 -- An end of a cable: its node, its port and its wire are there.
@@ -71,9 +71,10 @@ pub use Rattle.cable_world.proofs.tables.TablesInActs.{act-formed, altered, as_b
 -- pulled.
 pub use Rattle.cable_world.proofs.tables.TablesInSteps.{HasEntry, not-replaced, put-lengths, put-other, put-same, replaced, sent-length, step-cables}
 -- A turn keeps a world well formed.
-pub use Rattle.cable_world.proofs.tables.TablesInTurns.{turn-formed}
--- Turns and acts change no node's times, so that who can be forced stays so.
-pub use Rattle.cable_world.proofs.tables.TimesKept.{act-forced, turn-forced}
+pub use Rattle.cable_world.proofs.tables.TablesInTurns.{steady-at, turn-formed}
+-- Turns and acts change no node's times, and a clock goes on as it is, in turns alone. So who can be forced stays
+-- so, and each node keeps time.
+pub use Rattle.cable_world.proofs.tables.TimesKept.{act-forced, misses-slowly, turn-forced}
 -- A turn, node by node and wire by wire.
 pub use Rattle.cable_world.proofs.turns.ByNumber.{cabling-after, delay-after, longest-after, node-after, nodes-after, sent-at, turns-counted, wire-after}
 -- What is to be known of a node that hears a list of signals.

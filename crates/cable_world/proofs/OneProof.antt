@@ -8,6 +8,9 @@ use Rattle.port_state.specs.declared.signal.Level.TheVariants as level
 use Rattle.port_state.specs.declared.signal.Signal.{Signal}
 use Rattle.port_state.specs.declared.signal.Signal.TheVariants as signal
 use Rattle.port_state.proofs.Lemmas.{valid_prop}
+use Rattle.port_state.specs.Clock.{Clock, even, slow, every, TicksFor, KeepsPace}
+use Rattle.port_state.specs.declared.timing.Timing.{Timing}
+use Rattle.cable_world.specs.Times.{SuitsSlowly, KeepsTime}
 use Rattle.cable_world.specs.Wire.{Travelling, Wire}
 use Rattle.cable_world.specs.World.{CableWorld}
 use Rattle.cable_world.specs.Signals.{AllAsOldAs}
@@ -114,6 +117,24 @@ back_prop : (young : ℕ) (l : Level) (ts : List Travelling) → IsProp (NoneTak
 back_prop young l [] = Unit-prop
 back_prop young l (t ∷ ts) = ×_prop (hlevel same_flags) (back_prop young _ ts)
 
+ticks_prop : (count : ℕ) (c : Clock) → IsProp (TicksFor count c)
+ticks_prop count even = Unit-prop
+ticks_prop count (slow k next) = le_prop
+ticks_prop count (every gap k) = le_prop
+
+pace_prop : (pace : ℕ) (c : Clock) → IsProp (KeepsPace pace c)
+pace_prop pace even = Unit-prop
+pace_prop pace (slow k next) = ×_prop (ticks_prop pace next) (pace_prop pace next)
+pace_prop pace (every gap k) = le_prop
+
+slowly_prop : (longest t : Timing) → IsProp (SuitsSlowly longest t)
+slowly_prop longest t = hlevel le_prop
+
+time_prop : (longest t : Timing) (c : Clock) → IsProp (KeepsTime longest t c)
+time_prop longest t even = Unit-prop
+time_prop longest t (slow k next) = ×_prop (pace_prop t.long (slow k next)) (slowly_prop longest t)
+time_prop longest t (every gap k) = ×_prop (pace_prop t.long (every gap k)) (slowly_prop longest t)
+
 cabling_prop : (w : CableWorld) → IsProp (IsCabling w.cabling)
 cabling_prop w = hlevel (same_fars, le_prop)
 
@@ -127,4 +148,4 @@ coupled_prop : (w : CableWorld) → IsProp (IsCoupled w)
 coupled_prop w = hlevel (same_flags, le_prop, old_prop, back_prop)
 
 pub lawful_prop : (w : CableWorld) → IsProp (IsLawful w)
-lawful_prop w = hlevel (formed_prop, agrees_prop, coupled_prop)
+lawful_prop w = hlevel (formed_prop, time_prop, agrees_prop, coupled_prop)

@@ -3,6 +3,7 @@ use Rattle.std.proofs.Common.{◌≡◌, ◌≢◌, ℕ, zero, suc, ◌+◌, Lis
 use Rattle.cabling.specs.declared.cable.End.{End}
 use Rattle.cabling.specs.declared.cable.CableFault.{CableFault}
 use Rattle.port_state.specs.declared.timing.Timing.{Timing}
+use Rattle.port_state.specs.Clock.{Clock}
 use Rattle.cable_world.specs.World.{CableWorld, wire_of}
 use Rattle.cable_world.specs.Turn.{turn, turns_after}
 use Rattle.cable_world.specs.Act.{hold, hold_fault}
@@ -13,7 +14,7 @@ use Rattle.cable_world.specs.StaysLawful.{KeptByHolds}
 use Rattle.cable_world.proofs.acts.Happenings.{hold-signals}
 use Rattle.cable_world.proofs.turns.ByNumber.{cabling-after, no-turns, one-more}
 use Rattle.cable_world.proofs.StaysLawful.{turn-lawful, hold-lawful}
-use Rattle.cable_world.proofs.tables.TimesKept.{Timed, turn-timed}
+use Rattle.cable_world.proofs.tables.TimesKept.{Timed, GoesOn, turn-timed}
 use Rattle.cable_world.proofs.StaysReached.{turn-comes, hold-comes, turn-reached, hold-reached}
 
 -- ---- holds
@@ -125,11 +126,11 @@ quiet-reached hs (suc k) w r = holds-keep IsReached hold-reached (hs (suc k)) (t
 
 -- no node's times change
 pub quiet-timed :
-    (P : ℕ → Timing → Type 0) (hs : HoldSchedule) (k : ℕ) (w : CableWorld) → IsLawful w →
+    (P : ℕ → Timing → Clock → Type 0) (hs : HoldSchedule) (k : ℕ) (w : CableWorld) → GoesOn P → IsLawful w →
     Timed P w.nodes → Timed P (quiet_after hs k w).nodes
 unfolding quiet_after
-quiet-timed P hs zero w l h = h
-quiet-timed P hs (suc k) w l h = turn-timed P (quiet_after hs k w) (quiet-lawful hs k w l).well_formed (quiet-timed P hs k w l h)
+quiet-timed P hs zero w on l h = h
+quiet-timed P hs (suc k) w on l h = turn-timed P (quiet_after hs k w) on (quiet-lawful hs k w l).well_formed (quiet-timed P hs k w on l h)
 
 pub after-cabling :
     (hs : HoldSchedule) (k : ℕ) (w : CableWorld) → (quiet_after hs k w).cabling ≡ w.cabling

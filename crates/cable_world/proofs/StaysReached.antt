@@ -44,7 +44,7 @@ hold-comes = held
 pub act-comes : KeptByActs ComesOfPowerOn
 act-comes = acted
 
--- ---- the same where each node can be forced
+-- ---- the same where the world can run
 
 pub reached-comes : ReachedComesOfPowerOn
 reached-comes _ (starts w p) = starts w p.0
@@ -53,7 +53,7 @@ reached-comes _ (held end n w none r) = held end n w none (reached-comes w r)
 reached-comes _ (turned w r) = turned w (reached-comes w r)
 
 pub power-on-reached : ReachedAtPowerOn
-power-on-reached w h forced = starts w (h, forced)
+power-on-reached w h runs = starts w (h, runs)
 
 pub turn-reached : (w : CableWorld) → IsReached w → IsReached (turn w)
 turn-reached = turned

@@ -8,7 +8,11 @@
 -- Each inequality of `specs/Times.antt` is needed: in `ShortHold`, `ShortWait`, `LongWait` and
 -- `Uncounted` one alone fails, and the world never settles, by `NeverSettles`. `ComesOf` has that no
 -- event of these runs is refused. (A force time that is too short: outcomes, worked/ShortForce.)
--- `Times`: times that barely suit a bus.
+-- `Times`: times that barely suit a bus. `Standards`: those of the standards, at the greatest delays.
+--
+-- Clocks that miss turns: `SlowClock`, with its run; `OftenMissed`, a clock that keeps no pace, so that the
+-- world never settles; `SlowWait`, a long wait that is a turn too short for it; `SlowLeaf`, where it changes
+-- who is root.
 pub mod Summary
 pub mod TwoNodes
 pub mod ThreeNodes
@@ -26,3 +30,8 @@ pub mod ShortWait
 pub mod LongWait
 pub mod Uncounted
 pub mod Times
+pub mod Standards
+pub mod SlowClock
+pub mod OftenMissed
+pub mod SlowWait
+pub mod SlowLeaf

@@ -7,7 +7,7 @@ use Rattle.port_state.specs.Ports.{is_connected}
 use Rattle.port_state.specs.Valid.{IsValid}
 use Rattle.port_state.specs.Machine.{PortNode}
 use Rattle.cable_world.specs.Wire.{Travelling, empty_wire}
-use Rattle.cable_world.specs.Times.{Suits}
+use Rattle.cable_world.specs.Times.{Suits, KeepsTime}
 use Rattle.cable_world.specs.World.{CableWorld, wire_of}
 use Rattle.cable_world.specs.Agreement.{Agrees}
 use Rattle.cable_world.specs.Coupling.{IsCoupled}
@@ -30,7 +30,6 @@ pub record FitsCables (w : CableWorld) (k : ℕ) (x : NodeState) : Type 0 where
 -- The tables of a world fit its nodes and its cables, and no signal is under way for too long.
 pub record IsWellFormed (w : CableWorld) : Type 0 where
   pub some_delay : 1 ≤ w.delay
-  pub short_delay : w.delay ≤ 16
   pub cabling : IsCabling w.cabling
   pub count : length w.nodes ≡ length w.cabling
   pub wire_rows : length w.wires ≡ length w.cabling
@@ -40,7 +39,12 @@ pub record IsWellFormed (w : CableWorld) : Type 0 where
   pub ages : (a : End) → AgesFall (w.delay - 1) (wire_of w a).signals
   pub unplugged : (a : End) → far w.cabling a ≡ None → wire_of w a ≡ empty_wire
 
+abbrev pub IsPaced : CableWorld → Type 0
+IsPaced w =
+    (k : ℕ) (x : PortNode) → slice_get w.nodes k ≡ Some x → KeepsTime w.longest x.state.timing x.clock
+
 pub record IsLawful (w : CableWorld) : Type 0 where
   pub well_formed : IsWellFormed w
+  pub paced : IsPaced w
   pub agrees : Agrees w
   pub coupled : IsCoupled w

@@ -2,7 +2,7 @@
 use Rattle.std.specs.Prelude.{◌≡◌, ℕ, zero, suc, ◌+◌, ◌*◌, None}
 use Rattle.cabling.specs.declared.cable.End.{End}
 use Rattle.cable_world.specs.declared.act.Act.{Act}
-use Rattle.cable_world.specs.World.{CableWorld, AllCanBeForced, IsPowerOnWorld}
+use Rattle.cable_world.specs.World.{CableWorld, CanRun, IsPowerOnWorld}
 use Rattle.cable_world.specs.Act.{Acted, hold, hold_fault}
 use Rattle.cable_world.specs.Turn.{turn}
 
@@ -19,9 +19,9 @@ pub data ComesOf (Start : CableWorld → Type 0) : CableWorld → Type 0 where
 abbrev pub ComesOfPowerOn : CableWorld → Type 0
 ComesOfPowerOn = ComesOf IsPowerOnWorld
 
--- the same, where each node can be forced: a world that runs
+-- the same, of one that the code can run
 abbrev pub IsReached : CableWorld → Type 0
-IsReached = ComesOf (λ w. IsPowerOnWorld w × AllCanBeForced w)
+IsReached = ComesOf (λ w. IsPowerOnWorld w × CanRun w)
 
 -- A turn is quiet where no act came since the turn before; holds may have come. By so many quiet
 -- turns the first world comes to the second.

@@ -1,9 +1,9 @@
--- What comes of a power-on world: it is lawful; and it is reached, where its nodes can be forced.
+-- What comes of a power-on world: it is lawful; and it is reached, where it can run.
 use Rattle.std.specs.Prelude.{◌≡◌, ℕ, List, None, Some, slice_get}
 use Rattle.cabling.specs.declared.cable.End.{End}
 use Rattle.port_state.specs.Machine.{PortNode}
 use Rattle.cable_world.specs.declared.act.Act.{Act}
-use Rattle.cable_world.specs.World.{CableWorld, NodeNumber, AllCanBeForced, IsPowerOnWorld}
+use Rattle.cable_world.specs.World.{CableWorld, NodeNumber, CanRun, IsPowerOnWorld}
 use Rattle.cable_world.specs.Turn.{turns_after}
 use Rattle.cable_world.specs.Act.{Acted, hold, hold_fault}
 use Rattle.cable_world.specs.Lawful.{IsLawful}
@@ -34,16 +34,16 @@ ComesIsLawful = (w : CableWorld) → ComesOfPowerOn w → IsLawful w
 abbrev pub ReachedIsLawful : Type 0
 ReachedIsLawful = (w : CableWorld) → IsReached w → IsLawful w
 
--- a power-on world is reached where each of its nodes can be forced
+-- a power-on world is reached where it can run
 abbrev pub ReachedAtPowerOn : Type 0
-ReachedAtPowerOn = (w : CableWorld) → IsPowerOnWorld w → AllCanBeForced w → IsReached w
+ReachedAtPowerOn = (w : CableWorld) → IsPowerOnWorld w → CanRun w → IsReached w
 
 abbrev pub ReachedComesOfPowerOn : Type 0
 ReachedComesOfPowerOn = (w : CableWorld) → IsReached w → ComesOfPowerOn w
 
--- times never change, so that the nodes of every reached world can be forced
-abbrev pub ReachedCanBeForced : Type 0
-ReachedCanBeForced = (w : CableWorld) → IsReached w → AllCanBeForced w
+-- times never change, and no clock begins to miss turns: so every reached world can run
+abbrev pub ReachedCanRun : Type 0
+ReachedCanRun = (w : CableWorld) → IsReached w → CanRun w
 
 -- whatever happens, each node has the times that it had
 abbrev pub TimesStay : Type 0

@@ -7,9 +7,10 @@ use Rattle.port_state.specs.declared.timing.Timing.{Timing}
 use Rattle.port_state.specs.Timing.{InRange}
 use Rattle.port_state.specs.Valid.{IsValid}
 use Rattle.port_state.specs.declared.states.NodeState.{NodeState}
+use Rattle.port_state.specs.Clock.{even}
 use Rattle.port_state.specs.Machine.{PortNode}
 use Rattle.cable_world.specs.Wire.{Wire, empty_wire}
-use Rattle.cable_world.specs.Times.{Suits, CanBeForced, longest_in_range}
+use Rattle.cable_world.specs.Times.{Suits, KeepsTime, CanBeForced, longest_in_range}
 -- the number of a node, from 0, and a set of such numbers
 pub use Rattle.cabling.specs.Wiring.{NodeNumber}
 pub use Rattle.cabling.specs.NodeSet.{Nodes as NodeSet}
@@ -17,7 +18,7 @@ pub use Rattle.cabling.specs.NodeSet.{Nodes as NodeSet}
 pub record CableWorld : Type 0 where
   -- d: a cable delays a signal by at most so many turns
   pub delay : ℕ
-  -- no node has longer times: a bound for counting turns, which changes nothing that happens
+  -- no node takes longer, in turns: a bound for counting turns, which changes nothing that happens
   pub longest : Timing
   pub cabling : Wiring
   -- each node, by its number
@@ -79,15 +80,28 @@ pub record IsPowered (d : ℕ) (longest : Timing) (x : NodeState) : Type 0 where
 -- the power-on world: every node was just powered on, and there is no cable
 pub record IsPowerOnWorld (w : CableWorld) : Type 0 where
   pub some_delay : 1 ≤ w.delay
-  pub short_delay : w.delay ≤ 16
   pub few_nodes : length w.nodes ≤ 63
   pub nodes :
       (k : ℕ) (x : PortNode) → slice_get w.nodes k ≡ Some x →
       IsPowered w.delay w.longest x.state
+  pub clocks :
+      (k : ℕ) (x : PortNode) → slice_get w.nodes k ≡ Some x →
+      KeepsTime w.longest x.state.timing x.clock
   pub is : w ≡ world_with_times w.delay w.longest w.nodes
+
+-- no clock misses a turn
+abbrev pub AllEven : CableWorld → Type 0
+AllEven w = (k : ℕ) (x : PortNode) → slice_get w.nodes k ≡ Some x → x.clock ≡ even
 
 -- each node becomes root where it waits to be forced
 abbrev pub AllCanBeForced : CableWorld → Type 0
 AllCanBeForced w =
     (k : ℕ) (x : PortNode) → slice_get w.nodes k ≡ Some x →
     CanBeForced w.delay w.longest x.state.timing
+
+-- what the code asks of a world that runs: signals no older than a byte tells, nodes that can be forced,
+-- and clocks that miss no turn
+pub record CanRun (w : CableWorld) : Type 0 where
+  pub short_delay : w.delay ≤ 16
+  pub forced : AllCanBeForced w
+  pub even : AllEven w

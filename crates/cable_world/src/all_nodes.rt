@@ -140,6 +140,7 @@ pub fn turn_world<M: PortMachine>(
     out: &mut Sends,
 ) -> Result<(), OutOfMemory>
     requires few { turns < 4000000000 }
+    requires short { delay ≤ 16 }
     requires lawful { (t : Timing) × IsLawful
         (world_record delay t cabling.now (map M.record_of machines.old) wires.old changed.old
         turns) }

@@ -11,7 +11,7 @@ ghost use Rattle.cable_world.specs.Unchanged.{ActKeepsLongest};
 ghost use Rattle.cable_world.specs.StaysLawful.{HoldsAtPowerOn, KeptByTurns, KeptByHolds, KeptByActs};
 ghost use Rattle.cable_world.specs.StaysLawful.{ComesIsLawful, ReachedIsLawful, ReachedAtPowerOn};
 ghost use Rattle.cable_world.specs.StaysLawful.{TimesStay};
-ghost use Rattle.cable_world.specs.StaysLawful.{ReachedComesOfPowerOn, ReachedCanBeForced};
+ghost use Rattle.cable_world.specs.StaysLawful.{ReachedComesOfPowerOn, ReachedCanRun};
 ghost use Rattle.cable_world.specs.Quiet.{HoldsAreCalls, PlainTurnsAreQuiet, OneQuietTurnMore};
 ghost use Rattle.cable_world.specs.Quiet.{NoQuietTurnIsHolds, QuietTurnsAdd, KeptByQuietTurns};
 ghost use Rattle.cable_world.specs.Still.{StillTurnsPass};
@@ -75,9 +75,9 @@ pub fn worlds_come_of_power_on()
     ensures act { KeptByActs ComesOfPowerOn }
 {}
 
-/// A power-on world whose nodes can be forced is reached, and what comes of a reached world by
-/// turns, holds and acts that aren't refused is reached too. So every reached world comes of a
-/// power-on world, and its nodes can be forced.
+/// A power-on world that can run is reached, and what comes of a reached world by turns, holds and
+/// acts that aren't refused is reached too. So every reached world comes of a power-on world, and
+/// can run.
 pub fn worlds_stay_reached()
     ensures power_on { ReachedAtPowerOn }
     ensures turns { KeptByTurns IsReached }
@@ -85,7 +85,7 @@ pub fn worlds_stay_reached()
     ensures hold { KeptByHolds IsReached }
     ensures act { KeptByActs IsReached }
     ensures comes { ReachedComesOfPowerOn }
-    ensures forced { ReachedCanBeForced }
+    ensures runs { ReachedCanRun }
 {}
 
 /// A world is lawful at power-on, and turns, holds and acts that aren't refused keep it lawful. So

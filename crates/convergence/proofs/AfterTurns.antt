@@ -1,10 +1,13 @@
 -- What is so after how many quiet turns.
-use Rattle.std.proofs.Common.{◌≡◌, ℕ, ◌+◌, ◌-◌, ◌*◌, ◌≤◌, Bool, true, Some, length, slice_get, refl, sym, ◌∙◌, ap, subst, arith}
+use Rattle.std.proofs.Common.{◌≡◌, ℕ, ◌+◌, ◌-◌, ◌*◌, ◌≤◌, Bool, true, Some, length, slice_get, sym, ◌∙◌, ap, subst, arith}
 use Rattle.std.proofs.lemmas.Bool.{false_from_ne_true}
 use Rattle.convergence.proofs.Common.{End, Wiring, far, IsClosed, IsComponent, IsCore, Level, PortNode, CableWorld, turn, ComesOfPowerOn, level_sent_at, level_shown, IsLawful, cabling-after, after-delay, after-length, some-of, some-at, some-same, comes-lawful, quiet-then, quiet-lawful, after-cabling, HoldSchedule, quiet_after, holds_after, IsAcyclic, ResetsAreDone, TreesAreTaken, LoopsAreReported, TreesAreDecided, turns_to_done, turns_to_trees, turns_to_decision, contrary}
 use Rattle.cable_world.proofs.Lemmas.{after-longest}
 use Rattle.convergence.specs.Cables.{TellsAt, ShowsAt}
-use Rattle.convergence.specs.Turns.{tree_turns, loop_turns, decision_turns, turns_to_loops}
+use Rattle.std.proofs.lemmas.Nat.{mul-le}
+use Rattle.port_state.specs.declared.timing.Timing.{Timing}
+use Rattle.convergence.proofs.turns.TwoTurns.{slack-later}
+use Rattle.convergence.specs.Turns.{seen_turns, tree_turns, loop_turns, decision_turns, turns_to_loops}
 use Rattle.convergence.specs.Kept.{IsGrown}
 use Rattle.convergence.proofs.turns.Cables.{joined-of}
 use Rattle.convergence.proofs.turns.CalmTurns.{Calmly, calmly, early-before, done-calm}
@@ -96,14 +99,20 @@ module _ (hs : HoldSchedule) (w : CableWorld) (r : ComesOfPowerOn w) (first : �
   start-acyclic : IsAcyclic start
   start-acyclic = quiet-acyclic hs first w lawful (comes-acyclic w r)
 
-  same-tree : tree_turns start ≡ tree_turns w
-  same-tree = rw (after-length hs w lawful first, after-delay hs w lawful first, after-longest hs w lawful first) refl
+  same-seen : seen_turns start ≤ seen_turns w
+  same-seen = omega (arith, after-delay hs w lawful first, slack-later hs w lawful first)
 
-  same-loop : loop_turns start ≡ loop_turns w
-  same-loop = rw (after-longest hs w lawful first) refl
+  same-all : length start.nodes * seen_turns start ≤ length w.nodes * seen_turns w
+  same-all = mul-le (length start.nodes) (seen_turns start) (length w.nodes) (seen_turns w) (omega (arith, after-length hs w lawful first)) same-seen
 
-  same-decision : decision_turns start ≡ decision_turns w
-  same-decision = rw (after-length hs w lawful first, after-delay hs w lawful first, after-longest hs w lawful first) refl
+  same-tree : tree_turns start ≤ tree_turns w
+  same-tree = omega (arith, same-all, ap (λ (t : Timing). t.force) (after-longest hs w lawful first))
+
+  same-loop : loop_turns start ≤ loop_turns w
+  same-loop = omega (arith, slack-later hs w lawful first, ap (λ (t : Timing). t.timeout) (after-longest hs w lawful first))
+
+  same-decision : decision_turns start ≤ decision_turns w
+  same-decision = omega (arith, same-all, same-seen, slack-later hs w lawful first, ap (λ (t : Timing). t.long) (after-longest hs w lawful first))
 
   pub start-grown : turns_to_trees w ≤ first → TreesAreTaken start → IsGrown start
   start-grown late taken = record {

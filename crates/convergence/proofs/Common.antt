@@ -11,7 +11,7 @@ pub use Rattle.port_state.specs.Coins.{coin}
 unfoldable pub use Rattle.port_state.specs.Entry.{enter}
 pub use Rattle.port_state.specs.Heard.{hears_packets, is_resetting}
 unfoldable pub use Rattle.port_state.specs.Heard.{on_signal}
-pub use Rattle.port_state.specs.Machine.{PortNode}
+pub use Rattle.port_state.specs.Machine.{PortNode, beat, on_beat}
 pub use Rattle.port_state.specs.Ports.{every, is_child, is_connected, is_idle, is_parent, is_port, passes, port_is}
 pub use Rattle.port_state.specs.Row.{Row}
 pub use Rattle.port_state.specs.Tick.{does, next_row, raise_timer, row_of}

@@ -20,7 +20,7 @@ pub use Rattle.convergence.proofs.ranks.RanksInTurns.{turn-acyclic}
 pub use Rattle.convergence.proofs.ranks.StaysAcyclic.{quiet-acyclic, comes-acyclic}
 -- In quiet turns nobody is in R0 or R1 any more, the longest hold and d turns after the last entry at the
 -- latest.
-pub use Rattle.convergence.proofs.resets.ResetsDone.{done-over, only-wait, resets-done}
+pub use Rattle.convergence.proofs.resets.ResetsDone.{done-over, none-enters-done, resets-done, steady-enters}
 -- After n * d quiet turns a Reset is under way to nodes in R0 alone: any other would enter
 -- R0 when it comes.
 pub use Rattle.convergence.proofs.resets.ResetsOver.{OldReset, none-older, old-after, resets-over, some-old}
@@ -43,7 +43,7 @@ pub use Rattle.convergence.proofs.sets.Closure.{in-component}
 -- The numbers below n that pass a test: the set of them, and how many there are.
 pub use Rattle.convergence.proofs.sets.Gathered.{count, count-found, count-le, count-less, count-most, count-some}
 -- Nodes in T0 once resets are done: their timers rise, until they know their tree.
-pub use Rattle.convergence.proofs.trees.TreeStart.{IsEarly, Started, done-at, early-at-first, only-start, start-early, start-timer, started}
+pub use Rattle.convergence.proofs.trees.TreeStart.{IsEarly, Started, done-at, early-at-first, only-start, start-early, start-timer, start-timeout, started}
 -- In a component without loop, once timers are at their force time, some node leaves T0 within each
 -- d turns: of the
 -- nodes in T0 one has at most one cable to the others, as there is no loop, and all its other
@@ -72,3 +72,9 @@ pub use Rattle.convergence.proofs.turns.Roles.{early-parentless, parent-late, pa
 -- Five nodes in a line, and five in a star: the middle becomes root without contention. Each milestone
 -- on the way is there by the share that it is allowed, and long before.
 pub use Rattle.convergence.proofs.worked.FiveNodes.{line, star}
+-- How often a clock ticks in so many turns, by what a timer counts.
+pub use Rattle.convergence.proofs.turns.SlowTurns.{HasRun, run-on, run-over}
+-- A coin that a tick draws, or none where the clock misses the turn.
+pub use Rattle.convergence.proofs.turns.Moves.{coin_of}
+pub use Rattle.convergence.proofs.turns.TwoTurns.{slack-most, slack-later, reached-slack, Misses, some-slack, not-missed, not-twice}
+pub use Rattle.convergence.proofs.turns.BeforeTree.{start-on}

@@ -5,6 +5,9 @@
 -- `BeforeTree`: what keeps a node in R1 and T0. `Moves`: what a tick does in T1, T2 and T3.
 -- `Weights`: what T1 and a parent port weigh, which no tick raises. `CalmTurns`: a turn in which
 -- nobody enters R0. `Flush`: what a node tells for d turns is shown at the other end.
+pub mod Clocks
+pub mod SlowTurns
+pub mod TwoTurns
 pub mod PhaseFacts
 pub mod PortFacts
 pub mod Cables

@@ -1,15 +1,16 @@
 -- What two nodes that have each other for parent, the rivals of a contention, know of each other's
 -- coins.
-use Rattle.std.specs.Prelude.{◌≡◌, ◌⊎◌, ℕ, ◌+◌, ◌-◌, ◌≤◌, true, false, List, None, Some, slice_get}
+use Rattle.std.specs.Prelude.{◌≡◌, ◌⊎◌, ℕ, ◌+◌, ◌-◌, ◌*◌, ◌<◌, ◌≤◌, true, false, List, None, Some, slice_get}
 use Rattle.cabling.specs.declared.cable.End.{End}
 use Rattle.cabling.specs.Wiring.{far}
 use Rattle.port_state.specs.declared.signal.Level.TheVariants as level
 use Rattle.port_state.specs.declared.signal.Phase.TheVariants.{ChildShake, Contend}
 use Rattle.port_state.specs.declared.states.NodeState.{NodeState}
 use Rattle.port_state.specs.Ports.{PortNumber, is_child, is_port}
+use Rattle.port_state.specs.Clock.{Clock, TicksFor}
 use Rattle.port_state.specs.Machine.{PortNode}
 use Rattle.cable_world.specs.declared.wire.Travelling.{Travelling}
-use Rattle.cable_world.specs.World.{CableWorld, AtCables, wire_of}
+use Rattle.cable_world.specs.World.{CableWorld, wire_of}
 use Rattle.cable_world.specs.Phases.{is_before_tree, is_shaking}
 use Rattle.cable_world.specs.Signals.{signals_of, has_reset, AllAsOldAs}
 use Rattle.cable_world.specs.Agreement.{level_shown, leads_down}
@@ -40,13 +41,21 @@ pub record AreAlike (x y : NodeState) : Type 0 where
   pub there : is_shaking y.view.phase ≡ true
   pub drew : DrewTheSame x y
 
--- or both are in T3, and their waits began less than d turns apart;
-pub record HaveMet (d : ℕ) (x y : NodeState) : Type 0 where
+-- The timer of x is less than d ahead of that of y; or by d, where the clock of y has missed a turn and
+-- misses no other in this wait, for which its waits are shorter.
+abbrev pub IsNear : ℕ → NodeState → NodeState → Clock → Type 0
+IsNear d x y e =
+    (x.view.timer + 1 ≤ y.view.timer + d)
+    ⊎ ((x.view.timer ≤ y.view.timer + d) × TicksFor (y.view.wait - y.view.timer) e
+    × (y.timing.short + 2 * d < x.timing.long))
+
+-- or both are in T3, and their waits began less than d turns apart, or d where a clock missed one;
+pub record HaveMet (d : ℕ) (x : NodeState) (c : Clock) (y : NodeState) (e : Clock) : Type 0 where
   pub here : x.view.phase ≡ Contend
   pub there : y.view.phase ≡ Contend
   pub drew : DrewTogether x y
-  pub near : x.view.timer ≤ y.view.timer + (d - 1)
-  pub far : y.view.timer ≤ x.view.timer + (d - 1)
+  pub near : IsNear d x y e
+  pub far : IsNear d y x c
 
 -- or one is in T3.
 pub record AreApart
@@ -57,10 +66,10 @@ pub record AreApart
   pub how : IsAhead x p y ⊎ AsksAgain d x y back
 
 abbrev pub AreRivals :
-    ℕ → NodeState → PortNumber → List Travelling →
-    NodeState → PortNumber → List Travelling → Type 0
-AreRivals d x p there y q back =
-    AreAlike x y ⊎ (HaveMet d x y ⊎ (AreApart d x p y back ⊎ AreApart d y q x there))
+    ℕ → NodeState → Clock → PortNumber → List Travelling →
+    NodeState → Clock → PortNumber → List Travelling → Type 0
+AreRivals d x c p there y e q back =
+    AreAlike x y ⊎ (HaveMet d x c y e ⊎ (AreApart d x p y back ⊎ AreApart d y q x there))
 
 -- ---- the end of a contention
 
@@ -81,8 +90,8 @@ pub record IsBelow (x : NodeState) (p : PortNumber) (y : NodeState) : Type 0 whe
 -- What is so of a node at one port of a cable, with the signals under way from there, and of the
 -- node at the other port, with the signals back.
 pub record Contests
-    (d : ℕ) (x : NodeState) (p : PortNumber) (there : List Travelling)
-    (y : NodeState) (q : PortNumber) (back : List Travelling)
+    (d : ℕ) (x : NodeState) (c : Clock) (p : PortNumber) (there : List Travelling)
+    (y : NodeState) (e : Clock) (q : PortNumber) (back : List Travelling)
     : Type 0 where
   -- Child is shown by child ports alone
   pub told :
@@ -94,7 +103,7 @@ pub record Contests
       1 ≤ x.view.draws → is_before_tree y.view.phase ≡ false
   pub rivals :
       is_port x.view.parent p ≡ true → is_port y.view.parent q ≡ true →
-      AreRivals d x p there y q back
+      AreRivals d x c p there y e q back
   -- and what is left of it when one has won
   pub won : leads_down x.view.ports p ≡ true → 1 ≤ y.view.draws → HasWon x y
   -- what a child does
@@ -114,6 +123,8 @@ HasOneRival w =
 pub record IsContested (w : CableWorld) : Type 0 where
   pub nodes :
       (k : ℕ) (x : PortNode) → slice_get w.nodes k ≡ Some x → KnowsCoins x.state
-  pub cables : AtCables w (λ a x b y.
-      Contests w.delay x a.port (wire_of w a).signals y b.port (wire_of w b).signals)
+  pub cables :
+      (a b : End) (x y : PortNode) → far w.cabling a ≡ Some b →
+      slice_get w.nodes a.node ≡ Some x → slice_get w.nodes b.node ≡ Some y →
+      Contests w.delay x.state x.clock a.port (wire_of w a).signals y.state y.clock b.port (wire_of w b).signals
   pub one_rival : HasOneRival w

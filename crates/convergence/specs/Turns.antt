@@ -1,9 +1,23 @@
 -- After how many quiet turns a milestone is reached, for n nodes whose cables delay by at
--- most d turns, and none of which has longer times than the world names.
-use Rattle.std.specs.Prelude.{ℕ, ◌+◌, ◌*◌, ◌≤◌, length, max}
+-- most d turns, and none of which takes longer, in turns, than the world names.
+use Rattle.std.specs.Prelude.{ℕ, ◌+◌, ◌*◌, ◌≤◌, List, [], ◌∷◌, length, max, if◌then◌else◌}
+use Rattle.port_state.specs.Clock.{is_even}
+use Rattle.port_state.specs.Machine.{PortNode}
 use Rattle.cable_world.specs.World.{CableWorld}
 use Rattle.cable_world.specs.Quiet.{HoldSchedule, quiet_after}
 use Rattle.cable_world.specs.Run.{ComesOfPowerOn}
+
+-- 0 where all clocks are even; else a clock may miss a turn before its next tick
+abbrev pub slack_of : List PortNode → ℕ
+slack_of [] = 0
+slack_of (n ∷ ns) = if is_even n.clock then slack_of ns else 1
+
+abbrev pub slack : CableWorld → ℕ
+slack w = slack_of w.nodes
+
+-- what a node tells is heard at the other end of a cable, where the clock ticks
+abbrev pub seen_turns : CableWorld → ℕ
+seen_turns w = w.delay + slack w
 
 -- ---- from one milestone to the next
 
@@ -13,24 +27,25 @@ over_turns w = length w.nodes * w.delay
 
 -- then every node holds, and leaves R0 and R1: as long as any node does
 abbrev pub done_turns : CableWorld → ℕ
-done_turns w = w.longest.hold + w.delay
+done_turns w = w.longest.hold + seen_turns w
 
 -- then nodes wait to be forced, and take their roles one after the other
 abbrev pub tree_turns : CableWorld → ℕ
-tree_turns w = w.longest.force + length w.nodes * w.delay
+tree_turns w = w.longest.force + length w.nodes * seen_turns w
 
 -- meanwhile a loop times out
 abbrev pub loop_turns : CableWorld → ℕ
-loop_turns w = w.longest.timeout + 1
+loop_turns w = w.longest.timeout + 1 + slack w
 
 -- a round of a contention: a wait, and two ways over the cable
 abbrev pub round_turns : CableWorld → ℕ
-round_turns w = w.longest.long + 2 * w.delay
+round_turns w = w.longest.long + 2 * seen_turns w
 
 -- then parents and children shake hands, and rivals contend for 33 rounds and one more wait
 abbrev pub decision_turns : CableWorld → ℕ
 decision_turns w =
-    12 * (length w.nodes * w.delay) + 33 * round_turns w + (w.longest.long + round_turns w) + 1
+    12 * (length w.nodes * seen_turns w) + 33 * round_turns w + (w.longest.long + round_turns w) + 1
+    + slack w
 
 -- ---- from the last act
 
@@ -49,10 +64,10 @@ turns_to_loops w = turns_to_done w + loop_turns w
 abbrev pub turns_to_decision : CableWorld → ℕ
 turns_to_decision w = turns_to_trees w + decision_turns w
 
--- Loops have timed out, and trees have come to rest: in 5 n d turns from where they are decided,
--- for which 315 d are enough for 63 nodes.
+-- Loops have timed out, and trees have come to rest: for each node five times what it takes until
+-- something is seen, from where they are decided. For 63 nodes 315 times that is enough.
 abbrev pub turns_to_settle : CableWorld → ℕ
-turns_to_settle w = max (turns_to_loops w) (turns_to_decision w + 315 * w.delay)
+turns_to_settle w = max (turns_to_loops w) (turns_to_decision w + 315 * seen_turns w)
 
 -- This holds after so many quiet turns of a world that comes of power-on, and at each turn from
 -- there, whatever holds are placed between them.

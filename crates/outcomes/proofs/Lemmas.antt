@@ -1,5 +1,7 @@
 -- What crates above use of the proofs of this one, by what it is about.
 
+-- A world that runs gives each node time enough to be forced.
+pub use Rattle.outcomes.proofs.forced.Waits.{reached-enough}
 -- Each step keeps what a record tells of the identification of its node.
 pub use Rattle.outcomes.proofs.identify.MarksKept.{ready-hears}
 -- What is so of self identify holds in every world that comes of a power-on world.

@@ -4,6 +4,7 @@ use Rattle.cabling.specs.NodeSet.{Holds}
 use Rattle.port_state.specs.declared.view.View.{View}
 use Rattle.port_state.specs.Heard.{is_resetting}
 use Rattle.port_state.specs.Machine.{PortNode}
+use Rattle.convergence.specs.Turns.{seen_turns, turns_to_done}
 use Rattle.cable_world.specs.Times.{CanBeForced}
 use Rattle.cable_world.specs.World.{CableWorld, NodeNumber, NodeSet}
 use Rattle.cable_world.specs.Phases.{is_before_tree, is_in_bus_reset}
@@ -83,7 +84,7 @@ EntriesTakeOver =
 abbrev pub CanBeForcedAt : CableWorld → NodeNumber → Type 0
 CanBeForcedAt w node =
     (x : PortNode) → slice_get w.nodes node ≡ Some x →
-    CanBeForced w.delay w.longest x.state.timing
+    CanBeForced (seen_turns w) w.longest x.state.timing
 
 -- in a component without loop, which has just been reset, this node alone waits to become root, and
 -- is given time enough for it
@@ -98,7 +99,7 @@ pub record IsForced (w : CableWorld) (node : NodeNumber) (set : NodeSet) (root :
 
 -- By so many turns it is the root: a reset goes round, every node holds, and roles are taken.
 abbrev pub forced_turns : CableWorld → ℕ
-forced_turns w = 2 * (length w.nodes * w.delay) + (w.longest.hold + w.delay)
+forced_turns w = turns_to_done w + length w.nodes * seen_turns w
 
 abbrev pub ForcedNodesBecomeRoots : Type 0
 ForcedNodesBecomeRoots =

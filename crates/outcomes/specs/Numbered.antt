@@ -30,7 +30,7 @@ use Rattle.cabling.specs.Sees.{numbers}
 use Rattle.port_state.specs.Ports.{is_unnamed, lowest}
 use Rattle.port_state.specs.SelfIdentify.{may_name}
 use Rattle.convergence.specs.Acyclic.{IsAcyclic}
-use Rattle.convergence.specs.Turns.{turns_to_over}
+use Rattle.convergence.specs.Turns.{seen_turns, turns_to_over}
 use Rattle.outcomes.specs.Identify.{IsIdentifying}
 
 -- the children at the ports before this one are named, and no other was asked
@@ -183,30 +183,30 @@ RestKeepsTree =
     SettlesFrom holds w k set core root t → IsAtRest (quiet_after holds k w) set →
     IsTree (quiet_after holds (k + j) w) set root t
 
--- all its nodes are in A0 within (4 n + 1) d turns
+-- all its nodes are in A0 within 4 n + 1 times what it takes until something is seen
 abbrev pub NodesGetReady : Type 0
 NodesGetReady =
     (holds : HoldSchedule) (w : CableWorld) (set core : NodeSet) (root : NodeNumber) (k : ℕ)
     (t : Tree) →
     SettlesFrom holds w k set core root t →
-    (m : ℕ) × (m ≤ (4 * length (numbers (quiet_after holds k w).cabling root t) + 1) * w.delay)
+    (m : ℕ) × (m ≤ (4 * length (numbers (quiet_after holds k w).cabling root t) + 1) * seen_turns w)
     × ((q : NodeNumber) (x : PortNode) → Holds set q →
     slice_get (quiet_after holds (k + m) w).nodes q ≡ Some x → is_ready x.state.view.phase ≡ true)
 
--- it is at rest within 5 n d
+-- it is at rest within 5 n times that
 abbrev pub TreesComeToRest : Type 0
 TreesComeToRest =
     (holds : HoldSchedule) (w : CableWorld) (set core : NodeSet) (root : NodeNumber) (k : ℕ)
     (t : Tree) →
     SettlesFrom holds w k set core root t →
-    (m : ℕ) × (m ≤ 5 * length (numbers (quiet_after holds k w).cabling root t) * w.delay)
+    (m : ℕ) × (m ≤ 5 * length (numbers (quiet_after holds k w).cabling root t) * seen_turns w)
     × IsAtRest (quiet_after holds (k + m) w) set
 
--- and has its tree after 5 n d turns, and from there on
+-- and has its tree from there on
 abbrev pub TreesAreThere : Type 0
 TreesAreThere =
     (holds : HoldSchedule) (w : CableWorld) (set core : NodeSet) (root : NodeNumber) (j k : ℕ)
     (t : Tree) →
     SettlesFrom holds w k set core root t →
-    5 * length (numbers (quiet_after holds k w).cabling root t) * w.delay ≤ j →
+    5 * length (numbers (quiet_after holds k w).cabling root t) * seen_turns w ≤ j →
     IsTree (quiet_after holds (k + j) w) set root t

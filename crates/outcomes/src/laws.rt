@@ -96,8 +96,8 @@ pub fn resets_spread()
 {}
 
 /// Where of a fresh component without loop one node alone waits to become root, and is given time
-/// enough for it, it does: at each turn after 2 n d + H + d, where H is the longest hold of the
-/// world, it is the root, and each other node has a parent port.
+/// enough for it, it does: at each turn after `forced_turns`, which is 2 n d + H + d where all clocks
+/// are even and H is the longest hold, it is the root, and each other node has a parent port.
 /// The cables show its tree. From n d turns on each node past T0 has its port towards it for parent
 /// port, and nobody draws a coin.
 pub fn waiting_nodes_become_roots()
@@ -140,8 +140,9 @@ pub fn trees_rest()
     ensures after_turns { RestKeepsTree }
 {}
 
-/// From such a component of n nodes all nodes come to A0 within (4 n + 1) d turns, and to rest
-/// within 5 n d; after 5 n d turns it has its tree, and keeps it.
+/// From such a component of n nodes all nodes come to A0 within (4 n + 1) e turns, and to rest
+/// within 5 n e; after 5 n e turns it has its tree, and keeps it. Where all clocks are even, e is d,
+/// and else d + 1.
 pub fn trees_settle()
     ensures ready { NodesGetReady }
     ensures rest { TreesComeToRest }
@@ -154,9 +155,9 @@ pub fn worlds_stay_numbering()
     ensures { IsKept IsNumbering }
 {}
 
-/// Every component with a loop comes to the outcome Loop: after n d + H + d + T + 1 quiet turns,
-/// where H is the longest hold and T the longest timeout of the world, each node of its core
-/// reports the timeout, and no node of it has an ID.
+/// Every component with a loop comes to the outcome Loop: after `turns_to_loops`, which is n d + H +
+/// d + T + 1 where all clocks are even, H is the longest hold and T the longest timeout, each node of
+/// its core reports the timeout, and no node of it has an ID.
 pub fn loops_come_out()
     ensures { LoopsComeOut }
 {}

@@ -16,6 +16,7 @@ use Rattle.port_state.specs.SelfIdentify.{may_name, granted_row}
 use Rattle.port_state.specs.Row as row
 use Rattle.port_state.specs.Row.{Row}
 use Rattle.port_state.specs.Tick.{raise_timer, row_of}
+use Rattle.port_state.specs.Clock.{even}
 use Rattle.port_state.specs.Machine.{PortNode}
 use Rattle.port_state.specs.Idle.{changes_nothing, rests, with_later_timer, after_ticks, IsIdleTick, IsIdleFor}
 use Rattle.port_state.proofs.Lemmas.{idle_ticks-rest, after-idle_ticks}
@@ -215,25 +216,27 @@ idle-phase Ready k x t h = sym (lt-ltb k look_ahead h)
 -- ---- stretches of idle ticks
 
 -- a stretch in which the node rests is idle
-idle-stretch : (count : ℕ) (n : PortNode) → n.state.view.timer ≤ 65535
+idle-stretch : (count : ℕ) (n : PortNode) → n.clock ≡ even → n.state.view.timer ≤ 65535
     → ((k : ℕ) → k < count → rests (with_later_timer k n.state) ≡ true) → IsIdleFor count n
-idle-stretch zero n t r k h = absurd (omega arith)
-idle-stretch (suc count) n t r k h = go (idle-stretch count n t (λ j l. r j (omega arith))) (cases_lt k count)
+idle-stretch zero n c t r k h = absurd (omega arith)
+idle-stretch (suc count) n c t r k h = go (idle-stretch count n c t (λ j l. r j (omega arith))) (cases_lt k count)
   where
     go : IsIdleFor count n → (k < count) ⊎ (count ≤ k) → IsIdleTick (after_ticks k n)
     go before (inl l) = before k l
     go before (inr l) =
         let same : count ≡ k = omega arith in
-        let there : after_ticks count n ≡ record n { state = with_later_timer count n.state } = after-idle_ticks count n t before in
+        let there : after_ticks count n ≡ record n { state = with_later_timer count n.state } = after-idle_ticks count n c t before in
+        let even-there : (after_ticks count n).clock ≡ even = ap (λ (m : PortNode). m.clock) there ∙ c in
         let rest : rests (after_ticks count n).state ≡ true = ap (λ m. rests m.state) there ∙ r count (omega arith) in
-        subst (λ j. IsIdleTick (after_ticks j n)) same ((idle_ticks-rest (after_ticks count n)).1 rest)
+        subst (λ j. IsIdleTick (after_ticks j n)) same ((idle_ticks-rest (after_ticks count n) even-there).1 rest)
 
 -- and no longer, if something happens then
-idle-ends : (count : ℕ) (n : PortNode) → n.state.view.timer ≤ 65535 → IsIdleFor count n
+idle-ends : (count : ℕ) (n : PortNode) → n.clock ≡ even → n.state.view.timer ≤ 65535 → IsIdleFor count n
     → rests (with_later_timer count n.state) ≡ false → IsIdleFor (count + 1) n → ⊥
-idle-ends count n t idle e more =
-    let there : after_ticks count n ≡ record n { state = with_later_timer count n.state } = after-idle_ticks count n t idle in
-    let rest : rests (after_ticks count n).state ≡ true = (idle_ticks-rest (after_ticks count n)).0 (more count (omega arith)) in
+idle-ends count n c t idle e more =
+    let there : after_ticks count n ≡ record n { state = with_later_timer count n.state } = after-idle_ticks count n c t idle in
+    let even-there : (after_ticks count n).clock ≡ even = ap (λ (m : PortNode). m.clock) there ∙ c in
+    let rest : rests (after_ticks count n).state ≡ true = (idle_ticks-rest (after_ticks count n) even-there).0 (more count (omega arith)) in
     let not_rest : rests (after_ticks count n).state ≡ false = ap (λ m. rests m.state) there ∙ e in
     cc
 
@@ -279,7 +282,7 @@ pub idle-for :
     (x : NodeState) (coins : Coins) → HasTimes x →
     IsIdleFor (idle_in x.view.phase x) (node_of x coins)
 idle-for x coins t =
-    idle-stretch (idle_in x.view.phase x) (node_of x coins) t.timer
+    idle-stretch (idle_in x.view.phase x) (node_of x coins) refl t.timer
     (λ k h. idle-phase x.view.phase k x t (let few = idle_in-few x.view.phase x t in omega arith) ∙ lt-ltb k (idle_in x.view.phase x) h)
 
 pub idle-greatest :
@@ -287,4 +290,4 @@ pub idle-greatest :
     IsIdleFor (idle_in x.view.phase x + 1) (node_of x coins) → ⊥
 idle-greatest x coins t h =
     let k = idle_in x.view.phase x in
-    idle-ends k (node_of x coins) t.timer (idle-for x coins t) (idle-phase x.view.phase k x t h ∙ le-ltb k k (omega arith))
+    idle-ends k (node_of x coins) refl t.timer (idle-for x coins t) (idle-phase x.view.phase k x t h ∙ le-ltb k k (omega arith))

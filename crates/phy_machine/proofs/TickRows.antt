@@ -18,11 +18,11 @@ use Rattle.port_state.specs.Row as row
 use Rattle.port_state.specs.Row.{Row}
 use Rattle.port_state.specs.Tick.{raise_timer, row_of, does, row_draws_coin}
 use Rattle.port_state.specs.Tick as step
-use Rattle.port_state.specs.Machine.{NodeStep, node_tick, with_coins}
+use Rattle.port_state.specs.Machine.{NodeStep, node_tick}
 use Rattle.bus_reset.specs.ResetStep.{reset_row, reset_step}
 use Rattle.tree_identify.specs.TreeStep.{tree_row, tree_step}
 use Rattle.phy_machine.specs.Node.{node_of}
-use Rattle.phy_machine.specs.codings.RowStep.{row_step}
+use Rattle.phy_machine.specs.codings.RowStep.{with_coins, row_step}
 
 -- ---- which rows draw a coin
 

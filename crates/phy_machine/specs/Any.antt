@@ -1,4 +1,6 @@
 -- The node that an `AnyMachine` stands for.
+use Rattle.std.specs.Prelude.{◌≡◌, refl}
+use Rattle.port_state.specs.Clock.{even}
 use Rattle.port_state.specs.Machine.{PortNode}
 use Rattle.port_state.specs.Valid.{IsValid}
 use Rattle.phy_machine.specs.declared.any.AnyMachine.{AnyMachine}
@@ -14,3 +16,8 @@ any_node (Packed m) = packed_node m
 pub any_valid : (m : AnyMachine) → IsValid (any_node m).state
 any_valid (Field m) = m.valid
 any_valid (Packed m) = m.machine.valid
+
+-- its clock misses no turn
+pub any_steady : (m : AnyMachine) → (any_node m).clock ≡ even
+any_steady (Field m) = refl
+any_steady (Packed m) = refl

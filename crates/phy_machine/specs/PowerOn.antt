@@ -2,6 +2,7 @@
 use Rattle.std.specs.Prelude.{◌≡◌, ◌≤◌}
 use Rattle.self_id.specs.Node.{FitBits}
 use Rattle.port_state.specs.PowerOn.{power_on}
+use Rattle.port_state.specs.Clock.{even}
 use Rattle.port_state.specs.Machine.{PortNode}
 use Rattle.phy_machine.specs.declared.spec.NodeSpec.{NodeSpec}
 
@@ -12,6 +13,10 @@ pub record IsSpec (s : NodeSpec) : Type 0 where
   pub attrs : FitBits s.attrs
   pub no_delay : s.attrs.delay ≡ 0
 
--- the node at power-on
+-- the node at power-on, with a clock that misses no turn
 abbrev pub node_of_spec : NodeSpec → PortNode
-node_of_spec s = record { state = power_on s.ports s.attrs s.force s.timing; coins = s.coins }
+node_of_spec s = record {
+  state = power_on s.ports s.attrs s.force s.timing;
+  coins = s.coins;
+  clock = even;
+}

@@ -14,7 +14,7 @@ pub enum AnyMachine {
 }
 
 impl PortMachine for AnyMachine {
-    ghost use Rattle.phy_machine.specs.Any.{any_node, any_valid};
+    ghost use Rattle.phy_machine.specs.Any.{any_node, any_steady, any_valid};
 
     ghost record_of = { any_node };
 
@@ -110,4 +110,6 @@ impl PortMachine for AnyMachine {
     }
 
     ghost valid = { any_valid };
+
+    ghost steady = { any_steady };
 }

@@ -1,5 +1,5 @@
 //! A machine that keeps the record of its node.
-ghost use Rattle.std.specs.Prelude.{◌≡◌};
+ghost use Rattle.std.specs.Prelude.{◌≡◌, refl};
 ghost use Rattle.port_state.specs.Valid.{IsValid};
 ghost use Rattle.port_state.proofs.Lemmas.{valid_prop};
 ghost use Rattle.phy_machine.specs.PowerOn.{IsSpec, node_of_spec};
@@ -92,4 +92,6 @@ impl PortMachine for FieldMachine {
     }
 
     ghost valid = { λ m. m.valid };
+
+    ghost steady = { λ m. refl };
 }

@@ -1,5 +1,5 @@
 //! The machine of a node of kind `packed`.
-ghost use Rattle.std.specs.Prelude.{◌≡◌};
+ghost use Rattle.std.specs.Prelude.{◌≡◌, refl};
 ghost use Rattle.phy_machine.specs.PowerOn.{IsSpec, node_of_spec};
 
 use crate::field::FieldMachine;
@@ -87,4 +87,6 @@ impl PortMachine for PackedMachine {
     }
 
     ghost valid = { λ m. m.machine.valid };
+
+    ghost steady = { λ m. refl };
 }

@@ -16,7 +16,8 @@ use Rattle.port_state.specs.Tick.{raise_timer, row_of, does, next_row, row_draws
 use Rattle.port_state.specs.Tick as step
 use Rattle.port_state.specs.Names.{timer, without}
 use Rattle.port_state.specs.Coins.{coin}
-use Rattle.port_state.specs.Machine.{PortNode, node_tick}
+use Rattle.port_state.specs.Clock.{even}
+use Rattle.port_state.specs.Machine.{PortNode, beat, on_beat, node_tick}
 use Rattle.port_state.specs.Idle.{IsIdleTick, IsIdleFor, after_ticks, changes_nothing, rests, with_later_timer}
 
 -- ---- a row that changes nothing
@@ -55,16 +56,16 @@ draws-nothing row.names_itself x e = refl
 
 -- a tick of a node that rests
 pub tick-rests :
-    (n : PortNode) → rests n.state ≡ true →
+    (n : PortNode) → n.clock ≡ even → rests n.state ≡ true →
     node_tick n ≡ record { node = record n { state = raise_timer n.state }; sends = [] }
 unfolding step.tick
-tick-rests n e = rw (draws-nothing (next_row n.state) n.state e, does-nothing (coin n.coins) (next_row n.state) n.state e) refl
+tick-rests n c e = rw (c, draws-nothing (next_row n.state) n.state e, does-nothing (coin n.coins) (next_row n.state) n.state e) refl
 
-idle-rests : (n : PortNode) → rests n.state ≡ true → IsIdleTick n
-idle-rests n e = record {
-  sends = ap (λ s. s.sends) (tick-rests n e);
-  state = ap (λ s. without timer s.node.state) (tick-rests n e);
-  coins = ap (λ s. s.node.coins) (tick-rests n e);
+idle-rests : (n : PortNode) → n.clock ≡ even → rests n.state ≡ true → IsIdleTick n
+idle-rests n c e = record {
+  sends = ap (λ s. s.sends) (tick-rests n c e);
+  state = ap (λ s. without timer s.node.state) (tick-rests n c e);
+  coins = ap (λ s. s.node.coins) (tick-rests n c e);
 }
 
 -- ---- any other row goes to another phase, sends something, or tells of a timeout
@@ -181,36 +182,43 @@ stirs c SelfIdent x p e l = granted x.view.granted e l
     granted false e l = cc
 stirs c Ready x p e l = cc
 
-looks-idle :
-    (n : PortNode) → IsIdleTick n →
-    LooksIdle n.state (does (coin n.coins) (next_row n.state) (raise_timer n.state))
+-- a clock that misses no turn
+even-beat :
+    (n : PortNode) → n.clock ≡ even →
+    does (coin n.coins) (next_row n.state) (raise_timer n.state) ≡ on_beat (beat n) n.state
 unfolding step.tick
-looks-idle n i = record {
-  silent = i.sends;
-  phase = ap (λ x. x.view.phase) i.state;
-  timed_out = ap (λ x. x.view.timed_out) i.state;
+even-beat n c = rw c refl
+
+looks-idle :
+    (n : PortNode) → n.clock ≡ even → IsIdleTick n →
+    LooksIdle n.state (does (coin n.coins) (next_row n.state) (raise_timer n.state))
+looks-idle n c i = record {
+  silent = ap (λ (s : Step). s.sends) (even-beat n c) ∙ i.sends;
+  phase = ap (λ (s : Step). s.state.view.phase) (even-beat n c) ∙ ap (λ x. x.view.phase) i.state;
+  timed_out = ap (λ (s : Step). s.state.view.timed_out) (even-beat n c) ∙ ap (λ x. x.view.timed_out) i.state;
 }
 
-idle-row : (n : PortNode) → IsIdleTick n → rests n.state ≡ true
-idle-row n i = go (rests n.state) refl
+idle-row : (n : PortNode) → n.clock ≡ even → IsIdleTick n → rests n.state ≡ true
+idle-row n c i = go (rests n.state) refl
   where
     go : (b : Bool) → rests n.state ≡ b → b ≡ true
     go true e = refl
-    go false e = absurd (stirs (coin n.coins) n.state.view.phase n.state refl e (looks-idle n i))
+    go false e = absurd (stirs (coin n.coins) n.state.view.phase n.state refl e (looks-idle n c i))
 
-pub idle_ticks-rest : (n : PortNode) → IsIdleTick n ↔ (rests n.state ≡ true)
-idle_ticks-rest n = (idle-row n, idle-rests n)
+pub idle_ticks-rest : (n : PortNode) → n.clock ≡ even → IsIdleTick n ↔ (rests n.state ≡ true)
+idle_ticks-rest n c = (idle-row n c, idle-rests n c)
 
 -- ---- idle ticks raise the timer
 
 pub after-idle_ticks :
-    (count : ℕ) (n : PortNode) → n.state.view.timer ≤ 65535 → IsIdleFor count n →
+    (count : ℕ) (n : PortNode) → n.clock ≡ even → n.state.view.timer ≤ 65535 → IsIdleFor count n →
     after_ticks count n ≡ record n { state = with_later_timer count n.state }
-after-idle_ticks zero n h i =
+after-idle_ticks zero n c h i =
     let e : min (n.state.view.timer + 0) 65535 ≡ n.state.view.timer = omega arith in
     rw e refl
-after-idle_ticks (suc k) n h i =
-    let before : after_ticks k n ≡ record n { state = with_later_timer k n.state } = after-idle_ticks k n h (λ j l. i j (omega arith)) in
-    let idle : rests (after_ticks k n).state ≡ true = idle-row (after_ticks k n) (i k (omega arith)) in
+after-idle_ticks (suc k) n c h i =
+    let before : after_ticks k n ≡ record n { state = with_later_timer k n.state } = after-idle_ticks k n c h (λ j l. i j (omega arith)) in
+    let still : (after_ticks k n).clock ≡ even = ap (λ (m : PortNode). m.clock) before ∙ c in
+    let idle : rests (after_ticks k n).state ≡ true = idle-row (after_ticks k n) still (i k (omega arith)) in
     let e : min (min (n.state.view.timer + k) 65535 + 1) 65535 ≡ min (n.state.view.timer + suc k) 65535 = omega arith in
-    ap (λ s. s.node) (tick-rests (after_ticks k n) idle) ∙ rw (before, e) refl
+    ap (λ s. s.node) (tick-rests (after_ticks k n) still idle) ∙ rw (before, e) refl

@@ -18,6 +18,8 @@ pub use Rattle.port_state.proofs.Outgoing.{on-append, few-sends_from}
 -- Ranges that are handed out are suitable. The least times of a standard are in its ranges.
 pub use Rattle.port_state.proofs.Suitable.{is_ok, ok-suitable}
 pub use Rattle.port_state.proofs.StandardLeast.{least_is_within}
+-- A clock stored as numbers.
+pub use Rattle.port_state.specs.codings.ClockCode.{clock_code}
 -- That a record is valid has one proof at most, so a machine can keep it as a fact of its own. No
 -- public contract cites this file.
 pub use Rattle.port_state.specs.codings.OneProof.{valid_prop}

@@ -5,6 +5,7 @@ use Rattle.port_state.specs.Row as row
 use Rattle.port_state.specs.Row.{Row}
 use Rattle.port_state.specs.Tick.{next_row}
 use Rattle.port_state.specs.Names.{timer, KeepsBut}
+use Rattle.port_state.specs.Clock.{even}
 use Rattle.port_state.specs.Machine.{PortNode, node_tick}
 
 -- the node after so many ticks without a signal
@@ -40,12 +41,12 @@ with_later_timer count x = record x {
 
 -- ---- laws
 
--- idle ticks are told by their rows
+-- idle ticks are told by their rows, where the clock misses none
 abbrev pub IdleTicksByRow : Type 0
-IdleTicksByRow = (n : PortNode) → IsIdleTick n ↔ (rests n.state ≡ true)
+IdleTicksByRow = (n : PortNode) → n.clock ≡ even → IsIdleTick n ↔ (rests n.state ≡ true)
 
 -- idle ticks raise the timer, one each
 abbrev pub IdleTicksRaiseTimers : Type 0
 IdleTicksRaiseTimers =
-    (count : ℕ) (n : PortNode) → n.state.view.timer ≤ 65535 → IsIdleFor count n
+    (count : ℕ) (n : PortNode) → n.clock ≡ even → n.state.view.timer ≤ 65535 → IsIdleFor count n
     → after_ticks count n ≡ record n { state = with_later_timer count n.state }

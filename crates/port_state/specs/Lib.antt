@@ -8,6 +8,7 @@ pub mod Sends
 pub mod PortSet
 pub mod Step
 pub mod Coins
+pub mod Clock
 pub mod PowerOn
 pub mod Entry
 pub mod Config

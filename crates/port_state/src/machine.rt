@@ -5,6 +5,7 @@ ghost use Rattle.port_state.specs.Ports.{is_connected};
 ghost use Rattle.port_state.specs.Group.{shown_attrs};
 ghost use Rattle.port_state.specs.Valid.{IsValid};
 ghost use Rattle.port_state.specs.Config.{config_packet};
+ghost use Rattle.port_state.specs.Clock.{even};
 ghost use Rattle.port_state.specs.Machine.{PortNode, node_on_signal, node_tick, node_disturb};
 ghost use Rattle.port_state.specs.Machine.{node_plugged, node_pulled, node_set_config};
 ghost use Rattle.port_state.specs.Idle.{IsIdleFor, after_ticks};
@@ -18,9 +19,9 @@ use self_id::Attrs;
 /// The machine of one node: bus reset, tree identify and self identify as its ports see them
 /// (IEEE Std 1394-1995 and 1394a-2000, cable environment, states R0 to A0).
 ///
-/// What a machine keeps stands for the record of a node with its coins, and each call does that
-/// call's step of the step table to it. `out` is empty at each call, and then has what was sent,
-/// the first signal first.
+/// What a machine keeps stands for the record of a node with its coins and its clock, and each call
+/// does that call's step of the step table to it. `out` is empty at each call, and then has what was
+/// sent, the first signal first.
 pub trait PortMachine {
     ghost record_of: { Self → PortNode };
 
@@ -104,4 +105,7 @@ pub trait PortMachine {
 
     // The record of a machine is valid, whatever calls came before.
     ghost valid: { (m : Self) → IsValid (record_of m).state };
+
+    // The clock of a machine misses no turn.
+    ghost steady: { (m : Self) → (record_of m).clock ≡ even };
 }

@@ -22,11 +22,12 @@ use Rattle.cable_world.specs.Phases.{is_in_bus_reset}
 use Rattle.cable_world.specs.Outcome.{IsTree, AtView}
 use Rattle.cable_world.specs.Run.{IsReached, Rests, still}
 use Rattle.cable_world.specs.Events.{turn_count}
-use Rattle.cable_world.proofs.Lemmas.{some-of, some-at, quiet-run, rests-then, turns-rest, reached-comes, reached-forced, reached-lawful, act-reached, step-cables, after-cabling, after-length, after-delay, after-longest}
-use Rattle.convergence.specs.Turns.{turns_to_settle}
+use Rattle.cable_world.proofs.Lemmas.{some-of, some-at, quiet-run, rests-come, rests-then, turns-rest, reached-comes, reached-lawful, act-reached, step-cables, after-cabling, after-length, after-delay, after-longest}
+use Rattle.convergence.specs.Turns.{slack, turns_to_settle}
 use Rattle.outcomes.specs.Forced.{NamesRoot}
 use Rattle.outcomes.specs.Settled.{TreesStay, IdsNameOneNode, ConfigsMoveRoots, PacketsSetGaps}
-use Rattle.outcomes.proofs.Lemmas.{ComesBy, comes-by}
+use Rattle.convergence.proofs.Lemmas.{reached-slack}
+use Rattle.outcomes.proofs.Lemmas.{ComesBy, comes-by, reached-enough}
 use Rattle.settle.specs.declared.report.Part.{Part}
 use Rattle.settle.specs.Report.{AreParts, IsTreeFrom, IsAfterQuiet, quiet_turns_of}
 use Rattle.settle.proofs.Lemmas.{found, same-component, turns-enough}
@@ -55,8 +56,8 @@ use Rattle.script_bus.proofs.FollowOn.{LeadsOn, leads-on, leads-behind, at-split
 
 same-share :
     (a b : CableWorld) → length a.nodes ≡ length b.nodes → a.delay ≡ b.delay →
-    a.longest ≡ b.longest → turns_to_settle a ≡ turns_to_settle b
-same-share a b nodes delay longest = rw (nodes, delay, longest) refl
+    a.longest ≡ b.longest → slack a ≡ slack b → turns_to_settle a ≡ turns_to_settle b
+same-share a b nodes delay longest spare = rw (nodes, delay, longest, spare) refl
 
 -- a packet is sent in a tree, time passes, and the bus settles
 module _
@@ -102,7 +103,8 @@ module _
       let same : turns_to_settle u ≡ turns_to_settle sent = same-share u sent
       (ap (λ (x : CableWorld). length x.nodes) c.is ∙ after-length c.schedule sent sent-lawful j)
       (ap (λ (x : CableWorld). x.delay) c.is ∙ after-delay c.schedule sent sent-lawful j)
-      (ap (λ (x : CableWorld). x.longest) c.is ∙ after-longest c.schedule sent sent-lawful j) in
+      (ap (λ (x : CableWorld). x.longest) c.is ∙ after-longest c.schedule sent sent-lawful j)
+      (reached-slack u (rests-come rests sent-reached) ∙ sym (reached-slack sent sent-reached)) in
       omega (arith, same, turns-enough u)
 
   calm : (k : ℕ) → Holds s.set k → AtView w k (λ x. is_in_bus_reset x.phase ≡ false)
@@ -167,7 +169,7 @@ module _
       let c = by-turns keeps names-one moves sets w sent u v reached from there tree s id true gap fits accepted act j rests quiet in
       let k : ℕ = j + quiet_turns_of u in
       let on = sent-reached keeps names-one moves sets w sent u v reached from there tree s id true gap fits accepted act j rests quiet in
-      let t = moves c.schedule w sent k from id gap s.set root (reached-comes w reached) fits accepted names-root (reached-forced sent on root) s.stands.is.no_loop
+      let t = moves c.schedule w sent k from id gap s.set root (reached-comes w reached) fits accepted names-root (reached-enough sent root on) s.stands.is.no_loop
       (enough keeps names-one moves sets w sent u v reached from there tree s id true gap fits accepted act j rests quiet) in
       (t.0, subst (λ (x : CableWorld). IsTree x s.set root t.0) (sym c.is) t.1)
 

@@ -11,9 +11,8 @@ use Rattle.cabling.specs.declared.cable.End.{End}
 use Rattle.cabling.specs.Wiring.{Wiring, ports_of}
 use Rattle.cabling.specs.Component.{IsComponent}
 use Rattle.cabling.specs.Existence.{HasComponent, ComponentsExist}
-use Rattle.port_state.specs.Coins.{coin}
 use Rattle.port_state.specs.Heard.{is_resetting}
-use Rattle.port_state.specs.Machine.{PortNode}
+use Rattle.port_state.specs.Machine.{PortNode, beat}
 use Rattle.cable_world.specs.Times.{Suits}
 use Rattle.cable_world.specs.Lawful.{IsLawful}
 use Rattle.cable_world.specs.Outcome.{IsTree}
@@ -94,7 +93,7 @@ module _ (stay : TreesStay) (names-one : IdsNameOneNode) where
       let range : Suits w.delay w.longest x.state.timing = (l.well_formed.nodes j x at_x).timing in
       let is = some-same _ y (sym (node-after w j x l.well_formed.count at_x) ∙ at_y) in
       sym (ap (λ (z : PortNode). z.state.view.resets) is)
-      ∙ turn-counts (inbox w 0 (ports_of w.cabling j)) (coin x.coins) x.state
+      ∙ turn-counts (inbox w 0 (ports_of w.cabling j)) (beat x) x.state
       (omega (arith, range.hold_least, l.well_formed.some_delay)) (omega (arith, range.hold_most, range.counted.hold))
       (hears w j x l.well_formed at_x) (ticks w j x l.well_formed at_x)
       (λ e. ap (λ (z : PortNode). is_resetting z.state.view.phase) is ∙ unmoved)

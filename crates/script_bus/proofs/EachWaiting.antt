@@ -18,7 +18,8 @@ use Rattle.cable_world.specs.Fresh.{IsFresh}
 use Rattle.cable_world.specs.Outcome.{IsTree}
 use Rattle.cable_world.specs.Run.{IsReached}
 use Rattle.cable_world.specs.Events.{Event, acts, holds, turns, Runs, turn_count}
-use Rattle.cable_world.proofs.Lemmas.{some-of, plain-quiet, reached-comes, reached-forced, reached-lawful, act-reached, after-cabling}
+use Rattle.cable_world.proofs.Lemmas.{some-of, plain-quiet, reached-comes, reached-lawful, act-reached, after-cabling}
+use Rattle.outcomes.proofs.Lemmas.{reached-enough}
 use Rattle.settle.specs.Report.{IsTreeFrom, quiet_turns_of}
 use Rattle.settle.proofs.Lemmas.{found, turns-enough}
 use Rattle.world_laws.specs.Freshness.{IsTouchedIn, PowerOnIsFresh, ActsMakeFreshOnceSettled, FreshRootsSettle}
@@ -350,7 +351,7 @@ module _
         let quiet : ℕ = quiet_turns_of w in
         let same : b.after.world ≡ quiet_after no_holds quiet w = r.1 ∙ sym (plain-quiet quiet w) in
         let t = roots no_holds w quiet root set root (reached-comes w h.reached) is_fresh
-        (record { component = waits.component; no_loop = waits.no_loop; alone = waits.alone; enough = reached-forced w h.reached root })
+        (record { component = waits.component; no_loop = waits.no_loop; alone = waits.alone; enough = reached-enough w root h.reached })
         (turns-enough w) in
         let moved : (t : Tree) × IsTree b.after.world set root t =
         (t.0, subst (λ (z : CableWorld). IsTree z set root t.0) (sym same) t.1) in

@@ -1,5 +1,5 @@
 -- What is heard of commands.
-use Rattle.std.proofs.Common.{◌≡◌, ◌++◌, ◌+◌, ℕ, List, [], length, Bool, false, Some, refl, sym, ◌∙◌, ap, subst}
+use Rattle.std.proofs.Common.{◌≡◌, ◌++◌, ◌+◌, ℕ, List, [], Bool, false, Some, refl, sym, ◌∙◌, ap, subst}
 use Rattle.std.specs.Prelude.{Ok, Err, MatchBool, nat_lt}
 use Rattle.std.proofs.lemmas.List.{append-nil, append_assoc}
 use Rattle.cable_world.specs.World.{CableWorld}
@@ -85,11 +85,6 @@ settle-hears voice bus after text out new r is = record {
 }
 
 -- ---- plans
-
-pub same-quiet :
-    (w v : CableWorld) → length v.nodes ≡ length w.nodes → length v.cabling ≡ length w.cabling →
-    v.delay ≡ w.delay → v.longest ≡ w.longest → quiet_turns_of v ≡ quiet_turns_of w
-same-quiet w v nodes cables delay longest = rw (nodes, cables, delay, longest) refl
 
 -- the packet's lines, and those of the quiet turns
 both-told :

@@ -63,9 +63,13 @@ pub struct Bus {
 
 impl Model for Bus {
     ghost use Rattle.script_told.specs.Bus.{Bus};
+    ghost use Rattle.std.specs.Coded.{codes};
+    ghost use Rattle.port_state.proofs.Lemmas.{clock_code};
     ghost use Rattle.script_bus.specs.Running.{bus_now, IsSound};
 
     ghost Value = { Bus };
+
+    ghost coded = { Prim.hlevel (codes, clock_code) };
 
     ghost view = { λ b.
         bus_now (⟦<AgendaWorld<AnyMachine> as WorldRun>⟧.world b.world.value) b.notes.value };

@@ -20,7 +20,7 @@ ghost use Rattle.script_lines.specs.declared.command.Command.TheVariants as comm
 
 use crate::bus::{Bus, ReportedTree, buses_are_sound};
 use crate::managed::Asked;
-use cable_world::{Act, acts_keep};
+use cable_world::Act;
 use cabling::{NodeSet, Walk, components_exist};
 use outcomes::trees_stay;
 use resource_manager::Register;
@@ -214,7 +214,6 @@ impl Bus {
         ensures { IfOk result (λ r. IsSentHeard L.voice self name.now node plan.now r.0
             r.1.items (L.written listener.old) (L.written listener.new)) }
     {
-        acts_keep();
         buses_are_sound(&self);
         let sent = self.send(alloc, name, node, plan, listener)?;
         buses_are_sound(&sent);

@@ -42,9 +42,13 @@ pub(crate) struct Stage {
 
 impl Model for Stage {
     ghost use Rattle.script_told.specs.Script.{Stage};
+    ghost use Rattle.std.specs.Coded.{codes};
+    ghost use Rattle.port_state.proofs.Lemmas.{clock_code};
     ghost use Rattle.script_run.specs.codings.Going.{stage_now, IsPhase};
 
     ghost Value = { Stage };
+
+    ghost coded = { Prim.hlevel (codes, clock_code) };
 
     ghost view = { λ s. stage_now s.phase };
 

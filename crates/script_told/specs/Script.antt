@@ -7,6 +7,7 @@ use Rattle.port_state.specs.Coins.{Coins, coins_of_bits, coins_of_seed}
 use Rattle.port_state.specs.declared.timing.Timing.{Timing}
 use Rattle.port_state.specs.declared.ranges.TimeRanges.{TimeRanges}
 use Rattle.port_state.specs.PowerOn.{power_on}
+use Rattle.port_state.specs.Clock.{even}
 use Rattle.port_state.specs.Machine.{PortNode}
 use Rattle.script_lines.specs.declared.kind.Kind.{Kind}
 use Rattle.script_lines.specs.declared.kind.Kind.TheVariants.{Twice, Late, TooManyNodes}
@@ -62,10 +63,10 @@ abbrev pub coins_of : ℕ → ℕ → ℕ → Option ℕ → Coins
 coins_of number word len seed =
     if len == 0 then coins_of_seed (unwrap_or seed number) else coins_of_bits word len
 
--- a node that was just powered on
+-- a node that was just powered on; its clock misses no turn
 abbrev pub new_node : Attrs → ℕ → Bool → Timing → Coins → PortNode
 new_node attrs ports force timing coins =
-    record { state = power_on ports attrs force timing; coins = coins }
+    record { state = power_on ports attrs force timing; coins = coins; clock = even }
 
 abbrev pub with_node : Draft → List ℕ → PortNode → Draft
 with_node draft name node =

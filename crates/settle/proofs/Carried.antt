@@ -20,10 +20,11 @@ use Rattle.cable_world.specs.Run.{IsReached}
 use Rattle.cable_world.specs.Act.{IsAct, ActLeads, act_fault, change_in_set}
 use Rattle.cable_world.specs.Lawful.{IsWellFormed, IsLawful}
 use Rattle.cable_world.specs.Outcome.{IsTree, attrs_now}
-use Rattle.cable_world.proofs.Lemmas.{some-of, some-at, reached-comes, reached-forced, reached-lawful, act-reached, turns-reached, step-cables, plain-quiet, plainly, turns-cabling}
+use Rattle.cable_world.proofs.Lemmas.{some-of, some-at, reached-comes, reached-lawful, act-reached, turns-reached, step-cables, plain-quiet, plainly, turns-cabling}
 use Rattle.convergence.specs.Turns.{turns_to_over}
 use Rattle.cable_world.specs.Quiet.{no_holds}
 use Rattle.outcomes.specs.Forced.{NamesRoot}
+use Rattle.outcomes.proofs.Lemmas.{reached-enough}
 use Rattle.outcomes.specs.Settled.{IdsNameOneNode, ConfigsMoveRoots, ConfigsSetGaps}
 use Rattle.root_plan.specs.declared.choice.RootPlan.{RootPlan}
 use Rattle.settle.specs.Report.{AreParts, IsTreeFrom, IsAfterQuiet, quiet_turns_of}
@@ -93,7 +94,7 @@ module _
     moved : IsReached w → (t : Tree) × IsTree v set root t
     moved r =
         let n = (tree-there w l from plan s set component small).no_loop in
-        let can = reached-forced sent (act-reached (Config from plan.root_id true (Some plan.gap)) w sent (fits, accepted, act) r) root in
+        let can = reached-enough sent root (act-reached (Config from plan.root_id true (Some plan.gap)) w sent (fits, accepted, act) r) in
         let t = moves no_holds w sent (quiet_turns_of sent) from plan.root_id (Some plan.gap) set root (reached-comes w r) fits accepted (named r) can n (turns-enough sent) in
         (t.0, subst (λ (u : CableWorld). IsTree u set root t.0) (sym quiet) (plainly (λ u. IsTree u set root t.0) (quiet_turns_of sent) sent t.1))
 

@@ -11,11 +11,11 @@ use Rattle.cable_world.specs.World.{CableWorld}
 use Rattle.cable_world.specs.Run.{IsReached}
 use Rattle.cable_world.specs.Lawful.{IsLawful}
 use Rattle.cable_world.specs.Outcome.{IsTree, AtView}
-use Rattle.cable_world.proofs.Lemmas.{some-of, some-at, lawful-now, plain-quiet, plainly, reached-comes, reached-forced, turns-cabling}
+use Rattle.cable_world.proofs.Lemmas.{some-of, some-at, lawful-now, plain-quiet, plainly, reached-comes, turns-cabling}
 use Rattle.cable_world.specs.Quiet.{no_holds, quiet_after}
 use Rattle.outcomes.specs.Forced.{EntriesTakeOver, waits_due}
 use Rattle.outcomes.specs.Settled.{ForcedRootsSettle}
-use Rattle.outcomes.proofs.Lemmas.{small-fresh}
+use Rattle.outcomes.proofs.Lemmas.{reached-enough, small-fresh}
 use Rattle.settle.specs.Report.{IsReport, IsTreeFrom, quiet_turns_of, IsAfterQuiet}
 use Rattle.settle.specs.declared.report.Report.{Report}
 use Rattle.settle.specs.Forced.{BeginsAnew, IsForcedAlone, ForcedNodeIsRoot}
@@ -49,7 +49,7 @@ module _
           waits = waited node true f.holds f.forced;
           others = λ k m ne. waited k false m (f.others k m ne);
         };
-        enough = reached-forced w r node;
+        enough = reached-enough w node r;
       }) (turns-enough w) in
       (t.0, subst (λ (u : CableWorld). IsTree u set node t.0) (sym quiet) (plainly (λ u. IsTree u set node t.0) (quiet_turns_of w) w t.1))
 

@@ -1,20 +1,52 @@
 -- How many quiet turns a world is given.
-use Rattle.std.proofs.Common.{◌≡◌, ℕ, length, Result, Ok, Err, ◌∙◌, sym}
+use Rattle.std.proofs.Common.{◌≡◌, ◌≤◌, ◌+◌, ℕ, length, Result, Ok, Err, refl, ◌∙◌, sym, arith}
 use Rattle.std.specs.Prelude.{OnErr}
+use Rattle.std.specs.Coded.{Coded-set, coded_ℕ}
+use Rattle.std.proofs.Math.Logic.{∥∥₁_elim}
 use Rattle.port_state.specs.declared.timing.Timing.{Timing}
 use Rattle.cable_world.specs.World.{CableWorld}
-use Rattle.cable_world.specs.Lawful.{IsLawful}
-use Rattle.settle.specs.Report.{IsSized}
+use Rattle.cable_world.specs.Run.{IsReached}
+use Rattle.cable_world.specs.declared.act.Act.{Act}
+use Rattle.cable_world.specs.Act.{ActLeads}
+use Rattle.cable_world.specs.Unchanged.{TurnsPass}
+use Rattle.cable_world.proofs.Lemmas.{act-keeps, lawful-now}
+use Rattle.convergence.specs.Turns.{slack}
+use Rattle.convergence.proofs.Lemmas.{reached-slack}
+use Rattle.settle.specs.Report.{IsSized, quiet_turns_of}
+
+no-slack : (w : CableWorld) → ∥ IsReached w ∥₁ → slack w ≡ 0
+no-slack w r = ∥∥₁_elim r (Coded-set coded_ℕ (slack w) 0) (reached-slack w)
 
 pub sized :
-    (w : CableWorld) (n d : ℕ) (longest : Timing) → IsLawful w → n ≡ length w.cabling → d ≡ w.delay →
+    (w : CableWorld) (n d : ℕ) (longest : Timing) → ∥ IsReached w ∥₁ → n ≡ length w.cabling → d ≡ w.delay →
     longest ≡ w.longest → IsSized w n d longest
-sized w n d longest l nodes delay times = record {
-  nodes_are = l.well_formed.count ∙ sym nodes;
+sized w n d longest r nodes delay times = record {
+  nodes_are = (lawful-now w r).well_formed.count ∙ sym nodes;
   cables_are = sym nodes;
   delay_is = sym delay;
   longest_is = sym times;
+  no_slack = no-slack w r;
 }
+
+-- an act changes nothing of that
+pub same-quiet :
+    (a : Act) (w v : CableWorld) → ∥ IsReached w ∥₁ → ∥ IsReached v ∥₁ → ActLeads a w v →
+    quiet_turns_of v ≡ quiet_turns_of w
+same-quiet a w v r s led =
+    let keeps = act-keeps a w v led in
+    let cables : length v.cabling ≡ length w.cabling =
+    sym (lawful-now v s).well_formed.count ∙ keeps.nodes ∙ (lawful-now w r).well_formed.count in
+    let spare : slack v ≡ slack w = no-slack v s ∙ sym (no-slack w r) in
+    rw (cables, keeps.nodes, keeps.delay, keeps.longest, spare) refl
+
+pub still-few : (was now given more : ℕ) → now ≡ was + 0 → more ≡ given → was + given ≤ 4000000000 →
+    now + more ≤ 4000000000
+still-few was now given more turns same few = omega (arith, turns, same, few)
+
+pub passed-on :
+    (w u v : CableWorld) (count given : ℕ) → TurnsPass 0 w u → count ≡ given → TurnsPass count u v →
+    TurnsPass given w v
+passed-on w u v count given a same b = record { nodes = b.nodes ∙ a.nodes; turns = omega (arith, b.turns, a.turns, same) }
 
 pub on-err : {A E : Type 0} → (r : Result A E) (P : Type 0) → P → OnErr r P
 on-err (Ok x) P p = tt

@@ -9,7 +9,7 @@ use Rattle.cable_world.specs.World.{CableWorld, NodeNumber, NodeSet}
 use Rattle.cable_world.specs.Turn.{turns_after}
 use Rattle.cable_world.specs.Run.{IsReached, quiet_turns}
 use Rattle.cable_world.specs.Outcome.{AtView}
-use Rattle.convergence.specs.Turns.{turns_to_settle}
+use Rattle.convergence.specs.Turns.{slack, turns_to_settle}
 use Rattle.outcomes.specs.Headline.{IsLeftAlone}
 use Rattle.settle.specs.declared.report.Part.{Part}
 use Rattle.settle.specs.declared.report.Outcome.TheVariants as reported
@@ -80,13 +80,14 @@ pub record IsTreeFrom (c : Wiring) (from root : NodeNumber) (part : Part) : Type
 abbrev pub quiet_turns_of : CableWorld → ℕ
 quiet_turns_of w = max (quiet_turns (length w.cabling) w.delay) (turns_to_settle w)
 
--- a world of so many nodes, whose cables delay by at most so many turns, and none of whose nodes
--- has longer times
+-- a world of so many nodes, whose cables delay by at most so many turns, none of whose nodes has
+-- longer times, and none of whose clocks misses a turn
 pub record IsSized (w : CableWorld) (nodes delay : ℕ) (longest : Timing) : Type 0 where
   pub nodes_are : length w.nodes ≡ nodes
   pub cables_are : length w.cabling ≡ nodes
   pub delay_is : w.delay ≡ delay
   pub longest_is : w.longest ≡ longest
+  pub no_slack : slack w ≡ 0
 
 -- all of these turns were done, and nothing else
 abbrev pub IsAfterQuiet : CableWorld → CableWorld → Type 0

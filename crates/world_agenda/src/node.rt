@@ -159,4 +159,6 @@ impl<M: PortMachine> PortMachine for AgendaNode<M> {
     }
 
     ghost valid = { λ n. M.valid n.machine };
+
+    ghost steady = { λ n. M.steady n.machine };
 }

@@ -356,6 +356,7 @@ pub fn turn_agenda<M: PortMachine>(
     live: &mut NodeSet,
 ) -> Result<(), OutOfMemory>
     requires few { turns < 4000000000 }
+    requires short { delay ≤ 16 }
     requires lawful { (t : Timing) × IsLawful (world_record delay t cabling.now
         (now_at turns nodes.old) wires.old changed.old turns) }
     requires same { map length arrivals.old ≡ map length wires.old }

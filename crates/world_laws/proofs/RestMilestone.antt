@@ -1,4 +1,4 @@
--- Trees come to rest 315 d turns after tree identify is over.
+-- Trees come to rest 315 seen_turns after tree identify is over.
 use Rattle.std.proofs.Common.{◌≡◌, ◌⊎◌, inl, inr, ℕ, ◌+◌, ◌-◌, ◌*◌, ◌^◌, ◌<◌, ◌≤◌, length, sym, ◌∙◌, ap, subst, arith}
 use Rattle.std.proofs.lemmas.Option.{slice_get_within}
 use Rattle.cabling.specs.Wiring.{Wiring}
@@ -19,10 +19,11 @@ use Rattle.outcomes.specs.Numbered.{Settles, IsAtRest}
 use Rattle.outcomes.proofs.Lemmas.{tree-soon, comes-numbering, quiet-numbering, tree-rests, room-to-rest}
 use Rattle.world_laws.specs.RestMilestone.{IsDecided, TreesRestOnceDecided, TreesRestByThen}
 use Rattle.world_laws.proofs.SmallSets.{small-component}
+use Rattle.convergence.specs.Turns.{seen_turns}
 
 module _
     (hs : HoldSchedule) (w : CableWorld) (j k : ℕ) (is : IsDecided hs w k)
-    (late : 315 * w.delay ≤ j) (node set core : ℕ)
+    (late : 315 * seen_turns w ≤ j) (node set core : ℕ)
     (comp : IsComponent (quiet_after hs (k + j) w).cabling node set)
     (is_core : IsCore (quiet_after hs (k + j) w).cabling set core) where
   abbrev later : ℕ → CableWorld
@@ -56,7 +57,7 @@ module _
       let small : set < 2 ^ 63 = small-component (later (k + j)).cabling n set v-lawful.well_formed.cabling less whole in
       let here : n < length (later k).nodes = omega (arith, less, ap length cables, u-lawful.well_formed.count) in
       let s : Settles (later k) set core = (quiet-numbering hs k w lawful (comes-numbering w is.comes)).walks n set core here (comp-then n whole) core-then small all in
-      let few : 5 * length (numbers (later k).cabling s.root s.tree) * w.delay ≤ j = omega (arith, late, room-to-rest (length (numbers (later k).cabling s.root s.tree)) w.delay s.is.walk.few) in
+      let few : 5 * length (numbers (later k).cabling s.root s.tree) * seen_turns w ≤ j = omega (arith, late, room-to-rest (length (numbers (later k).cabling s.root s.tree)) (seen_turns w) s.is.walk.few) in
       let tree : IsTree (later (k + j)) set s.root s.tree = tree-soon hs w is.comes k is.over set core s.root s.tree s.is j few in
       tree-rests (later (k + j)) (quiet-comes hs (k + j) w is.comes) n set whole small s.root s.tree tree
 
@@ -86,7 +87,7 @@ rest-once-decided placed w j k is late node set core comp is_core empty = rest-o
 
 pub rest-by-then : TreesRestByThen
 rest-by-then placed w m r late node set core comp is_core empty =
-    let j : ℕ = 315 * w.delay in
+    let j : ℕ = 315 * seen_turns w in
     let k : ℕ = m - j in
     let sum : k + j ≡ m = omega (arith, late) in
     let grown : IsGrown (quiet_after placed k w) = start-grown placed w r k (omega (arith, late)) (taken-reached placed w k r (omega (arith, late))) in

@@ -1,5 +1,6 @@
 -- Worked runs: two nodes are plugged together at power-on, of which the second is forced. Resets go
 -- both ways, and the second node becomes the root.
+use Rattle.port_state.specs.Clock.{even}
 use Rattle.std.proofs.Common.{◌≡◌, ◌≢◌, ℕ, zero, suc, Bool, true, false, List, [], ◌∷◌, None, Some, slice_get, refl, subst, arith}
 use Rattle.self_id.specs.Group.{group}
 use Rattle.topology_stack.specs.Tree.{Tree, branch, no_more, unplugged, up, down}
@@ -32,10 +33,11 @@ use Rattle.world_laws.specs.Freshness.{RunsAtOnce, HasOneWaiting}
 use Rattle.convergence.specs.Turns.{turns_to_settle}
 use Rattle.cable_world.proofs.Lemmas.{act-forced, in-range-forced, powered-in-range}
 use Rattle.world_laws.proofs.Freshness.{first-roots}
+use Rattle.cable_world.specs.Times.{KeepsTime, longest_in_range}
 
 -- with 3 ports, a link, S400 and no contender; forced or not
 abbrev node : Bool → PortNode
-node force = record { state = power_on 3 (attrs true 2 false) force (usual_timing 4); coins = coins_of_bits 0 1 }
+node force = record { state = power_on 3 (attrs true 2 false) force (usual_timing 4); coins = coins_of_bits 0 1; clock = even }
 
 abbrev nodes : List PortNode
 nodes = node false ∷ node true ∷ []
@@ -90,8 +92,13 @@ each-on zero x e = subst (λ (z : PortNode). IsNodeAtPowerOn 4 z.state) (some-sa
 each-on (suc zero) x e = subst (λ (z : PortNode). IsNodeAtPowerOn 4 z.state) (some-same (node true) x e) (powered-on true)
 each-on (suc (suc k)) x e = absurd cc
 
+each-clock : (k : ℕ) (x : PortNode) → slice_get nodes k ≡ Some x → KeepsTime (longest_in_range 4) x.state.timing x.clock
+each-clock zero x e = subst (λ (z : PortNode). KeepsTime (longest_in_range 4) z.state.timing z.clock) (some-same (node false) x e) tt
+each-clock (suc zero) x e = subst (λ (z : PortNode). KeepsTime (longest_in_range 4) z.state.timing z.clock) (some-same (node true) x e) tt
+each-clock (suc (suc k)) x e = absurd cc
+
 first-world : IsPowerOnWorld alone
-first-world = record { some_delay = omega arith; short_delay = omega arith; few_nodes = omega arith; nodes = λ k x e. powered-in-range 4 x.state (omega arith) (omega arith) (each-on k x e); is = refl }
+first-world = record { some_delay = omega arith; few_nodes = omega arith; nodes = λ k x e. powered-in-range 4 x.state (omega arith) (omega arith) (each-on k x e); clocks = each-clock; is = refl }
 
 at-once : RunsAtOnce alone plugged (acts (Plug (at 0 0) (at 1 0)) ∷ [])
 at-once = record { run = (plugged, (tt, refl, refl), refl); no_turn = refl }

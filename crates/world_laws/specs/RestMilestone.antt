@@ -1,6 +1,7 @@
 -- Trees are at rest: each component without loop is at rest in its tree, or two of its nodes
 -- contend, with 32 equal draws.
 use Rattle.std.specs.Prelude.{◌⊎◌, ℕ, ◌+◌, ◌*◌, ◌≤◌}
+use Rattle.convergence.specs.Turns.{seen_turns}
 use Rattle.cable_world.specs.World.{CableWorld}
 use Rattle.cable_world.specs.Quiet.{HoldSchedule, quiet_after}
 use Rattle.cable_world.specs.Run.{ComesOfPowerOn}
@@ -12,9 +13,10 @@ use Rattle.outcomes.specs.Numbered.{IsAtRest}
 abbrev pub TreesAreAtRest : CableWorld → Type 0
 TreesAreAtRest w = OfTrees w (λ set. IsAtRest w set ⊎ HasContention w set)
 
--- from tree identify to rest: 5 d turns for each of 63 nodes at most
+-- from tree identify to rest: for each of 63 nodes at most five times what it takes until something is
+-- seen
 abbrev pub rest_turns : CableWorld → ℕ
-rest_turns w = 315 * w.delay
+rest_turns w = 315 * seen_turns w
 
 abbrev pub turns_to_rest : CableWorld → ℕ
 turns_to_rest w = turns_to_decision w + rest_turns w

@@ -86,7 +86,8 @@ pub fn rivals_are_alone()
 {}
 
 /// After n d quiet turns no later one makes a node enter R0, and so it stays. From such a world on
-/// no node is in R0 or R1 after H + d turns, where H is the longest hold of the world.
+/// no node is in R0 or R1 after H + d turns, or one more where a clock misses turns. H is the longest
+/// hold of the world.
 pub fn entries_end()
     ensures after { EntriesEnd }
     ensures stays { NoEntryStays }
@@ -110,7 +111,7 @@ pub fn ready_nodes_are_first()
     components_exist();
 }
 
-/// From 315 d turns after trees are decided on, each component without loop is at rest, with all
+/// From 315 `seen_turns` after trees are decided on, each component without loop is at rest, with all
 /// its nodes in A0 and no Grant, packet or Done under way, or two of its nodes contend, with 32
 /// equal draws.
 pub fn trees_are_at_rest()

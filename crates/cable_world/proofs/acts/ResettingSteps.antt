@@ -14,7 +14,7 @@ use Rattle.port_state.specs.declared.states.NodeState.{NodeState}
 use Rattle.port_state.specs.Ports.{is_connected}
 use Rattle.port_state.specs.Sends.{sent_on}
 use Rattle.port_state.specs.Entry.{enter, with_port}
-use Rattle.port_state.specs.Machine.{PortNode, NodeStep, with_coins, node_disturb, node_plugged, node_pulled}
+use Rattle.port_state.specs.Machine.{PortNode, NodeStep, after_step, node_disturb, node_plugged, node_pulled}
 use Rattle.port_state.proofs.Lemmas.{on_every-port, changed-port, enter-cables}
 use Rattle.cable_world.specs.Wire.{Wire, empty_wire, new_signal, add_signals}
 use Rattle.cable_world.specs.World.{CableWorld, wire_of}
@@ -66,7 +66,7 @@ enter-begins x = record { phase = refl; timer = refl; draws = refl; first_draws 
 entering :
     (P : ℕ → Type 0) (change : NodeState → NodeState) →
     ((x : NodeState) (k : ℕ) → P k → shown_if_there (change x) k ≡ shown_if_there x k) →
-    Resets P (λ x. with_coins x.coins (enter true (change x.state)))
+    Resets P (λ x. after_step x (enter true (change x.state)))
 entering P change h = record {
   begins = λ x. enter-begins (change x.state);
   sent = λ x k c. enter-sends (change x.state) k (sym (enter-cables true (change x.state) k) ∙ c);

@@ -27,7 +27,6 @@ use Rattle.cable_world.proofs.coupling.Sides.{Side, hearing, ticking, arrivals, 
 -- what is so of both before the turn
 pub record Pair (d : ℕ) (x y : Side) : Type 0 where
   pub some_delay : 1 ≤ d
-  pub short_delay : d ≤ 16
   pub near : Ready d x
   pub other : Ready d y
   pub comes : sent_on x.port x.inbox ≡ arrivals y
@@ -42,7 +41,6 @@ pub record Pair (d : ℕ) (x y : Side) : Type 0 where
 pub turned-round : (d : ℕ) (x y : Side) → Pair d x y → Pair d y x
 turned-round d x y j = record {
   some_delay = j.some_delay;
-  short_delay = j.short_delay;
   near = j.other;
   other = j.near;
   comes = j.goes;
@@ -123,8 +121,8 @@ module _ (d : ℕ) (x y : Side) (j : Pair d x y) where
 
   pub came :
       EntersReset x.node (hearing x) →
-      (is_resetting (ticking x).state.view.phase ≡ true) × ((ticking x).state.view.timer ≡ 1)
-  came c = came_after d x j.some_delay j.short_delay j.near c
+      (is_resetting (ticking x).state.view.phase ≡ true) × ((ticking x).state.view.timer ≤ 1)
+  came c = came_after d x j.some_delay j.near c
 
   -- the facts, one by one
   timed_after :
@@ -145,7 +143,7 @@ module _ (d : ℕ) (x y : Side) (j : Pair d x y) where
 
       calm :
           NoEntry x.node (hearing x) →
-          (((ticking x).state.view.phase ≡ (hearing x).state.view.phase) × ((ticking x).state.view.timer ≤ risen (hearing x).state.view.timer) × ((ticking x).sends ≡ []))
+          (((ticking x).state.view.phase ≡ (hearing x).state.view.phase) × ((ticking x).state.view.timer ≤ (hearing x).state.view.timer + 1) × ((ticking x).sends ≡ []))
           ⊎ ((ticking x).state.view.timer ≡ 0) →
           AllAsOldAs ((ticking x).state.view.timer - slack (ticking x).state.view.phase) (wire_after x)
       calm h (inl s) =
@@ -176,7 +174,7 @@ module _ (d : ℕ) (x y : Side) (j : Pair d x y) where
       ap (λ ts. level_after (level_shown (ticking y).state y.port) (signals_of ts)) (sym (empty_after r t)) ∙ levels_after ∙ start-sent (ticking x).state.view.phase (leads_down (ticking x).state.view.ports x.port) r
 
   unknown : EntersReset x.node (hearing x) → is_reset_known d (ticking x).state ≡ true → ⊥
-  unknown c s = came_unknown d x j.some_delay j.short_delay j.near c s
+  unknown c s = came_unknown d x j.some_delay j.near c s
 
   -- past R0, the reset was known before
   known_before :
@@ -249,7 +247,7 @@ module _ (d : ℕ) (x y : Side) (j : Pair d x y) where
           let r : is_resetting x.node.view.phase ≡ true = j.coupled.reset b in
           let t : x.node.view.timer - slack x.node.view.phase ≤ d - 1 = reset-age (d - 1) (x.node.view.timer - slack x.node.view.phase) x.wire b (j.coupled.timed (start-timed x.node.view.phase r)) j.near.ages in
           let i : SuitsCables d (hearing x).state.timing = heard_timing d x j.near in
-          (j.near.ticks.holds (ap is_resetting h.phase ∙ r) (omega (arith, t, start-slack x.node.view.phase r, h.timer, i.hold_least, j.some_delay)) (hold_fits d x j.some_delay j.short_delay j.near)).0
+          (j.near.ticks.holds (ap is_resetting h.phase ∙ r) (omega (arith, t, start-slack x.node.view.phase r, h.timer, i.hold_least, j.some_delay)) (hold_fits d x j.some_delay j.near)).0
 
 -- ---- facts that look at both sides
 
@@ -263,7 +261,7 @@ module _ (d : ℕ) (x y : Side) (j : Pair d x y) where
   early_after s = elim (known-cases d (ticking x).state s) [
     | inl r ↦ or_left (is_before_tree (ticking y).state.view.phase) (is_asking (ticking y).state y.port)
         (bus_reset-before_tree (ticking y).state.view.phase
-        (watches-turn y.inbox y.coin y.node j.other.hears j.other.ticks j.other.watches y.port (j.other.ticks.cables y.port ∙ heard_connected d y j.other) (shows_reset_after d x y j r.0 r.1)))
+        (watches-turn y.inbox y.beat y.node j.other.hears j.other.ticks j.other.watches y.port (j.other.ticks.cables y.port ∙ heard_connected d y j.other) (shows_reset_after d x y j r.0 r.1)))
     | inr m ↦ elim j.near.hears.cases [ inl h ↦ middle (known_before d x y j m h) | inr c ↦ absurd (unknown d x y j c s) ]
   ]
     where
@@ -448,7 +446,7 @@ module _ (d : ℕ) (x y : Side) (j : Pair d x y) where
           has_no_takeback on_tick ≡ true
       ticks o = elim j.other.hears.cases [
         | inl h ↦ j.other.ticks.asks y.port (heard_connected d y j.other) (ap is_shaking h.phase ∙ o.0) (heard_parent y h y.port o.1) (heard_idle c a t)
-        | inr z ↦ ap (λ ss. has_no_takeback (sent_on y.port ss)) (came_silent d y j.some_delay j.short_delay j.other z)
+        | inr z ↦ ap (λ ss. has_no_takeback (sent_on y.port ss)) (came_silent d y j.some_delay j.other z)
       ]
 
       no_falls :
@@ -483,7 +481,7 @@ module _ (d : ℕ) (x y : Side) (j : Pair d x y) where
 
       go :
           NoEntry x.node (hearing x) →
-          (((hearing x).state.view.phase ≡ phase.Contend) × ((ticking x).state.view.parent ≡ (hearing x).state.view.parent) × ((ticking x).state.view.timer ≤ risen (hearing x).state.view.timer) × ((ticking x).state.view.wait ≡ (hearing x).state.view.wait))
+          (((hearing x).state.view.phase ≡ phase.Contend) × ((ticking x).state.view.parent ≡ (hearing x).state.view.parent) × ((ticking x).state.view.timer ≤ (hearing x).state.view.timer + 1) × ((ticking x).state.view.wait ≡ (hearing x).state.view.wait))
           ⊎ (((ticking x).state.view.timer ≡ 0) × (((ticking x).state.view.wait ≡ (hearing x).state.timing.short) ⊎ ((ticking x).state.view.wait ≡ (hearing x).state.timing.long))) →
           NoneTakesBack ((ticking x).state.view.timer - d) (level_shown (ticking x).state x.port) (wire_after y)
       go h (inr z) = none (omega (arith, z.0))

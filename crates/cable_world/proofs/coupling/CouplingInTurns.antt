@@ -2,9 +2,8 @@
 -- the rest.
 use Rattle.std.proofs.Common.{◌≡◌, inl, inr, ℕ, ◌-◌, ◌<◌, List, [], ◌++◌, map, length, Some, slice_get, slice_index_or, sym, ◌∙◌, ap, subst, arith}
 use Rattle.std.proofs.lemmas.Option.{slice_get_within, slice_get_cases}
-use Rattle.port_state.specs.Coins.{coin}
 use Rattle.port_state.specs.declared.states.NodeState.{NodeState}
-use Rattle.port_state.specs.Machine.{PortNode}
+use Rattle.port_state.specs.Machine.{PortNode, beat}
 use Rattle.cabling.specs.declared.cable.End.{End}
 use Rattle.cabling.specs.Wiring.{Wiring, far, ports_of}
 use Rattle.cable_world.specs.Wire.{Wire, age_wire, gives, stays, new_signal, Travelling}
@@ -35,7 +34,8 @@ side w a x = record {
   wire = (wire_of w a).signals;
   gives = gives w.delay (age_wire (wire_of w a));
   inbox = inbox w 0 (ports_of w.cabling a.node);
-  coin = coin x.coins;
+  beat = beat x;
+  clock = x.clock;
 }
 
 -- its node and its wire afterwards
@@ -61,8 +61,8 @@ hears w k x f at = hears-well (inbox w 0 (ports_of w.cabling k)) x.state (f.node
 
 pub ticks :
     (w : CableWorld) (k : ℕ) (x : PortNode) → IsWellFormed w → slice_get w.nodes k ≡ Some x →
-    TicksWell (coin x.coins) (hear_all (inbox w 0 (ports_of w.cabling k)) x.state).state
-ticks w k x f at = ticks-well (coin x.coins) (hear_all (inbox w 0 (ports_of w.cabling k)) x.state).state (hears w k x f at).valid
+    TicksWell (beat x) (hear_all (inbox w 0 (ports_of w.cabling k)) x.state).state
+ticks w k x f at = ticks-well (beat x) (hear_all (inbox w 0 (ports_of w.cabling k)) x.state).state (hears w k x f at).valid
 
 pub ready :
     (w : CableWorld) (a b : End) (x : PortNode) → IsWellFormed w → IsCoupled w →
@@ -99,7 +99,6 @@ pair w a b x y f l c e at_x at_y =
     let back : far w.cabling b ≡ Some a = f.cabling.both_ways a b e in
     record {
       some_delay = f.some_delay;
-      short_delay = f.short_delay;
       near = ready w a b x f c e at_x;
       other = ready w b a y f c back at_y;
       comes = comes w b a e;
@@ -133,7 +132,7 @@ turn-levels w f l c =
 pub turn-coupled :
     (w : CableWorld) → IsWellFormed w → LevelsAgree w → IsCoupled w → IsCoupled (turn w)
 turn-coupled w f l c = record {
-  watches = λ k y e. let x = before w k y f e in rw (x.2, turn-state (inbox w 0 (ports_of w.cabling k)) x.0) (watches-turn (inbox w 0 (ports_of w.cabling k)) (coin x.0.coins) x.0.state (hears w k x.0 f x.1) (ticks w k x.0 f x.1) (c.watches k x.0 x.1));
-  waits = λ k y e. let x = before w k y f e in rw (x.2, turn-state (inbox w 0 (ports_of w.cabling k)) x.0, delay-after w) (waits-turn w.delay (inbox w 0 (ports_of w.cabling k)) (coin x.0.coins) x.0.state (suits-cables w.delay w.longest x.0.state.timing (f.nodes k x.0 x.1).timing) (hears w k x.0 f x.1) (ticks w k x.0 f x.1) (c.waits k x.0 x.1));
+  watches = λ k y e. let x = before w k y f e in rw (x.2, turn-state (inbox w 0 (ports_of w.cabling k)) x.0) (watches-turn (inbox w 0 (ports_of w.cabling k)) (beat x.0) x.0.state (hears w k x.0 f x.1) (ticks w k x.0 f x.1) (c.watches k x.0 x.1));
+  waits = λ k y e. let x = before w k y f e in rw (x.2, turn-state (inbox w 0 (ports_of w.cabling k)) x.0, delay-after w) (waits-turn w.delay (inbox w 0 (ports_of w.cabling k)) (beat x.0) x.0.state (suits-cables w.delay w.longest x.0.state.timing (f.nodes k x.0 x.1).timing) (hears w k x.0 f x.1) (ticks w k x.0 f x.1) (c.waits k x.0 x.1));
   cables = cables-after Coupling w f l c (λ x y j. coupled-turn w.delay x y j);
 }

@@ -1,5 +1,5 @@
 -- A node at its port of a cable, in a turn.
-use Rattle.std.proofs.Common.{◌≡◌, ◌⊎◌, inl, inr, ℕ, ◌+◌, ◌-◌, ◌*◌, ◌<◌, ◌≤◌, Bool, true, false, not, ◌&&◌, ◌||◌, List, [], ◌++◌, map, refl, sym, ◌∙◌, ap, subst, arith, if◌then◌else◌, append-nil}
+use Rattle.std.proofs.Common.{◌≡◌, ◌⊎◌, inl, inr, ℕ, ◌+◌, ◌-◌, ◌*◌, ◌<◌, ◌≤◌, Bool, true, false, not, ◌&&◌, ◌||◌, List, [], ◌++◌, map, Option, refl, sym, ◌∙◌, ap, subst, arith, if◌then◌else◌, append-nil}
 use Rattle.std.specs.Prelude.{nat_lt}
 use Rattle.port_state.specs.declared.signal.Level.TheVariants as level
 use Rattle.port_state.specs.declared.signal.Phase.{Phase}
@@ -10,7 +10,8 @@ use Rattle.port_state.specs.Ports.{is_connected, is_port}
 use Rattle.port_state.specs.Sends.{sent_on}
 use Rattle.port_state.specs.Step.{Step}
 use Rattle.port_state.specs.Heard.{is_resetting}
-use Rattle.port_state.specs.Tick.{tick}
+use Rattle.port_state.specs.Machine.{on_beat}
+use Rattle.port_state.specs.Clock.{Clock}
 use Rattle.port_state.specs.Valid.{HasNoRoles, HasRoles, FitsPhase, IsValid}
 use Rattle.cable_world.specs.Wire.{Travelling, new_signal, age_signal}
 use Rattle.cable_world.proofs.Times.{SuitsCables}
@@ -38,13 +39,15 @@ pub record Side : Type 0 where
   pub gives : Bool
   -- all that the node hears in this turn
   pub inbox : List (ℕ × Signal)
-  pub coin : Bool
+  -- the turn of its clock
+  pub beat : Option Bool
+  pub clock : Clock
 
 abbrev pub hearing : Side → Step
 hearing s = hear_all s.inbox s.node
 
 abbrev pub ticking : Side → Step
-ticking s = tick s.coin (hearing s).state
+ticking s = on_beat s.beat (hearing s).state
 
 -- what its wire gives, and what stays on it
 abbrev pub arrivals : Side → List Signal
@@ -66,7 +69,7 @@ pub record Ready (d : ℕ) (s : Side) : Type 0 where
   pub timing : SuitsCables d s.node.timing
   pub connected : is_connected s.node.view.ports s.port ≡ true
   pub hears : HearsWell s.inbox s.node
-  pub ticks : TicksWell s.coin (hearing s).state
+  pub ticks : TicksWell s.beat (hearing s).state
   pub watches : HeedsReset s.node
   pub waits : WaitsLong d s.node
   pub ages : AgesFall (d - 1) s.wire
@@ -161,29 +164,31 @@ pub heard_parent :
 heard_parent x h k e = ap (λ o. is_port o k) h.parent ∙ e
 
 pub timer_rises :
-    (x : Side) → NoEntry x.node (hearing x) → (t : ℕ) → t ≤ risen (hearing x).state.view.timer →
+    (x : Side) → NoEntry x.node (hearing x) → (t : ℕ) → t ≤ (hearing x).state.view.timer + 1 →
     t ≤ x.node.view.timer + 1
-timer_rises x h t g = omega (arith, g, h.timer, risen-most (hearing x).state.view.timer)
+timer_rises x h t g = omega (arith, g, h.timer)
 
 -- what is sent has no Reset, unless one was heard
 pub calm_sent :
     (d : ℕ) (x : Side) → Ready d x → NoEntry x.node (hearing x) → has_reset (departures x) ≡ false
 calm_sent d x r h = has_reset-append (sent_on x.port (hearing x).sends) (sent_on x.port (ticking x).sends) ∙ (rw (h.calm x.port, r.ticks.calm x.port) refl)
 
-module _ (d : ℕ) (x : Side) (some_delay : 1 ≤ d) (short_delay : d ≤ 16) (r : Ready d x) where
+module _ (d : ℕ) (x : Side) (some_delay : 1 ≤ d) (r : Ready d x) where
   pub hold_fits : (hearing x).state.timing.hold ≤ 65535
-  hold_fits = omega (arith, (heard_timing d x r).hold_most, short_delay)
+  hold_fits = omega (arith, (heard_timing d x r).hold_most)
 
   -- a node that begins a reset stays in R0, and says nothing more
   came_holds :
       EntersReset x.node (hearing x) →
       (is_resetting (ticking x).state.view.phase ≡ true)
-      × ((ticking x).state.view.timer ≡ (hearing x).state.view.timer + 1) × ((ticking x).sends ≡ [])
-  came_holds c = r.ticks.holds (ap is_resetting c.phase) (omega (arith, c.timer, (heard_timing d x r).hold_least, some_delay)) hold_fits
+      × ((ticking x).state.view.timer ≤ (hearing x).state.view.timer + 1) × ((ticking x).sends ≡ [])
+  came_holds c =
+      let h = r.ticks.holds (ap is_resetting c.phase) (omega (arith, c.timer, (heard_timing d x r).hold_least, some_delay)) hold_fits in
+      (h.0, h.2, h.3)
 
   pub came_after :
       EntersReset x.node (hearing x) →
-      (is_resetting (ticking x).state.view.phase ≡ true) × ((ticking x).state.view.timer ≡ 1)
+      (is_resetting (ticking x).state.view.phase ≡ true) × ((ticking x).state.view.timer ≤ 1)
   came_after c = ((came_holds c).0, omega (arith, (came_holds c).1, c.timer))
 
   pub came_silent : EntersReset x.node (hearing x) → (ticking x).sends ≡ []
@@ -236,31 +241,31 @@ contend_empty d x o r timed c t =
 -- ---- a node in a turn, whatever cables it has
 
 pub watches-turn :
-    (signals : List (ℕ × Signal)) (coin : Bool) (x : NodeState) → HearsWell signals x →
-    TicksWell coin (hear_all signals x).state → HeedsReset x →
-    HeedsReset (tick coin (hear_all signals x).state).state
-watches-turn signals coin x h t w k c s =
+    (signals : List (ℕ × Signal)) (b : Option Bool) (x : NodeState) → HearsWell signals x →
+    TicksWell b (hear_all signals x).state → HeedsReset x →
+    HeedsReset (on_beat b (hear_all signals x).state).state
+watches-turn signals b x h t w k c s =
     let on : is_connected (hear_all signals x).state.view.ports k ≡ true = sym (t.cables k) ∙ c in
     t.watches k on (h.watches w k on) (sym (t.shown k) ∙ s)
 
 pub waits-turn :
-    (d : ℕ) (signals : List (ℕ × Signal)) (coin : Bool) (x : NodeState) → SuitsCables d x.timing →
-    HearsWell signals x → TicksWell coin (hear_all signals x).state → WaitsLong d x →
-    WaitsLong d (tick coin (hear_all signals x).state).state
-waits-turn d signals coin x r h t w c = go h.cases (t.contend c)
+    (d : ℕ) (signals : List (ℕ × Signal)) (b : Option Bool) (x : NodeState) → SuitsCables d x.timing →
+    HearsWell signals x → TicksWell b (hear_all signals x).state → WaitsLong d x →
+    WaitsLong d (on_beat b (hear_all signals x).state).state
+waits-turn d signals b x r h t w c = go h.cases (t.contend c)
   where
     m : NodeState
     m = (hear_all signals x).state
 
     n : NodeState
-    n = (tick coin m).state
+    n = (on_beat b m).state
 
     range : SuitsCables d m.timing
     range = rw h.timing r
 
     go :
         NoEntry x (hear_all signals x) ⊎ EntersReset x (hear_all signals x) →
-        ((m.view.phase ≡ phase.Contend) × (n.view.parent ≡ m.view.parent) × (n.view.timer ≤ risen m.view.timer) × (n.view.wait ≡ m.view.wait))
+        ((m.view.phase ≡ phase.Contend) × (n.view.parent ≡ m.view.parent) × (n.view.timer ≤ m.view.timer + 1) × (n.view.wait ≡ m.view.wait))
         ⊎ ((n.view.timer ≡ 0) × ((n.view.wait ≡ m.timing.short) ⊎ (n.view.wait ≡ m.timing.long))) →
         2 * d < n.view.wait
     go (inl a) (inl z) = omega (arith, z.3, a.wait, w (sym a.phase ∙ z.0))

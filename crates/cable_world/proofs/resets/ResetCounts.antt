@@ -1,5 +1,5 @@
 -- A node that doesn't enter a reset counts none.
-use Rattle.std.proofs.Common.{◌≡◌, ◌⊎◌, inl, inr, ℕ, ◌≤◌, Bool, true, false, List, [], ◌∷◌, if◌then◌else◌, refl, ◌∙◌, ap, arith}
+use Rattle.std.proofs.Common.{◌≡◌, ◌⊎◌, inl, inr, ℕ, ◌≤◌, Bool, true, false, List, [], ◌∷◌, Option, None, Some, if◌then◌else◌, refl, ◌∙◌, ap, arith}
 use Rattle.port_state.specs.declared.signal.Level.TheVariants as level
 use Rattle.port_state.specs.declared.signal.Signal.{Signal}
 use Rattle.port_state.specs.declared.signal.Signal.TheVariants as signal
@@ -11,6 +11,7 @@ use Rattle.port_state.specs.Heard.{is_resetting, is_heard, with_level, hears, on
 use Rattle.port_state.specs.Row as row
 use Rattle.port_state.specs.Row.{Row}
 use Rattle.port_state.specs.Tick.{raise_timer, next_row, does, tick}
+use Rattle.port_state.specs.Machine.{on_beat}
 use Rattle.cable_world.specs.Turn.{hear_all}
 use Rattle.cable_world.proofs.turns.NodeFacts.{NoEntry, EntersReset, HearsWell, TicksWell}
 use Rattle.cable_world.proofs.turns.HearsWell.{hear-stays}
@@ -79,12 +80,16 @@ unfolding tick
 tick-counts coin x = row-counts coin (next_row x) (raise_timer x)
 
 -- the same of a node's whole turn: who enters while hearing is still in R0 after the tick
+beat-counts : (b : Option Bool) (x : NodeState) → (on_beat b x).state.view.resets ≡ x.view.resets
+beat-counts None x = refl
+beat-counts (Some coin) x = tick-counts coin x
+
 pub turn-counts :
-    (signals : List (ℕ × Signal)) (coin : Bool) (x : NodeState) → 2 ≤ x.timing.hold →
-    x.timing.hold ≤ 65535 → HearsWell signals x → TicksWell coin (hear_all signals x).state →
-    (is_resetting x.view.phase ≡ false → is_resetting (tick coin (hear_all signals x).state).state.view.phase ≡ false) →
-    (tick coin (hear_all signals x).state).state.view.resets ≡ x.view.resets
-turn-counts signals coin x low high h t stays = tick-counts coin m ∙ hear-counts signals x (λ e. heard e h.cases)
+    (signals : List (ℕ × Signal)) (b : Option Bool) (x : NodeState) → 2 ≤ x.timing.hold →
+    x.timing.hold ≤ 65535 → HearsWell signals x → TicksWell b (hear_all signals x).state →
+    (is_resetting x.view.phase ≡ false → is_resetting (on_beat b (hear_all signals x).state).state.view.phase ≡ false) →
+    (on_beat b (hear_all signals x).state).state.view.resets ≡ x.view.resets
+turn-counts signals b x low high h t stays = beat-counts b m ∙ hear-counts signals x (λ e. heard e h.cases)
   where
     m : NodeState
     m = (hear_all signals x).state
@@ -94,5 +99,5 @@ turn-counts signals coin x low high h t stays = tick-counts coin m ∙ hear-coun
         NoEntry x (hear_all signals x) ⊎ EntersReset x (hear_all signals x) →
         is_resetting m.view.phase ≡ false
     heard e (inl a) = ap is_resetting a.phase ∙ e
-    heard e (inr a) = absurd (not-both (is_resetting (tick coin m).state.view.phase)
+    heard e (inr a) = absurd (not-both (is_resetting (on_beat b m).state.view.phase)
         (t.holds (ap is_resetting a.phase) (omega (arith, a.timer, ap (λ (z : Timing). z.hold) h.timing, low)) (omega (arith, ap (λ (z : Timing). z.hold) h.timing, high))).0 (stays e))

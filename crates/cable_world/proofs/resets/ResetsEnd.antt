@@ -1,8 +1,7 @@
 -- In quiet turns resets end, and no more are counted.
 use Rattle.std.proofs.Common.{◌≡◌, ℕ, ◌+◌, ◌*◌, ◌≤◌, false, Some, length, slice_get, sym, ◌∙◌, ap, arith}
 use Rattle.port_state.specs.Heard.{is_resetting}
-use Rattle.port_state.specs.Coins.{coin}
-use Rattle.port_state.specs.Machine.{PortNode}
+use Rattle.port_state.specs.Machine.{PortNode, beat}
 use Rattle.cabling.specs.Wiring.{ports_of}
 use Rattle.cable_world.specs.Times.{Suits}
 use Rattle.cable_world.specs.World.{CableWorld}
@@ -28,7 +27,7 @@ counts-stand hs w l k long j x y at_x at_y =
     let is = some-same _ y (sym (node-after v j x lv.well_formed.count at_x) ∙ now) in
     let stays : is_resetting x.state.view.phase ≡ false → is_resetting y.state.view.phase ≡ false = steady hs w l k long j x y at_x at_y in
     sym (ap (λ (z : PortNode). z.state.view.resets) is)
-    ∙ turn-counts (inbox v 0 (ports_of v.cabling j)) (coin x.coins) x.state
+    ∙ turn-counts (inbox v 0 (ports_of v.cabling j)) (beat x) x.state
     (omega (arith, range.hold_least, lv.well_formed.some_delay)) (omega (arith, range.hold_most, range.counted.hold))
     (hears v j x lv.well_formed at_x) (ticks v j x lv.well_formed at_x)
     (λ e. ap (λ (z : PortNode). is_resetting z.state.view.phase) is ∙ stays e)

@@ -1,6 +1,6 @@
 -- A node's list in a turn: it grows at its end, or is emptied and doesn't grow again. So whether it changed is seen
 -- from its length.
-use Rattle.std.proofs.Common.{◌≡◌, ◌⊎◌, inl, inr, ℕ, Bool, true, false, ◌==◌, List, [], ◌∷◌, ◌++◌, length, length-append, refl, sym, ◌∙◌, ap, arith, append_assoc, append-nil, if◌then◌else◌}
+use Rattle.std.proofs.Common.{◌≡◌, ◌⊎◌, inl, inr, ℕ, Bool, true, false, ◌==◌, List, [], ◌∷◌, ◌++◌, length, length-append, Option, None, Some, refl, sym, ◌∙◌, ap, arith, append_assoc, append-nil, if◌then◌else◌}
 use Rattle.std.specs.Prelude.{nat_eq, nat_lt, nat_le}
 use Rattle.std.specs.Cmp.Lexicographic.{pointwise, same_text, other_text}
 use Rattle.std.proofs.lemmas.Bool.{eqb-true, eq-eqb, and_parts}
@@ -21,8 +21,7 @@ use Rattle.port_state.specs.Limits.{list_limit}
 use Rattle.port_state.specs.Row as row
 use Rattle.port_state.specs.Row.{Row}
 use Rattle.port_state.specs.Tick.{raise_timer, row_of, next_row, does, tick}
-use Rattle.port_state.specs.Coins.{coin}
-use Rattle.port_state.specs.Machine.{PortNode}
+use Rattle.port_state.specs.Machine.{PortNode, beat, on_beat}
 use Rattle.cable_world.specs.Turn.{hear_all, node_turn, same_list}
 use Rattle.cable_world.proofs.turns.HearsWell.{hear-stays}
 use Rattle.cable_world.proofs.coupling.Streams.{not-both}
@@ -155,6 +154,17 @@ tick-grows : (coin : Bool) (x : NodeState) →
 unfolding tick
 tick-grows coin x = row-grows coin (next_row x) (raise_timer x)
 
+-- a turn that is missed leaves the list alone
+beat-in_reset : (b : Option Bool) (x : NodeState) → is_resetting x.view.phase ≡ true →
+    (on_beat b x).state.list.items ≡ x.list.items
+beat-in_reset None x r = refl
+beat-in_reset (Some coin) x r = tick-in_reset coin x r
+
+beat-grows : (b : Option Bool) (x : NodeState) →
+    (more : List ℕ) × ((on_beat b x).state.list.items ≡ x.list.items ++ more)
+beat-grows None x = ([], sym (append-nil x.list.items))
+beat-grows (Some coin) x = tick-grows coin x
+
 pub turn-grows : (signals : List PortSignal) (n : PortNode) →
     Grew n.state.list.items (node_turn signals n).node.state.list.items
 turn-grows signals n = go (hear-hears signals n.state)
@@ -162,11 +172,11 @@ turn-grows signals n = go (hear-hears signals n.state)
     m : NodeState
     m = (hear_all signals n.state).state
 
-    go : Hears n.state m → Grew n.state.list.items (tick (coin n.coins) m).state.list.items
+    go : Hears n.state m → Grew n.state.list.items (on_beat (beat n) m).state.list.items
     go (inl a) =
-        let t = tick-grows (coin n.coins) m in
+        let t = beat-grows (beat n) m in
         inl (a.0 ++ t.0, t.1 ∙ ap (λ l. l ++ t.0) a.1 ∙ append_assoc n.state.list.items a.0 t.0)
-    go (inr a) = inr (tick-in_reset (coin n.coins) m a.0 ∙ a.1)
+    go (inr a) = inr (beat-in_reset (beat n) m a.0 ∙ a.1)
 
 -- whether the list changed in a turn is seen from its length
 pub turn-seen :

@@ -5,7 +5,9 @@ use Rattle.std.proofs.lemmas.List.Elements.{All-map}
 use Rattle.cabling.specs.Wiring.{Wiring, ArePortCounts, without_cables}
 use Rattle.port_state.specs.declared.timing.Timing.{Timing}
 use Rattle.port_state.specs.Valid.{IsValid}
+use Rattle.port_state.specs.Clock.{even}
 use Rattle.port_state.specs.Machine.{PortNode}
+use Rattle.cable_world.specs.Times.{KeepsTime}
 use Rattle.cable_world.specs.Wire.{Wire, empty_wire}
 use Rattle.cable_world.specs.World.{IsPowered, IsPowerOnWorld, no_wires, world_with_times}
 use Rattle.cable_world.specs.Parts.{world_record}
@@ -27,6 +29,12 @@ pub each-node :
     {M : Type 0} → (P : PortNode → Type 0) (f : M → PortNode) (machines : List M) →
     All (λ m. P (f m)) machines → EachNode P (map f machines)
 each-node P f machines h = each-at P (map f machines) (All-map P f machines h)
+
+-- a clock that misses no turn keeps time
+pub even-paced :
+    (longest : Timing) (nodes : List PortNode) → EachNode (λ x. x.clock ≡ even) nodes →
+    EachNode (λ x. KeepsTime longest x.state.timing x.clock) nodes
+even-paced longest nodes h k x at = subst (KeepsTime longest x.state.timing) (sym (h k x at)) tt
 
 pub are-counts : (nodes : List PortNode) → EachNode (λ x. IsValid x.state) nodes → ArePortCounts (map ports nodes)
 are-counts [] h i lt = absurd (omega arith)
@@ -59,6 +67,8 @@ start-is d longest n nodes counts c wires changed p cc_is w k long =
     rw (cables, rows, none) refl
 
 pub power-on :
-    (d : ℕ) (longest : Timing) (nodes : List PortNode) → 1 ≤ d → d ≤ 16 → length nodes ≤ 63 →
-    EachNode (λ x. IsPowered d longest x.state) nodes → IsPowerOnWorld (world_with_times d longest nodes)
-power-on d longest nodes one sixteen few h = record { some_delay = one; short_delay = sixteen; few_nodes = few; nodes = h; is = refl }
+    (d : ℕ) (longest : Timing) (nodes : List PortNode) → 1 ≤ d → length nodes ≤ 63 →
+    EachNode (λ x. IsPowered d longest x.state) nodes →
+    EachNode (λ x. KeepsTime longest x.state.timing x.clock) nodes →
+    IsPowerOnWorld (world_with_times d longest nodes)
+power-on d longest nodes one few h paced = record { some_delay = one; few_nodes = few; nodes = h; clocks = paced; is = refl }

@@ -2,7 +2,7 @@
 use Rattle.std.proofs.Common.{◌≡◌, ℕ, true, List, [], ◌==◌, length, inr, refl, sym, ◌∙◌, ap, if◌then◌else◌}
 use Rattle.port_state.specs.declared.states.NodeState.{NodeState}
 use Rattle.port_state.specs.Entry.{enter}
-use Rattle.port_state.specs.Machine.{PortNode, with_coins}
+use Rattle.port_state.specs.Machine.{PortNode, after_step}
 use Rattle.cable_world.specs.Turn.{same_list}
 use Rattle.cable_world.proofs.running.Lists.{seen-by-length}
 
@@ -13,7 +13,7 @@ enter-empties x = refl
 
 pub reset-seen :
     (n y : PortNode) (x : NodeState) (before after : List ℕ) (c last turns : ℕ) →
-    before ≡ n.state.list.items → after ≡ y.state.list.items → y ≡ (with_coins n.coins (enter true x)).node →
+    before ≡ n.state.list.items → after ≡ y.state.list.items → y ≡ (after_step n (enter true x)).node →
     c ≡ (if length before == length after then last else turns) → c ≡ (if same_list n y then last else turns)
 reset-seen n y x before after c last turns b a made h =
     h

@@ -1,5 +1,6 @@
 -- A world by its parts: what a lawful one gives to the code, and its turn.
 use Rattle.std.proofs.Common.{◌≡◌, Bool, true, ℕ, ◌+◌, ◌-◌, ◌<◌, ◌≤◌, List, [], ◌∷◌, All, map, length, slice_index_or, slice_set, is_some, None, get_or, refl, sym, ◌∙◌, ap, arith, subst, true≢false}
+use Rattle.std.specs.Coded.{le_prop}
 use Rattle.std.specs.List.{AllByRecursion}
 use Rattle.std.specs.Prelude.{Vec, Result, Ok, Err, ◌↔◌, IsTrue, IsFalse, OnOk}
 use Rattle.std.specs.Vec.{with_items}
@@ -27,12 +28,15 @@ use Rattle.cable_world.specs.running.Hearing.{Arriving}
 use Rattle.cable_world.specs.running.Steps.{turns_of, HasItsPorts}
 use Rattle.cable_world.specs.Parts.{world_record}
 use Rattle.cable_world.proofs.OneProof.{lawful_prop}
-use Rattle.cable_world.proofs.StaysLawful.{reached-lawful}
+use Rattle.cable_world.proofs.StaysLawful.{reached-lawful, reached-runs}
 use Rattle.cable_world.proofs.tables.TablesInSteps.{sent-length}
 use Rattle.cable_world.proofs.running.AllNodes.{turns-are}
 
 pub lawful-now : (w : CableWorld) → ∥ IsReached w ∥₁ → IsLawful w
 lawful-now w r = ∥∥₁_elim r (lawful_prop w) (reached-lawful w)
+
+pub short-now : (w : CableWorld) → ∥ IsReached w ∥₁ → w.delay ≤ 16
+short-now w r = ∥∥₁_elim r le_prop (λ h. (reached-runs w h).short_delay)
 
 -- ---- what the code asks of it
 
@@ -41,13 +45,13 @@ pub young-from : (most : ℕ) (ts : List Travelling) → most ≤ 15 → AgesFal
 young-from most [] few h = tt
 young-from most (t ∷ ts) few h = (omega (arith, h.0, few), young-from t.age ts (omega (arith, h.0, few)) h.1)
 
-pub all-young : (w : CableWorld) → IsWellFormed w → All (λ row. All AreYoung row) w.wires
-all-young w f = λ k e inside p u within.
+pub all-young : (w : CableWorld) → w.delay ≤ 16 → IsWellFormed w → All (λ row. All AreYoung row) w.wires
+all-young w short f = λ k e inside p u within.
     let row : get_or w.wires k e ≡ slice_index_or w.wires k [] = get_or_default w.wires k e [] inside in
     let there : get_or (get_or w.wires k e) p u ≡ wire_of w (record { node = k; port = p }) =
     get_or_default (get_or w.wires k e) p u empty_wire within ∙ ap (λ r. slice_index_or r p empty_wire) row in
     let ages = f.ages (record { node = k; port = p }) in
-    let few : w.delay - 1 ≤ 15 = omega (arith, f.short_delay) in
+    let few : w.delay - 1 ≤ 15 = omega (arith, short) in
     subst AreYoung (sym there) (All-from_recursion (λ (t : Travelling). t.age < 255) _ (young-from (w.delay - 1) _ few ages))
 
 pub has-its-ports : (w : CableWorld) → IsWellFormed w → HasItsPorts w.cabling w.nodes

@@ -119,15 +119,14 @@ apart :
 apart d longest nodes a = no-far (map ports nodes) a.node a.port
 
 formed :
-    (d : ℕ) (longest : Timing) (nodes : List PortNode) → 1 ≤ d → d ≤ 16 → length nodes ≤ 63 →
+    (d : ℕ) (longest : Timing) (nodes : List PortNode) → 1 ≤ d → length nodes ≤ 63 →
     Powered d longest nodes → IsWellFormed (world_with_times d longest nodes)
-formed d longest nodes one sixteen few h =
+formed d longest nodes one few h =
     let w = world_with_times d longest nodes in
     let size : length w.cabling ≡ length nodes = length-map (map ports nodes) free ∙ length-map nodes ports in
     let calm : (a : End) → wire_of w a ≡ empty_wire = λ a. no-signal nodes a.node a.port in
     record {
       some_delay = one;
-      short_delay = sixteen;
       cabling = is-cabling d longest nodes few h;
       count = sym size;
       wire_rows = length-map nodes no_wires ∙ sym size;
@@ -138,7 +137,7 @@ formed d longest nodes one sixteen few h =
     }
 
 pub power-on-formed : (w : CableWorld) → IsPowerOnWorld w → IsWellFormed w
-power-on-formed w h = subst IsWellFormed (sym h.is) (formed w.delay w.longest w.nodes h.some_delay h.short_delay h.few_nodes h.nodes)
+power-on-formed w h = subst IsWellFormed (sym h.is) (formed w.delay w.longest w.nodes h.some_delay h.few_nodes h.nodes)
 
 -- a fact of each cable is so, since there is none
 pub power-on-apart : (w : CableWorld) → IsPowerOnWorld w → (a : End) → far w.cabling a ≡ None

@@ -81,7 +81,6 @@ recabled-formed c a b w h ha hb is same =
     let size : length c ≡ length w.cabling = same_length w.cabling c same.ports in
     record {
       some_delay = h.some_delay;
-      short_delay = h.short_delay;
       cabling = is;
       count = h.count ∙ sym size;
       wire_rows = length-set first b.node _ ∙ length-set w.wires a.node _ ∙ h.wire_rows ∙ sym size;
@@ -189,7 +188,6 @@ told-formed set packet w bits h =
     let v : CableWorld = record w { nodes = change_in_set set change 0 w.nodes } in
     record {
       some_delay = h.some_delay;
-      short_delay = h.short_delay;
       cabling = h.cabling;
       count = in-set set change 0 w.nodes ∙ h.count;
       wire_rows = h.wire_rows;
@@ -227,7 +225,6 @@ noting-formed w u v e many h g =
     let size : length w.cabling ≡ length u.cabling = omega (arith, same, h.count, g.count) in
     let all : IsWellFormed (note_changes w u) = record {
       some_delay = g.some_delay;
-      short_delay = g.short_delay;
       cabling = g.cabling;
       count = g.count;
       wire_rows = g.wire_rows;
@@ -273,7 +270,6 @@ hold-formed end turns w none h =
     let other : (e : End) → e ≢ end → wire_of v e ≡ wire_of w e = λ e ne. put-other empty_wire w.wires end e held there.node ne in
     record {
       some_delay = h.some_delay;
-      short_delay = h.short_delay;
       cabling = h.cabling;
       count = h.count;
       wire_rows = length-set w.wires end.node _ ∙ h.wire_rows;

@@ -161,7 +161,6 @@ cabled c w = record w { cabling = c }
 -- pulled
 pub record FormedFor (c : Wiring) (w : CableWorld) : Type 0 where
   pub some_delay : 1 ≤ w.delay
-  pub short_delay : w.delay ≤ 16
   pub cabling : IsCabling w.cabling
   pub count : length w.nodes ≡ length w.cabling
   pub wire_rows : length w.wires ≡ length w.cabling
@@ -174,7 +173,6 @@ pub record FormedFor (c : Wiring) (w : CableWorld) : Type 0 where
 pub formed-for : (w : CableWorld) → IsWellFormed w → FormedFor w.cabling w
 formed-for w h = record {
   some_delay = h.some_delay;
-  short_delay = h.short_delay;
   cabling = h.cabling;
   count = h.count;
   wire_rows = h.wire_rows;
@@ -187,7 +185,6 @@ formed-for w h = record {
 pub well-formed : (c : Wiring) (w : CableWorld) → w.cabling ≡ c → FormedFor c w → IsWellFormed w
 well-formed c w is h = record {
   some_delay = h.some_delay;
-  short_delay = h.short_delay;
   cabling = h.cabling;
   count = h.count;
   wire_rows = h.wire_rows;
@@ -244,7 +241,6 @@ stepped-formed c d k x s w h lengths others at f =
     let is-at : (a : End) → a.node ≡ k → a ≡ end-at a.port = λ a n. same_end a (end-at a.port) n refl in
     record {
       some_delay = h.some_delay;
-      short_delay = h.short_delay;
       cabling = h.cabling;
       count = length-set w.nodes k s.node ∙ h.count;
       wire_rows = length-set w.wires k sent ∙ h.wire_rows;
@@ -289,7 +285,6 @@ step-formed c d k step w h lengths others f = go (slice_get w.nodes k) refl
     go (Some x) at = stepped-formed c d k x (step x) w h lengths others at (f x at)
     go None at = record {
       some_delay = h.some_delay;
-      short_delay = h.short_delay;
       cabling = h.cabling;
       count = h.count;
       wire_rows = h.wire_rows;

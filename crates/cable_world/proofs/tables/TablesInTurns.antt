@@ -1,5 +1,5 @@
 -- A turn keeps a world well formed.
-use Rattle.std.proofs.Common.{◌≡◌, ◌⊎◌, inl, inr, ℕ, suc, ◌+◌, ◌-◌, ◌≤◌, ◌<◌, Bool, true, false, ◌||◌, ◌==◌, List, [], ◌∷◌, map, length, nat_le, Some, None, is_some, slice_get, slice_index_or, refl, sym, ◌∙◌, ap, subst, arith, if◌then◌else◌}
+use Rattle.std.proofs.Common.{◌≡◌, ◌⊎◌, inl, inr, ℕ, suc, ◌+◌, ◌-◌, ◌≤◌, ◌<◌, Bool, true, false, ◌||◌, ◌==◌, List, [], ◌∷◌, map, length, nat_le, Option, Some, None, is_some, slice_get, slice_index_or, refl, sym, ◌∙◌, ap, subst, arith, if◌then◌else◌}
 use Rattle.std.proofs.lemmas.Bool.{leb-false, cases_lt}
 use Rattle.std.proofs.lemmas.List.{length-map, get_or_past}
 use Rattle.std.proofs.lemmas.Option.{slice_get_within, slice_get_cases}
@@ -11,10 +11,8 @@ use Rattle.port_state.specs.Valid.{IsValid}
 use Rattle.port_state.specs.Sound.{OnConnected, IsSound}
 use Rattle.port_state.specs.declared.states.NodeState.{NodeState}
 use Rattle.port_state.specs.Step.{Step}
-use Rattle.port_state.specs.Tick.{tick}
 use Rattle.port_state.specs.Heard.{on_signal}
-use Rattle.port_state.specs.Machine.{PortNode, NodeStep}
-use Rattle.port_state.specs.Coins.{coin}
+use Rattle.port_state.specs.Machine.{PortNode, NodeStep, beat, on_beat}
 use Rattle.port_state.proofs.Lemmas.{sound-tick, sound-on_signal, tick-cables, signal-cables, on-append}
 use Rattle.cabling.specs.declared.cable.End.{End}
 use Rattle.cabling.specs.Wiring.{Wiring, far, ports_of}
@@ -76,14 +74,17 @@ hear-steady (s ∷ rest) x v =
 abbrev pub step_of : NodeStep → Step
 step_of s = record { state = s.node.state; sends = s.sends }
 
+beat-steady : (b : Option Bool) (x : NodeState) → IsValid x → Steady x (on_beat b x)
+beat-steady None x v = record { valid = v; timing = refl; ports = refl; cables = λ k. refl; on = tt }
+beat-steady (Some coin) x v = sound-steady x (on_beat (Some coin) x) (sound-tick coin x v) (tick-cables coin x)
+
 node-steady :
     (signals : List (ℕ × Signal)) (x : PortNode) → IsValid x.state →
     Steady x.state (step_of (node_turn signals x))
 node-steady signals x v =
     let heard : Step = hear_all signals x.state in
     let a : Steady x.state heard = hear-steady signals x.state v in
-    then-steady x.state heard (tick (coin x.coins)) a
-    (sound-steady heard.state (tick (coin x.coins) heard.state) (sound-tick (coin x.coins) heard.state a.valid) (tick-cables (coin x.coins) heard.state))
+    then-steady x.state heard (on_beat (beat x)) a (beat-steady (beat x) heard.state a.valid)
 
 -- ---- one wire
 
@@ -224,7 +225,6 @@ nodes-fit w k y f e = elim (slice_get_cases w.nodes k).1 [
 pub turn-formed : (w : CableWorld) → IsWellFormed w → IsWellFormed (turn w)
 turn-formed w f = record {
   some_delay = rw (delay-after w) f.some_delay;
-  short_delay = rw (delay-after w) f.short_delay;
   cabling = rw (cabling-after w) f.cabling;
   count = nodes-after w f.count ∙ rw (cabling-after w) f.count;
   wire_rows = rows-after w ∙ rw (cabling-after w) f.wire_rows;

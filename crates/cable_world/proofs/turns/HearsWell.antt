@@ -44,15 +44,15 @@ Fate port s x h = Passed port s x h ⊎ EntersReset x h
 still-heard :
     (x y : NodeState) → y.view.phase ≡ x.view.phase → y.view.timer ≡ x.view.timer →
     y.view.wait ≡ x.view.wait → y.view.parent ≡ x.view.parent → y.view.draws ≡ x.view.draws →
-    y.view.first_draws ≡ x.view.first_draws →
+    y.view.first_draws ≡ x.view.first_draws → y.view.timed_out ≡ x.view.timed_out →
     ((k : ℕ) → leads_down y.view.ports k ≡ leads_down x.view.ports k) → NoEntry x (silent_step y)
-still-heard x y ph t w p n f c = record { phase = ph; timer = t; wait = w; parent = p; draws = n; first_draws = f; child = c; sends = λ h. refl; calm = λ k. refl }
+still-heard x y ph t w p n f o c = record { phase = ph; timer = t; wait = w; parent = p; draws = n; first_draws = f; timed_out = o; child = c; sends = λ h. refl; calm = λ k. refl }
 
 -- a port changes, and its role doesn't
 port-heard :
     (n : ℕ) (f : PortView → PortView) → ((p : PortView) → (f p).child ≡ p.child) → (x : NodeState) →
     NoEntry x (silent_step (with_port n f x))
-port-heard n f h x = still-heard x (with_port n f x) refl refl refl refl refl refl (port_is-changed (λ p. p.child) n f h x.view.ports)
+port-heard n f h x = still-heard x (with_port n f x) refl refl refl refl refl refl refl (port_is-changed (λ p. p.child) n f h x.view.ports)
 
 level-heard : (n : ℕ) (l : Level) (x : NodeState) → NoEntry x (silent_step (with_level n l x))
 level-heard n l x = port-heard n (λ p. record p { shown = l }) (λ p. refl) x
@@ -67,6 +67,7 @@ packet-heard n quad x e = record {
   parent = refl;
   draws = refl;
   first_draws = refl;
+  timed_out = refl;
   child = λ k. refl;
   sends = λ h. absurd cc;
   calm = λ k. ap has_reset (on_others-port k n (signal.Packet quad) x.view.ports) ∙ go (not (k == n) && is_connected x.view.ports k);
@@ -88,7 +89,7 @@ hears-fate n signal.Reset x e = reset-fate n x (is_resetting x.view.phase) refl
 hears-fate n signal.Idle x e = inl (record { heard = level-heard n level.Idle x; unless = λ c r. absurd cc })
 hears-fate n signal.Parent x e = inl (record { heard = level-heard n level.Parent x; unless = λ c r. absurd cc })
 hears-fate n signal.Child x e = inl (record { heard = level-heard n level.Child x; unless = λ c r. absurd cc })
-hears-fate n signal.Grant x e = inl (record { heard = still-heard x _ refl refl refl refl refl refl (λ k. refl); unless = λ c r. absurd cc })
+hears-fate n signal.Grant x e = inl (record { heard = still-heard x _ refl refl refl refl refl refl refl (λ k. refl); unless = λ c r. absurd cc })
 hears-fate n (signal.Packet quad) x e =
     let both = and_parts (is_connected x.view.ports n) (hears_packets x.view.phase) e in
     inl (record { heard = packet-heard n quad x both.1; unless = λ c r. absurd cc })
@@ -113,7 +114,7 @@ signal-fate n s x = go (is_heard n s x) refl
   where
     go : (b : Bool) → is_heard n s x ≡ b → Fate n s x (if b then hears n s x else silent_step x)
     go true e = hears-fate n s x e
-    go false e = inl (record { heard = still-heard x x refl refl refl refl refl refl (λ k. refl); unless = λ c r. absurd (reset-counts n s x (is_connected x.view.ports n) e c r) })
+    go false e = inl (record { heard = still-heard x x refl refl refl refl refl refl refl (λ k. refl); unless = λ c r. absurd (reset-counts n s x (is_connected x.view.ports n) e c r) })
 
 -- ---- many signals
 
@@ -127,6 +128,7 @@ heard-then x first second f g = record {
   parent = g.parent ∙ f.parent;
   draws = g.draws ∙ f.draws;
   first_draws = g.first_draws ∙ f.first_draws;
+  timed_out = g.timed_out ∙ f.timed_out;
   child = λ k. g.child k ∙ f.child k;
   sends = λ h. rw (f.sends h) (g.sends (ap hears_packets f.phase ∙ h));
   calm = λ k.
@@ -138,7 +140,7 @@ heard-then x first second f g = record {
 hear-cases :
     (signals : List (ℕ × Signal)) (x : NodeState) →
     NoEntry x (hear_all signals x) ⊎ EntersReset x (hear_all signals x)
-hear-cases [] x = inl (still-heard x x refl refl refl refl refl refl (λ k. refl))
+hear-cases [] x = inl (still-heard x x refl refl refl refl refl refl refl (λ k. refl))
 hear-cases (s ∷ rest) x = go (signal-fate s.0 s.1 x) (hear-cases rest first.state)
   where
     first : Step

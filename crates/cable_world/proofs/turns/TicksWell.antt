@@ -498,9 +498,22 @@ asks-on coin r x k c sh i s = refl
 risen-below : (t hold : ℕ) → t + 1 < hold → hold ≤ 65535 → risen t ≡ t + 1
 risen-below t hold h l = omega (arith, h, l)
 
-pub ticks-well : (coin : Bool) (x : NodeState) → IsValid x → TicksWell coin x
+risen-grows : (t s : ℕ) → s ≤ risen t → s ≤ t + 1
+risen-grows t s h = grind arith
+
+at_most : (t : ℕ) {A B C : Type 0} (s : ℕ) → (A × (s ≤ risen t) × B) ⊎ C → (A × (s ≤ t + 1) × B) ⊎ C
+at_most t s (inl a) = inl (a.0, risen-grows t s a.1, a.2)
+at_most t s (inr c) = inr c
+
+goes_on :
+    (t : ℕ) {A B C D : Type 0} (s : ℕ) → (A × B × (s ≤ risen t) × C) ⊎ D →
+    (A × B × (s ≤ t + 1) × C) ⊎ D
+goes_on t s (inl a) = inl (a.0, a.1, risen-grows t s a.2, a.3)
+goes_on t s (inr d) = inr d
+
+ticked-well : (coin : Bool) (x : NodeState) → IsValid x → TicksWell (Some coin) x
 unfolding tick
-ticks-well coin x v =
+ticked-well coin x v =
     let y : NodeState = raise_timer x in
     let r : Row = next_row x in
     let w : IsValid y = valid-raise_timer x v in
@@ -517,8 +530,11 @@ ticks-well coin x v =
       holds = λ h below least.
           let rises = risen-below x.view.timer x.timing.hold below least in
           let held = holds-on coin r y c h (subst (λ t. t < x.timing.hold) (sym rises) below) in
-          (held.0, held.1 ∙ rises, held.2);
-      timed = times coin r y c;
+          (held.0, omega (arith, held.1, rises), omega (arith, held.1, rises), held.2);
+      rises = λ h below least.
+          let up = risen-below x.view.timer x.timing.hold below least in
+          inr ((holds-on coin r y c h (subst (λ t. t < x.timing.hold) (sym up) below)).1 ∙ up);
+      timed = λ t. at_most x.view.timer _ (times coin r y c t);
       between = comes-between coin r y c;
       watches = λ k on before s. waits-on coin r y k c on s (before s);
       early = λ k on l h. asks-early coin r y k c on l h;
@@ -526,7 +542,36 @@ ticks-well coin x v =
       parent = λ k h s. stays-parent coin r y k w c h s;
       asks_no_child = λ k on h. asks-no-child coin r y k w c on h;
       child = λ k on h. adopts coin r y k w c h;
-      contend = contends-on coin r y;
+      contend = λ e. goes_on x.view.timer _ (contends-on coin r y e);
       batch = λ k on. sends-batch coin r y k;
       asks = λ k on sh i s. asks-on coin r y k c sh i s;
     }
+
+-- a turn that is missed changes nothing
+missed-well : (x : NodeState) → IsValid x → TicksWell None x
+missed-well x v = record {
+  valid = v;
+  timing = refl;
+  cables = λ k. refl;
+  shown = λ k. refl;
+  says = λ k on. refl;
+  out = λ h. h;
+  calm = λ k. refl;
+  holds = λ h below least. (h, omega arith, omega arith, refl);
+  rises = λ h below least. inl refl;
+  timed = λ t. inl (refl, omega arith, refl);
+  between = λ m. inl m;
+  watches = λ k on before s. before s;
+  early = λ k on l h. h;
+  no_notice = λ k on h. refl;
+  parent = λ k h s. h;
+  asks_no_child = λ k on h. refl;
+  child = λ k on h. inl h;
+  contend = λ e. inl (e, refl, omega arith, refl);
+  batch = λ k on. refl;
+  asks = λ k on sh i s. refl;
+}
+
+pub ticks-well : (b : Option Bool) (x : NodeState) → IsValid x → TicksWell b x
+ticks-well None x v = missed-well x v
+ticks-well (Some coin) x v = ticked-well coin x v

@@ -5,9 +5,7 @@ use Rattle.std.proofs.lemmas.Bool.{ne_eqb, eq-eqb}
 use Rattle.std.proofs.lemmas.List.{append-nil}
 use Rattle.port_state.specs.declared.signal.Signal.{Signal}
 use Rattle.port_state.specs.Sends.{sent_on}
-use Rattle.port_state.specs.Coins.{coin}
-use Rattle.port_state.specs.Tick as row
-use Rattle.port_state.specs.Machine.{PortNode}
+use Rattle.port_state.specs.Machine.{PortNode, beat, on_beat}
 use Rattle.port_state.proofs.Lemmas.{sent_on-append}
 use Rattle.cabling.specs.declared.cable.End.{End}
 use Rattle.cabling.specs.Wiring.{far, ports_of}
@@ -23,15 +21,15 @@ use Rattle.cable_world.proofs.coupling.Streams.{signals-older}
 pub turn-state :
     (signals : List (ℕ × Signal)) (x : PortNode) →
     (node_turn signals x).node.state
-    ≡ (row.tick (coin x.coins) (hear_all signals x.state).state).state
+    ≡ (on_beat (beat x) (hear_all signals x.state).state).state
 turn-state signals x = refl
 
 -- what it sends on one port, while hearing and at the tick
 pub turn-sent :
     (signals : List (ℕ × Signal)) (x : PortNode) (k : ℕ) →
     sent_on k (node_turn signals x).sends
-    ≡ sent_on k (hear_all signals x.state).sends ++ sent_on k (row.tick (coin x.coins) (hear_all signals x.state).state).sends
-turn-sent signals x k = sent_on-append k (hear_all signals x.state).sends (row.tick (coin x.coins) (hear_all signals x.state).state).sends
+    ≡ sent_on k (hear_all signals x.state).sends ++ sent_on k (on_beat (beat x) (hear_all signals x.state).state).sends
+turn-sent signals x k = sent_on-append k (hear_all signals x.state).sends (on_beat (beat x) (hear_all signals x.state).state).sends
 
 -- ---- what a node hears in a turn
 

@@ -3,6 +3,7 @@
 -- always draws 0 and waits for eight. When node 0's wait is over, the Parent that node 1 sent at
 -- the end of its own is still under way, so node 0 asks again too. They contend for ever, though
 -- the two coins of a round are never equal.
+use Rattle.port_state.specs.Clock.{even}
 use Rattle.std.proofs.Common.{◌≡◌, ℕ, ◌+◌, ◌<◌, ◌≤◌, Bool, true, false, List, [], ◌∷◌, Some, map, min, bit_or, nat_lt, if◌then◌else◌, ◌^◌, refl, subst, sym, arith}
 use Rattle.std.proofs.lemmas.Nat.{le_or_l}
 use Rattle.port_state.specs.declared.signal.Level.TheVariants as level
@@ -61,7 +62,7 @@ other_times = record (usual_timing 2) { short = 8 }
 -- ---- the run
 
 abbrev node : Timing → ℕ → PortNode
-node t coin = record { state = power_on 1 (attrs true 2 false) false t; coins = coins_of_bits coin 1 }
+node t coin = record { state = power_on 1 (attrs true 2 false) false t; coins = coins_of_bits coin 1; clock = even }
 
 abbrev bare : ℕ → CableWorld
 bare long = world_of_nodes 2 (node (times long) 1 ∷ node other_times 0 ∷ [])

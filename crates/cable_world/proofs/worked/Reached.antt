@@ -1,6 +1,6 @@
 -- The worked runs are runs as the definition has it, from the power-on world by events that none
 -- refuses; and where components are fresh.
-use Rattle.std.proofs.Common.{◌≡◌, ◌≢◌, ℕ, zero, suc, ◌<◌, ◌≤◌, Bool, true, false, List, [], ◌∷◌, None, Some, length, slice_get, refl, subst, arith}
+use Rattle.std.proofs.Common.{sym, ◌≡◌, ◌≢◌, ℕ, zero, suc, ◌<◌, ◌≤◌, Bool, true, false, List, [], ◌∷◌, None, Some, length, slice_get, refl, subst, arith}
 use Rattle.self_id.specs.Group.{group}
 use Rattle.port_state.specs.declared.signal.Phase.TheVariants.{ResetStart, ResetWait}
 use Rattle.port_state.specs.Timing.{InRange, usual_timing}
@@ -11,6 +11,8 @@ use Rattle.port_state.specs.Machine.{PortNode}
 use Rattle.port_state.proofs.Lemmas.{valid-power_on}
 use Rattle.cabling.specs.declared.cable.CableFault.TheVariants.{NoNode, InUse, NotPlugged}
 use Rattle.cable_world.specs.declared.act.Act.TheVariants.{Plug, Pull}
+use Rattle.port_state.specs.Clock.{even}
+use Rattle.cable_world.specs.Times.{KeepsTime, longest_in_range}
 use Rattle.cable_world.specs.World.{CableWorld, IsNodeAtPowerOn, world_of_nodes}
 use Rattle.cable_world.specs.Turn.{turn, turns_after}
 use Rattle.cable_world.specs.Act.{act_fault, hold, hold_fault}
@@ -34,28 +36,36 @@ usual-4 = record { hold_least = omega arith; hold_most = omega arith; force = re
 powered-on :
     (ports speed coin : ℕ) (link contender : Bool) → 1 ≤ ports → ports ≤ 16 → speed < 4 →
     IsNodeAtPowerOn 4 (node_of ports (attrs link speed contender) coin).state
-powered-on ports speed coin link contender some few slow = record {
-  is = refl;
-  valid = valid-power_on ports (attrs link speed contender) false (usual_timing 4) some few (record { gap = omega arith; speed = slow; delay = omega arith; power = omega arith }) refl;
-  timing = usual-4;
-}
+    × ((node_of ports (attrs link speed contender) coin).clock ≡ even)
+powered-on ports speed coin link contender some few slow = (
+  record {
+    is = refl;
+    valid = valid-power_on ports (attrs link speed contender) false (usual_timing 4) some few (record { gap = omega arith; speed = slow; delay = omega arith; power = omega arith }) refl;
+    timing = usual-4;
+  },
+  refl,
+)
 
 abbrev AllOn : List PortNode → Type 0
 AllOn [] = Unit {0}
-AllOn (x ∷ xs) = IsNodeAtPowerOn 4 x.state × AllOn xs
+AllOn (x ∷ xs) = (IsNodeAtPowerOn 4 x.state × (x.clock ≡ even)) × AllOn xs
 
 all-at :
     (nodes : List PortNode) → AllOn nodes → (k : ℕ) (x : PortNode) → slice_get nodes k ≡ Some x →
-    IsNodeAtPowerOn 4 x.state
+    IsNodeAtPowerOn 4 x.state × (x.clock ≡ even)
 all-at [] a k x e = absurd cc
-all-at (y ∷ ys) a zero x e = subst (λ (z : PortNode). IsNodeAtPowerOn 4 z.state) (some-same y x e) a.0
+all-at (y ∷ ys) a zero x e = subst (λ (z : PortNode). IsNodeAtPowerOn 4 z.state × (z.clock ≡ even)) (some-same y x e) a.0
 all-at (y ∷ ys) a (suc k) x e = all-at ys a.1 k x e
 
 reached-first :
     (nodes : List PortNode) → AllOn nodes → length nodes ≤ 63 → IsReached (world_of_nodes 4 nodes)
 reached-first nodes a few = starts (world_of_nodes 4 nodes) (
-  record { some_delay = omega arith; short_delay = omega arith; few_nodes = few; nodes = λ k x e. powered-in-range 4 x.state (omega arith) (omega arith) (all-at nodes a k x e); is = refl },
-  λ k x e. in-range-forced 4 x.state.timing (omega arith) (all-at nodes a k x e).timing,
+  record { some_delay = omega arith; few_nodes = few; nodes = λ k x e. powered-in-range 4 x.state (omega arith) (omega arith) (all-at nodes a k x e).0; clocks = λ k x e. subst (λ c. KeepsTime (longest_in_range 4) x.state.timing c) (sym (all-at nodes a k x e).1) tt; is = refl },
+  record {
+    short_delay = omega arith;
+    forced = λ k x e. in-range-forced 4 x.state.timing (omega arith) (all-at nodes a k x e).0.timing;
+    even = λ k x e. (all-at nodes a k x e).1;
+  },
 )
 
 -- ---- the worked runs

@@ -1,6 +1,7 @@
 -- A hold has to be longer than a signal's way through all nodes, which are 63 at most: 64 d is
 -- enough for them. Four nodes need a hold of 4 d. Here each signal takes one turn, and each node of
 -- a ring of four holds its reset for three: a Reset runs round the ring for ever.
+use Rattle.port_state.specs.Clock.{even}
 use Rattle.std.proofs.Common.{◌≡◌, ℕ, ◌+◌, ◌<◌, true, false, List, [], ◌∷◌, map, min, refl, subst, sym, arith}
 use Rattle.port_state.specs.declared.ports.PortView.{PortView}
 use Rattle.port_state.specs.declared.signal.Level.{Level}
@@ -55,7 +56,7 @@ can-be-forced = record { enough = omega arith }
 -- ---- the run
 
 abbrev node : ℕ → PortNode
-node hold = record { state = power_on 2 (attrs true 2 false) false (times hold); coins = coins_of_bits 0 1 }
+node hold = record { state = power_on 2 (attrs true 2 false) false (times hold); coins = coins_of_bits 0 1; clock = even }
 
 abbrev bare : ℕ → CableWorld
 bare hold = world_of_nodes 1 (node hold ∷ node hold ∷ node hold ∷ node hold ∷ [])

@@ -4,6 +4,7 @@
 -- it, while node 1 waits on and doesn't hear the Grant. Nobody ever gets an ID. (Five turns would
 -- be enough here, since a node hears what arrives before its clock ticks; the inequality asks for
 -- seven.)
+use Rattle.port_state.specs.Clock.{even}
 use Rattle.std.proofs.Common.{◌≡◌, ℕ, zero, suc, ◌+◌, ◌<◌, Bool, true, false, List, [], ◌∷◌, Option, Some, None, map, min, refl, subst, sym, arith}
 use Rattle.self_id.specs.Group.{group}
 use Rattle.port_state.specs.declared.ports.PortView.{PortView}
@@ -57,7 +58,7 @@ can-be-forced = record { enough = omega arith }
 -- ---- the run
 
 abbrev node : ℕ → Timing → ℕ → PortNode
-node ports t coin = record { state = power_on ports (attrs true 2 false) false t; coins = coins_of_bits coin 1 }
+node ports t coin = record { state = power_on ports (attrs true 2 false) false t; coins = coins_of_bits coin 1; clock = even }
 
 abbrev bare : ℕ → CableWorld
 bare short = world_of_nodes 3 (node 1 (usual_timing 3) 0 ∷ node 2 (usual_timing 3) 1 ∷ node 1 (times short) 0 ∷ [])

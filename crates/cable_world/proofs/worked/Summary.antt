@@ -1,4 +1,5 @@
 -- What the worked rows tell of a world.
+use Rattle.port_state.specs.Clock.{even}
 use Rattle.std.proofs.Common.{ℕ, Bool, true, false, List, [], ◌∷◌, Option, map}
 use Rattle.self_id.specs.declared.node.Attrs.{Attrs}
 use Rattle.port_state.specs.declared.signal.Phase.{Phase}
@@ -18,7 +19,7 @@ attrs link speed contender = record { link = link; gap = 63; speed = speed; dela
 
 -- a node at power-on, with the usual times where d is 4, which draws this coin again and again
 abbrev pub node_of : ℕ → Attrs → ℕ → PortNode
-node_of ports a coin = record { state = power_on ports a false (usual_timing 4); coins = coins_of_bits coin 1 }
+node_of ports a coin = record { state = power_on ports a false (usual_timing 4); coins = coins_of_bits coin 1; clock = even }
 
 -- with 3 ports, a link, S400 and no contender
 abbrev pub plain_node : ℕ → PortNode

@@ -1,6 +1,7 @@
 -- Times that barely suit a bus, and times that don't; and two nodes with such times. d is 1 here, and
 -- the longest times are those in range.
-use Rattle.std.proofs.Common.{◌≡◌, ℕ, zero, suc, true, false, [], ◌∷◌, Some, map, slice_get, refl, subst, arith}
+use Rattle.port_state.specs.Clock.{even}
+use Rattle.std.proofs.Common.{◌≡◌, ℕ, zero, suc, true, false, [], ◌∷◌, Some, map, slice_get, refl, sym, ap, subst, arith}
 use Rattle.self_id.specs.Group.{group}
 use Rattle.port_state.specs.declared.timing.Timing.{Timing}
 use Rattle.port_state.specs.Coins.{coins_of_bits}
@@ -11,10 +12,11 @@ use Rattle.port_state.specs.Tick.{tick}
 use Rattle.port_state.specs.Machine.{PortNode}
 use Rattle.port_state.proofs.Lemmas.{valid-power_on}
 use Rattle.cable_world.specs.Times.{Suits, CanBeForced, longest_in_range}
-use Rattle.cable_world.specs.World.{CableWorld, AllCanBeForced, IsPowered, world_with_times}
+use Rattle.cable_world.specs.World.{CableWorld, AllCanBeForced, AllEven, IsPowered, world_with_times}
 use Rattle.cable_world.specs.Turn.{turn, turns_after}
 use Rattle.cable_world.specs.Run.{IsReached, starts}
 use Rattle.cable_world.proofs.Options.{some-same}
+use Rattle.cable_world.proofs.running.Start.{even-paced}
 use Rattle.cable_world.proofs.Times.{in-range-counted}
 use Rattle.cable_world.proofs.worked.Summary.{attrs, at, after_plug}
 use Rattle.cable_world.proofs.worked.ComesOf.{comes-plugged}
@@ -59,7 +61,7 @@ too-long-a-wait s = omega (arith, s.long_most)
 -- ---- two nodes with such times on one cable, of which the first draws 0 and the second 1
 
 abbrev node : ℕ → PortNode
-node coin = record { state = power_on 3 (attrs true 2 false) false barely; coins = coins_of_bits coin 1 }
+node coin = record { state = power_on 3 (attrs true 2 false) false barely; coins = coins_of_bits coin 1; clock = even }
 
 abbrev alone : CableWorld
 alone = world_with_times 1 (longest_in_range 1) (node 0 ∷ node 1 ∷ [])
@@ -79,6 +81,11 @@ each-powered zero x e = subst (λ (z : PortNode). IsPowered 1 (longest_in_range 
 each-powered (suc zero) x e = subst (λ (z : PortNode). IsPowered 1 (longest_in_range 1) z.state) (some-same (node 1) x e) (powered 1)
 each-powered (suc (suc k)) x e = absurd cc
 
+each-even : AllEven alone
+each-even zero x e = ap (λ (z : PortNode). z.clock) (sym (some-same (node 0) x e))
+each-even (suc zero) x e = ap (λ (z : PortNode). z.clock) (sym (some-same (node 1) x e))
+each-even (suc (suc k)) x e = absurd cc
+
 each-forced : AllCanBeForced alone
 each-forced zero x e = subst (λ (z : PortNode). CanBeForced 1 (longest_in_range 1) z.state.timing) (some-same (node 0) x e) barely-forced
 each-forced (suc zero) x e = subst (λ (z : PortNode). CanBeForced 1 (longest_in_range 1) z.state.timing) (some-same (node 1) x e) barely-forced
@@ -86,8 +93,8 @@ each-forced (suc (suc k)) x e = absurd cc
 
 start-reached : IsReached start
 start-reached = comes-plugged alone (at 0 0) (at 1 0) refl (starts alone (
-  record { some_delay = omega arith; short_delay = omega arith; few_nodes = omega arith; nodes = each-powered; is = refl },
-  each-forced,
+  record { some_delay = omega arith; few_nodes = omega arith; nodes = each-powered; clocks = even-paced (longest_in_range 1) alone.nodes each-even; is = refl },
+  record { short_delay = omega arith; forced = each-forced; even = each-even },
 ))
 
 -- a hold of 64 turns, a long wait of 6, and the rest: the second is root

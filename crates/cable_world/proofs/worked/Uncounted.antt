@@ -1,5 +1,6 @@
 -- A node has to be able to count its times. Its timer stays at 65,535: so a node whose hold is
 -- longer by one never leaves its reset.
+use Rattle.port_state.specs.Clock.{even}
 use Rattle.std.proofs.Common.{◌≡◌, ℕ, zero, suc, ◌+◌, ◌<◌, true, false, [], ◌∷◌, min, nat_le, refl, subst, sym, arith}
 use Rattle.port_state.specs.declared.timing.Timing.{Timing}
 use Rattle.port_state.specs.Timing.{usual_timing}
@@ -44,7 +45,7 @@ can-be-forced = record { enough = omega arith }
 -- ---- a node alone
 
 abbrev node : PortNode
-node = record { state = power_on 1 (attrs true 2 false) false (times 65536); coins = coins_of_bits 0 1 }
+node = record { state = power_on 1 (attrs true 2 false) false (times 65536); coins = coins_of_bits 0 1; clock = even }
 
 abbrev start : CableWorld
 start = world_with_times 1 (longest 65536) (node ∷ [])

@@ -6,16 +6,16 @@ use Rattle.port_state.specs.declared.signal.Signal.{Signal}
 use Rattle.port_state.specs.Ports.{PortNumber}
 use Rattle.port_state.specs.PortSet.{PortSet, has_port}
 use Rattle.port_state.specs.Sends.{PortSignal}
-use Rattle.port_state.specs.Machine.{PortNode, NodeStep, with_coins}
+use Rattle.port_state.specs.Machine.{PortNode, NodeStep, after_step}
 use Rattle.cable_world.specs.Turn.{hear_all}
 
 -- for each node and port what arrives at the far end of its wire
 abbrev pub Arriving : Type 0
 Arriving = List (List (List Signal))
 
--- a node hears signals, the first first; its coins stay
+-- a node hears signals, the first first; its coins and its clock stay
 abbrev pub node_hears : List PortSignal → PortNode → NodeStep
-node_hears signals n = with_coins n.coins (hear_all signals n.state)
+node_hears signals n = after_step n (hear_all signals n.state)
 
 -- these signals, all on one port
 abbrev pub on_one : PortNumber → List Signal → List PortSignal

@@ -1,7 +1,7 @@
 -- A turn keeps what two ends of a cable know of coins.
 use Rattle.std.proofs.Common.{◌≡◌, ◌⊎◌, inl, inr, ℕ, ◌+◌, ◌*◌, ◌≤◌, Bool, true, false, not, [], Option, Some, None, refl, sym, ◌∙◌, ap, subst, arith, if◌then◌else◌}
 use Rattle.std.proofs.lemmas.Bool.{eq-eqb, and_parts, or_cases, false_from_ne_true, not-false}
-use Rattle.convergence.proofs.Common.{Level, Phase, is_idle, is_parent, is_child, is_port, raise_timer, level_sent, level_shown, leads_down, level_after, is_before_tree, is_shaking, signals_of, has_reset, is_asking, child-if, NoEntry, risen, not-both, Side, hearing, ticking, wire_after, late-roles, tree_start-known, heard_shown, AddsDraw, DrewTogether, IsAhead, AsksAgain, Contests, AreRivals, contrary}
+use Rattle.convergence.proofs.Common.{Level, Phase, is_idle, is_parent, is_child, is_port, level_sent, level_shown, leads_down, level_after, is_before_tree, is_shaking, signals_of, has_reset, is_asking, child-if, NoEntry, risen, not-both, Side, hearing, ticking, wire_after, late-roles, tree_start-known, heard_shown, AddsDraw, DrewTogether, IsAhead, AsksAgain, Contests, AreRivals, contrary, NodeState, on_beat}
 use Rattle.port_state.specs.declared.signal.Level.TheVariants as level
 use Rattle.port_state.specs.declared.signal.Phase.TheVariants as phase
 use Rattle.cable_world.specs.Phases.{is_after_hold}
@@ -9,10 +9,11 @@ use Rattle.cable_world.specs.Signals.{shows_no_notice, has_no_parent_signal}
 use Rattle.cable_world.proofs.Lemmas.{level_after-reset, between-known, heard_connected, turned-round, after_shown, heard_low, heard_no_parent, other_heard, near_heard, no_reset_before}
 use Rattle.convergence.specs.Rivals.{HasWon, IsBelow, AreAlike}
 use Rattle.convergence.proofs.coins.CoinsInTurns.{zero-or}
-use Rattle.convergence.proofs.turns.Moves.{Drew, DrewNone, Fought, tick-draws, tick-shaken, tick-fought, tick-contending, tick-shaking-from, tick-child-shake, child-idle}
+use Rattle.convergence.proofs.turns.Moves.{Drew, DrewNone, Fights, coin_of, beat-draws, beat-shaken, beat-fought, beat-contending, beat-shaking-from, beat-child-shake, child-idle}
+use Rattle.port_state.specs.Clock.{clock_after}
 use Rattle.convergence.proofs.coins.Rivals.{child-told, Rivals, swapped, stand-round, other-level, after-knows, late-heard, late-before, late-after, calm, start-calm, up-late, up-heard, up-before, up-mid, not-down, drew-sees, accepted-sees, again-sees, still, draws-not, adds-still, asks-on}
 use Rattle.convergence.proofs.turns.Roles.{parent-late, parent-was, child-late}
-use Rattle.convergence.proofs.coins.Stands.{stand-after, contend-none, over-timer, long-idle, long-undrawn, contend-shaking, idle-parent}
+use Rattle.convergence.proofs.coins.Stands.{near-most, stand-after, contend-none, over-timer, long-idle, long-undrawn, contend-shaking, idle-parent}
 use Rattle.convergence.proofs.turns.PhaseFacts.{start-late, late-start}
 
 low-parent : (l : Level) → shows_no_notice l ≡ true → l ≡ level.Parent → ⊥
@@ -31,6 +32,20 @@ early-shake : (f : Phase) → is_before_tree f ≡ true → f ≡ phase.ParentSh
 early-shake f a b = grind arith
 
 -- ---- a node in T0, and the other
+
+missed-same :
+    (b : Option Bool) (m : NodeState) (k : ℕ) → b ≡ None →
+    leads_down (on_beat b m).state.view.ports k ≡ leads_down m.view.ports k
+missed-same None m k e = refl
+missed-same (Some c) m k e = absurd cc
+
+-- a parent port that becomes a child port does so at a tick
+not-missed :
+    (d : ℕ) (x y : Side) → Rivals d x y → NoEntry x.node (hearing x) →
+    is_port x.node.view.parent x.port ≡ true →
+    leads_down (ticking x).state.view.ports x.port ≡ true → x.beat ≡ None → ⊥
+not-missed d x y r hx ux c e =
+    contrary (sym (missed-same x.beat (hearing x).state x.port e ∙ hx.child x.port) ∙ c) (not-down d x y r ux)
 
 module _ (d : ℕ) (x y : Side) (r : Rivals d x y) (start : x.node.view.phase ≡ phase.TreeStart) where
   other-low : shows_no_notice (level_shown (hearing y).state y.port) ≡ true
@@ -51,7 +66,7 @@ module _ (d : ℕ) (x y : Side) (r : Rivals d x y) (start : x.node.view.phase �
     ]
   ]
 
-  other-draws-not : NoEntry y.node (hearing y) → Drew y.coin (hearing y).state (ticking y).state → ⊥
+  other-draws-not : NoEntry y.node (hearing y) → Drew (coin_of y.beat) (hearing y).state (ticking y).state → ⊥
   other-draws-not hy w = elim other-of [
     | inl e ↦ early-shake y.node.view.phase e (sym hy.phase ∙ w.before)
     | inr a ↦ low-parent (level_shown (hearing y).state y.port) other-low (drew-sees d y x (swapped d x y r) w (up-mid d y x (swapped d x y r) hy (asks-up a)))
@@ -77,7 +92,7 @@ module _ (d : ℕ) (x y : Side) (r : Rivals d x y) (start : x.node.view.phase �
   other-shaking u = elim (late-before d y x sw (parent-late (ticking y).state r.pair.other.ticks.valid y.port u)) [
     | inl l ↦ elim other-of [
       | inl e ↦ absurd (not-both (is_before_tree y.node.view.phase) e l)
-      | inr a ↦ elim (tick-shaken y.coin (hearing y).state (ap is_shaking hy.phase ∙ (and_parts (is_shaking y.node.view.phase) (is_port y.node.view.parent y.port) a).0)) [
+      | inr a ↦ elim (beat-shaken y.beat (hearing y).state (ap is_shaking hy.phase ∙ (and_parts (is_shaking y.node.view.phase) (is_port y.node.view.parent y.port) a).0)) [
         | inl b ↦ b.phase
         | inr b ↦ elim b [
           | inl w ↦ absurd (other-draws-not hy w)
@@ -120,11 +135,11 @@ module _ (d : ℕ) (x y : Side) (r : Rivals d x y) where
   pub stand-kept :
       is_port (ticking x).state.view.parent x.port ≡ true →
       is_port (ticking y).state.view.parent y.port ≡ true →
-      AreRivals d (ticking x).state x.port (wire_after x) (ticking y).state y.port (wire_after y)
+      AreRivals d (ticking x).state (clock_after x.clock) x.port (wire_after x) (ticking y).state (clock_after y.clock) y.port (wire_after y)
   stand-kept vx vy = elim (up-before d x y r vx) [
     | inr s ↦ inl (start-alike d x y r s vx vy)
     | inl ux ↦ elim (up-before d y x sw vy) [
-      | inr s ↦ stand-round d (ticking y).state y.port (wire_after y) (ticking x).state x.port (wire_after x) (inl (start-alike d y x sw s vy vx))
+      | inr s ↦ stand-round d (ticking y).state (clock_after y.clock) y.port (wire_after y) (ticking x).state (clock_after x.clock) x.port (wire_after x) (inl (start-alike d y x sw s vy vx))
       | inl uy ↦ stand-after d x y r ux uy (up-heard d x y r vx) (up-heard d y x sw vy) vx vy
     ]
   ]
@@ -213,7 +228,7 @@ module _ (d : ℕ) (x y : Side) (r : Rivals d x y) where
       is_before_tree (ticking y).state.view.phase ≡ false
   later-after u n some = elim (up-before d x y r u) [
     | inr s ↦ absurd (omega (arith, some, (draws-not d x y r hx (λ w. start-shake x.node.view.phase s (sym hx.phase ∙ w.before))).draws, r.near.fresh (ap is_before_tree s)))
-    | inl ux ↦ elim (tick-draws x.coin (hearing x).state) [
+    | inl ux ↦ elim (beat-draws x.beat (hearing x).state) [
       | inl w ↦ late-after d y x sv hy (sees-late d x y r (nr ux) (ap shows_no_notice (drew-sees d x y r w (up-mid d x y r hx ux))))
       | inr w ↦ late-after d y x sv hy (r.here.later ux (nr ux) (omega (arith, some, (still d x y r hx w).draws)))
     ]
@@ -316,7 +331,7 @@ module _ (d : ℕ) (x y : Side) (r : Rivals d x y) where
               x.node.view.parent ≡ None → (o : Option ℕ) → (ticking x).state.view.parent ≡ o →
               o ≡ None
           root-after e None f = refl
-          root-after e (Some p) f = elim (parent-was x.coin (hearing x).state p (ap (λ o. is_port o p) f ∙ eq-eqb p p refl)) [
+          root-after e (Some p) f = elim (parent-was x.beat (hearing x).state p (ap (λ o. is_port o p) f ∙ eq-eqb p p refl)) [
             | inl u ↦ contrary u (ap (λ o. is_port o p) (hx.parent ∙ e))
             | inr s ↦ absurd (start-late x.node.view.phase (sym hx.phase ∙ s) (child-late x.node r.pair.near.valid x.port was))
           ]
@@ -331,7 +346,7 @@ module _ (d : ℕ) (x y : Side) (r : Rivals d x y) where
           let ny : DrewNone y.node (ticking y).state = draws-not d y x sv hy (long-undrawn d x y r ux uy t long hy) in
           let nx : DrewNone x.node (ticking x).state = contend-none d x y r ux uy hx hy t in
           record {
-            root = root (tick-fought x.coin (hearing x).state r.pair.near.hears.valid (hx.phase ∙ t));
+            root = root (beat-fought x.beat (hearing x).state r.pair.near.hears.valid (hx.phase ∙ t) (omega (arith, hx.timer, hx.wait, r.near.waits t)));
             drew = elim how [ inl a ↦ inl (add nx ny a.drew) | inr a ↦ inr (both nx ny a.drew) ];
           }
         where
@@ -356,17 +371,17 @@ module _ (d : ℕ) (x y : Side) (r : Rivals d x y) where
           how = go (r.here.rivals ux uy)
             where
               go :
-                  AreRivals d x.node x.port x.wire y.node y.port y.wire →
+                  AreRivals d x.node x.clock x.port x.wire y.node y.clock y.port y.wire →
                   IsAhead x.node x.port y.node ⊎ AsksAgain d x.node y.node y.wire
               go (inl a) = absurd (contend-shaking x.node.view.phase t a.here)
-              go (inr (inl m)) = absurd (idle-parent (level_shown (hearing x).state x.port) (long-idle d y x sv uy ux m.there (omega (arith, over.1, m.near, r.pair.some_delay))) shown)
+              go (inr (inl m)) = absurd (idle-parent (level_shown (hearing x).state x.port) (long-idle d y x sv uy ux m.there (omega (arith, over.1, near-most d x.node y.node y.clock m.near, r.pair.some_delay))) shown)
               go (inr (inr (inl a))) = a.how
               go (inr (inr (inr a))) = absurd (contend-shaking x.node.view.phase t a.there)
 
           root :
-              Fought (raise_timer (hearing x).state) (ticking x).state (ticking x).sends →
+              Fights x.beat (hearing x).state (ticking x).state (ticking x).sends →
               (ticking x).state.view.parent ≡ None
-          root (inl w) = absurd (omega (arith, w.not_yet, o))
+          root (inl w) = elim w.timer [ inl a ↦ absurd (not-missed d x y r hx ux c a.0) | inr t ↦ absurd (omega (arith, w.not_yet, o, t)) ]
           root (inr (inl w)) = w.root
           root (inr (inr w)) = absurd (other-level (level_shown (hearing x).state x.port) shown (again-sees d x y r w (up-mid d x y r hx ux)))
 
@@ -387,11 +402,11 @@ module _ (d : ℕ) (x y : Side) (r : Rivals d x y) where
       leads_down x.node.view.ports x.port ≡ true → has_reset (signals_of y.wire) ≡ false →
       IsBelow (ticking x).state x.port (ticking y).state
   below-old hx hy was nr = record {
-    calm = λ t. elim (tick-contending y.coin (hearing y).state t) [
+    calm = λ t. elim (beat-contending y.beat (hearing y).state t) [
       | inl o ↦ b.calm (sym hy.phase ∙ o)
       | inr w ↦ other-level (level_shown (hearing y).state y.port) (drew-sees d y x sv w (up-mid d y x sv hy k.0)) (heard_no_parent d x y r.pair k.1 k.2)
     ];
-    asks = λ s. elim (tick-shaking-from y.coin (hearing y).state s) [
+    asks = λ s. elim (beat-shaking-from y.beat (hearing y).state s) [
       | inl o ↦
           let sh : is_shaking y.node.view.phase ≡ true = sym (ap is_shaking hy.phase) ∙ o in
           let m = b.asks sh in
@@ -417,8 +432,8 @@ module _ (d : ℕ) (x y : Side) (r : Rivals d x y) where
           (hearing x).state.view.phase ≡ phase.ChildShake →
           level_shown (hearing x).state x.port ≡ level.Parent →
           (ticking x).state.view.phase ≡ phase.ChildShake
-      stays c shown = elim (tick-child-shake x.coin (hearing x).state c) [
-        | inr a ↦ a.1
+      stays c shown = elim (beat-child-shake x.beat (hearing x).state c) [
+        | inr a ↦ a
         | inl a ↦ absurd (parent-idle (level_shown (hearing x).state x.port) shown (child-idle (hearing x).state x.port a.0 (hx.child x.port ∙ was) (heard_connected d x r.pair.near)))
       ]
 
@@ -429,7 +444,7 @@ module _ (d : ℕ) (x y : Side) (r : Rivals d x y) where
       level_shown (hearing x).state x.port ≡ level.Parent →
       IsBelow (ticking x).state x.port (ticking y).state
   below-new hx hy c start shown = record {
-    calm = λ t. elim (tick-contending y.coin (hearing y).state t) [
+    calm = λ t. elim (beat-contending y.beat (hearing y).state t) [
       | inl o ↦ elim (other-of d x y r start) [
         | inl e ↦ early-contend y.node.view.phase e (sym hy.phase ∙ o)
         | inr a ↦ contend-shaking y.node.view.phase (sym hy.phase ∙ o) (and_parts (is_shaking y.node.view.phase) (is_port y.node.view.parent y.port) a).0
@@ -451,13 +466,14 @@ module _ (d : ℕ) (x y : Side) (r : Rivals d x y) where
       ≡ false → x.node.view.phase ≡ phase.Contend → is_port x.node.view.parent x.port ≡ true →
       level_shown (hearing x).state x.port ≡ level.Parent →
       (hearing x).state.view.wait ≤ risen (hearing x).state.view.timer →
+      leads_down (ticking x).state.view.ports x.port ≡ true →
       IsBelow (ticking x).state x.port (ticking y).state
-  below-lost hx hy nr t ux shown o = record {
-    calm = λ e. elim (tick-contending y.coin (hearing y).state e) [
+  below-lost hx hy nr t ux shown o c = record {
+    calm = λ e. elim (beat-contending y.beat (hearing y).state e) [
       | inl f ↦ contend-shaking y.node.view.phase (sym hy.phase ∙ f) shakes
       | inr w ↦ long-undrawn d x y r ux uy t long hy w
     ];
-    asks = λ s. (took (tick-fought x.coin (hearing x).state r.pair.near.hears.valid (hx.phase ∙ t)), r.pair.near.ticks.shown x.port ∙ shown);
+    asks = λ s. (took (beat-fought x.beat (hearing x).state r.pair.near.hears.valid (hx.phase ∙ t) (omega (arith, hx.timer, hx.wait, r.near.waits t))), r.pair.near.ticks.shown x.port ∙ shown);
   }
     where
       l : is_before_tree y.node.view.phase ≡ false
@@ -484,17 +500,17 @@ module _ (d : ℕ) (x y : Side) (r : Rivals d x y) where
       shakes = go (r.here.rivals ux uy)
         where
           go :
-              AreRivals d x.node x.port x.wire y.node y.port y.wire →
+              AreRivals d x.node x.clock x.port x.wire y.node y.clock y.port y.wire →
               is_shaking y.node.view.phase ≡ true
           go (inl a) = a.there
-          go (inr (inl m)) = absurd (idle-parent (level_shown (hearing x).state x.port) (long-idle d y x sv uy ux m.there (omega (arith, over.1, m.near, r.pair.some_delay))) shown)
+          go (inr (inl m)) = absurd (idle-parent (level_shown (hearing x).state x.port) (long-idle d y x sv uy ux m.there (omega (arith, over.1, near-most d x.node y.node y.clock m.near, r.pair.some_delay))) shown)
           go (inr (inr (inl a))) = a.there
           go (inr (inr (inr a))) = absurd (contend-shaking x.node.view.phase t a.there)
 
       took :
-          Fought (raise_timer (hearing x).state) (ticking x).state (ticking x).sends →
+          Fights x.beat (hearing x).state (ticking x).state (ticking x).sends →
           (ticking x).state.view.phase ≡ phase.ChildShake
-      took (inl w) = absurd (omega (arith, w.not_yet, o))
+      took (inl w) = elim w.timer [ inl a ↦ absurd (not-missed d x y r hx ux c a.0) | inr t ↦ absurd (omega (arith, w.not_yet, o, t)) ]
       took (inr (inl w)) = w.phase
       took (inr (inr w)) = absurd (other-level (level_shown (hearing x).state x.port) shown (again-sees d x y r w (up-mid d x y r hx ux)))
 
@@ -509,7 +525,7 @@ module _ (d : ℕ) (x y : Side) (r : Rivals d x y) where
       | inl z ↦ below-new hx hy c (sym hx.phase ∙ z.0) z.1
       | inr z ↦
           let ux : is_port x.node.view.parent x.port ≡ true = ap (λ o. is_port o x.port) (sym hx.parent ∙ z.1) ∙ eq-eqb x.port x.port refl in
-          below-lost hx hy (before (up-late d x y r ux)) (sym hx.phase ∙ z.0) ux z.2 z.3
+          below-lost hx hy (before (up-late d x y r ux)) (sym hx.phase ∙ z.0) ux z.2 z.3 c
     ]
   ]
     where
@@ -523,7 +539,7 @@ module _ (d : ℕ) (x y : Side) (r : Rivals d x y) where
       before l = no_reset_before d x y r.pair (late-start x.node.view.phase l) hx n
 
   pub contests-turn :
-      Contests d (ticking x).state x.port (wire_after x) (ticking y).state y.port (wire_after y)
+      Contests d (ticking x).state (clock_after x.clock) x.port (wire_after x) (ticking y).state (clock_after y.clock) y.port (wire_after y)
   contests-turn = record {
     told = told-after d x y r;
     later = later-after;

@@ -63,16 +63,16 @@ record IsPaired (w : CableWorld) (k : ℕ) : Type 0 where
 module _
     (w : CableWorld) (l : IsLawful w) (c : IsContested w) (a b : End) (m : AreMutual w a b) where
   stand :
-      AreRivals w.delay m.ends.near.state a.port (wire_of w a).signals m.ends.other.state b.port (wire_of w b).signals
+      AreRivals w.delay m.ends.near.state m.ends.near.clock a.port (wire_of w a).signals m.ends.other.state m.ends.other.clock b.port (wire_of w b).signals
   stand = (c.cables a b m.ends.near m.ends.other m.ends.joined m.ends.near_at m.ends.other_at).rivals m.here m.there
 
   pub mutual-agree : DrawsAgree m.ends.near.state m.ends.other.state
-  mutual-agree = stand-agree w.delay m.ends.near.state a.port (wire_of w a).signals m.ends.other.state b.port (wire_of w b).signals stand
+  mutual-agree = stand-agree w.delay m.ends.near.state m.ends.near.clock a.port (wire_of w a).signals m.ends.other.state m.ends.other.clock b.port (wire_of w b).signals stand
 
   pub mutual-close :
       (m.ends.near.state.view.draws ≤ m.ends.other.state.view.draws + 1)
       × (m.ends.other.state.view.draws ≤ m.ends.near.state.view.draws + 1)
-  mutual-close = stand-close w.delay m.ends.near.state a.port (wire_of w a).signals m.ends.other.state b.port (wire_of w b).signals (c.nodes a.node m.ends.near m.ends.near_at) (c.nodes b.node m.ends.other m.ends.other_at) stand
+  mutual-close = stand-close w.delay m.ends.near.state m.ends.near.clock a.port (wire_of w a).signals m.ends.other.state m.ends.other.clock b.port (wire_of w b).signals (c.nodes a.node m.ends.near m.ends.near_at) (c.nodes b.node m.ends.other m.ends.other_at) stand
 
 -- ---- late
 

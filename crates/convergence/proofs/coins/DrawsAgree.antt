@@ -4,6 +4,7 @@ use Rattle.std.specs.Prelude.{min, nat_lt}
 use Rattle.std.specs.Int.{bit_at, w64}
 use Rattle.std.proofs.lemmas.Nat.{one_shl}
 use Rattle.std.proofs.lemmas.Nat.Bits.{bit_at_set_other}
+use Rattle.port_state.specs.Clock.{Clock}
 use Rattle.convergence.proofs.Common.{NodeState, draws_with, Travelling, last_coin, AddsDraw, DrewTogether, KnowsCoins, DrawsAgree, AreApart, AreRivals}
 use Rattle.convergence.specs.Rivals.{HasWon}
 
@@ -45,12 +46,12 @@ apart-agree :
 apart-agree d x p y back a = elim a.how [ inl h ↦ ahead-agree x y h.drew | inr h ↦ together-agree x y h.drew ]
 
 pub stand-agree :
-    (d : ℕ) (x : NodeState) (p : ℕ) (there : List Travelling) (y : NodeState) (q : ℕ)
-    (back : List Travelling) → AreRivals d x p there y q back → DrawsAgree x y
-stand-agree d x p there y q back (inl a) = λ j small m n. ap (λ f. bit_at f j) a.drew.first_draws
-stand-agree d x p there y q back (inr (inl m)) = together-agree x y m.drew
-stand-agree d x p there y q back (inr (inr (inl a))) = apart-agree d x p y back a
-stand-agree d x p there y q back (inr (inr (inr a))) = agree-round y x (apart-agree d y q x there a)
+    (d : ℕ) (x : NodeState) (c : Clock) (p : ℕ) (there : List Travelling) (y : NodeState) (e : Clock)
+    (q : ℕ) (back : List Travelling) → AreRivals d x c p there y e q back → DrawsAgree x y
+stand-agree d x c p there y e q back (inl a) = λ j small m n. ap (λ f. bit_at f j) a.drew.first_draws
+stand-agree d x c p there y e q back (inr (inl m)) = together-agree x y m.drew
+stand-agree d x c p there y e q back (inr (inr (inl a))) = apart-agree d x p y back a
+stand-agree d x c p there y e q back (inr (inr (inr a))) = agree-round y x (apart-agree d y q x there a)
 
 -- the counts differ by one at most
 apart-close :
@@ -65,10 +66,10 @@ apart-close d x p y back k a = elim a.how [
     ahead m n e h = (grind (arith, e, h), grind (arith, e, h))
 
 pub stand-close :
-    (d : ℕ) (x : NodeState) (p : ℕ) (there : List Travelling) (y : NodeState) (q : ℕ)
-    (back : List Travelling) → KnowsCoins x → KnowsCoins y → AreRivals d x p there y q back →
+    (d : ℕ) (x : NodeState) (c : Clock) (p : ℕ) (there : List Travelling) (y : NodeState) (e : Clock)
+    (q : ℕ) (back : List Travelling) → KnowsCoins x → KnowsCoins y → AreRivals d x c p there y e q back →
     (x.view.draws ≤ y.view.draws + 1) × (y.view.draws ≤ x.view.draws + 1)
-stand-close d x p there y q back k l (inl a) = (omega (arith, a.drew.draws), omega (arith, a.drew.draws))
-stand-close d x p there y q back k l (inr (inl m)) = (omega (arith, m.drew.here.count, m.drew.there.count), omega (arith, m.drew.here.count, m.drew.there.count))
-stand-close d x p there y q back k l (inr (inr (inl a))) = apart-close d x p y back l a
-stand-close d x p there y q back k l (inr (inr (inr a))) = let c = apart-close d y q x there k a in (c.1, c.0)
+stand-close d x c p there y e q back k l (inl a) = (omega (arith, a.drew.draws), omega (arith, a.drew.draws))
+stand-close d x c p there y e q back k l (inr (inl m)) = (omega (arith, m.drew.here.count, m.drew.there.count), omega (arith, m.drew.here.count, m.drew.there.count))
+stand-close d x c p there y e q back k l (inr (inr (inl a))) = apart-close d x p y back l a
+stand-close d x c p there y e q back k l (inr (inr (inr a))) = let z = apart-close d y q x there k a in (z.1, z.0)

@@ -1,5 +1,5 @@
 -- Two nodes that have each other for parent, in a turn.
-use Rattle.std.proofs.Common.{◌≡◌, ◌⊎◌, inl, inr, ℕ, ◌+◌, ◌-◌, ◌*◌, ◌≤◌, Bool, true, false, not, List, [], ◌∷◌, ◌++◌, Some, refl, sym, ◌∙◌, ap, subst, arith, if◌then◌else◌}
+use Rattle.std.proofs.Common.{◌≡◌, ◌⊎◌, inl, inr, ℕ, ◌+◌, ◌-◌, ◌*◌, ◌≤◌, Bool, true, false, not, List, [], ◌∷◌, ◌++◌, None, Some, refl, sym, ◌∙◌, ap, subst, arith, if◌then◌else◌}
 use Rattle.std.specs.Prelude.{min, nat_le}
 use Rattle.std.proofs.lemmas.Bool.{eq-eqb, false_from_ne_true}
 use Rattle.convergence.proofs.Common.{Level, Phase, NodeState, draws_with, is_parent, is_child, is_port, is_resetting, hears_packets, raise_timer, Travelling, level_sent, level_shown, leads_down, level_after, level_sent_at, AgesFall, signals_of, has_reset, is_before_tree, is_shaking, child-if, NoEntry, Side, hearing, ticking, late-roles, start-before_tree, heard_shown, came, last_coin, AddsDraw, DrewTogether, KnowsCoins, Contests, AreRivals, contrary}
@@ -10,23 +10,36 @@ use Rattle.cable_world.specs.Signals.{AllAsOldAs}
 use Rattle.cable_world.proofs.Lemmas.{AllAsOldAs-less, nothing-left, arrivals, heard_timing, heard_parent, Pair, turned-round}
 use Rattle.convergence.specs.Coins.{DrewTheSame}
 use Rattle.convergence.proofs.coins.CoinsInTurns.{drawn-coin, knows-after}
-use Rattle.convergence.proofs.turns.Moves.{Drew, DrewNone, Accepted, TookRival, AskedAgain, tick-draws, tick-late, tick-late-was}
+use Rattle.convergence.proofs.turns.Moves.{Drew, DrewNone, Accepted, TookRival, AskedAgain, coin_of, beat-draws, beat-late, beat-late-was}
+use Rattle.port_state.specs.Clock.{Clock, misses}
+use Rattle.cable_world.specs.Times.{KeepsTime}
 use Rattle.convergence.proofs.turns.Roles.{parent-late, parent-was}
 use Rattle.convergence.proofs.turns.PortFacts.{same-port}
+
+-- what is known of a node's clock
+pub record Beats (s : Side) : Type 0 where
+  pub missed : s.beat ≡ None → misses s.clock ≡ true
+  -- nobody takes longer, in turns
+  pub longest : Timing
+  pub keeps : KeepsTime longest s.node.timing s.clock
 
 -- what is so of both ends before the turn
 pub record Rivals (d : ℕ) (x y : Side) : Type 0 where
   pub pair : Pair d x y
   pub near : KnowsCoins x.node
   pub other : KnowsCoins y.node
-  pub here : Contests d x.node x.port x.wire y.node y.port y.wire
-  pub there : Contests d y.node y.port y.wire x.node x.port x.wire
+  pub here : Contests d x.node x.clock x.port x.wire y.node y.clock y.port y.wire
+  pub there : Contests d y.node y.clock y.port y.wire x.node x.clock x.port x.wire
+  pub beats : Beats x
+  pub beats_back : Beats y
   -- a long wait of the one is longer than a short one of the other
-  pub waits : y.node.timing.short + 2 * d ≤ x.node.timing.long
-  pub waits_back : x.node.timing.short + 2 * d ≤ y.node.timing.long
+  pub waits : beats_back.longest.short + 2 * d ≤ x.node.timing.long
+  pub waits_back : beats.longest.short + 2 * d ≤ y.node.timing.long
+  pub short : x.node.timing.short ≤ beats.longest.short
+  pub short_back : y.node.timing.short ≤ beats_back.longest.short
 
 pub swapped : (d : ℕ) (x y : Side) → Rivals d x y → Rivals d y x
-swapped d x y r = record { pair = turned-round d x y r.pair; near = r.other; other = r.near; here = r.there; there = r.here; waits = r.waits_back; waits_back = r.waits }
+swapped d x y r = record { pair = turned-round d x y r.pair; near = r.other; other = r.near; here = r.there; there = r.here; waits = r.waits_back; waits_back = r.waits; short = r.short_back; short_back = r.short; beats = r.beats_back; beats_back = r.beats }
 
 -- ---- the two turned round
 
@@ -37,12 +50,13 @@ pub same-round : (x y : NodeState) → DrewTheSame x y → DrewTheSame y x
 same-round x y t = record { draws = sym t.draws; first_draws = sym t.first_draws }
 
 pub stand-round :
-    (d : ℕ) (x : NodeState) (p : ℕ) (there : List Travelling) (y : NodeState) (q : ℕ)
-    (back : List Travelling) → AreRivals d x p there y q back → AreRivals d y q back x p there
-stand-round d x p there y q back (inl a) = inl (record { here = a.there; there = a.here; drew = same-round x y a.drew })
-stand-round d x p there y q back (inr (inl m)) = inr (inl (record { here = m.there; there = m.here; drew = together-round x y m.drew; near = m.far; far = m.near }))
-stand-round d x p there y q back (inr (inr (inl a))) = inr (inr (inr a))
-stand-round d x p there y q back (inr (inr (inr a))) = inr (inr (inl a))
+    (d : ℕ) (x : NodeState) (c : Clock) (p : ℕ) (there : List Travelling) (y : NodeState) (e : Clock)
+    (q : ℕ) (back : List Travelling) → AreRivals d x c p there y e q back →
+    AreRivals d y e q back x c p there
+stand-round d x c p there y e q back (inl a) = inl (record { here = a.there; there = a.here; drew = same-round x y a.drew })
+stand-round d x c p there y e q back (inr (inl m)) = inr (inl (record { here = m.there; there = m.here; drew = together-round x y m.drew; near = m.far; far = m.near }))
+stand-round d x c p there y e q back (inr (inr (inl a))) = inr (inr (inr a))
+stand-round d x c p there y e q back (inr (inr (inr a))) = inr (inr (inl a))
 
 -- ---- phases
 
@@ -87,7 +101,7 @@ module _ (d : ℕ) (x y : Side) (r : Rivals d x y) where
   now = (ticking x).state
 
   pub after-knows : KnowsCoins now
-  after-knows = knows-after d x.inbox x.coin x.node j.some_delay j.near.timing j.near.hears j.near.ticks r.near
+  after-knows = knows-after d x.inbox x.beat x.node j.some_delay j.near.timing j.near.hears j.near.ticks r.near
 
   -- a node that is late afterwards began no reset, and was late before or took its roles
   pub late-heard : is_before_tree now.view.phase ≡ false → NoEntry was (hearing x)
@@ -101,7 +115,7 @@ module _ (d : ℕ) (x y : Side) (r : Rivals d x y) where
       ⊎ ((was.view.phase ≡ phase.TreeStart) × (now.view.phase ≡ phase.ChildShake))
   late-before l =
       let h = late-heard l in
-      elim (tick-late-was x.coin mid l) [
+      elim (beat-late-was x.beat mid l) [
         | inl a ↦ inl (sym (ap is_before_tree h.phase) ∙ a)
         | inr a ↦ inr (sym h.phase ∙ a.0, a.1)
       ]
@@ -109,7 +123,7 @@ module _ (d : ℕ) (x y : Side) (r : Rivals d x y) where
   pub late-after :
       NoEntry was (hearing x) → is_before_tree was.view.phase ≡ false →
       is_before_tree now.view.phase ≡ false
-  late-after h l = tick-late x.coin mid (ap is_before_tree h.phase ∙ l)
+  late-after h l = beat-late x.beat mid (ap is_before_tree h.phase ∙ l)
 
   -- no Reset comes from a late node
   pub calm : is_before_tree was.view.phase ≡ false → has_reset (signals_of x.wire) ≡ false
@@ -130,7 +144,7 @@ module _ (d : ℕ) (x y : Side) (r : Rivals d x y) where
       ⊎ (was.view.phase ≡ phase.TreeStart)
   up-before u =
       let h = up-heard u in
-      elim (parent-was x.coin mid x.port u) [
+      elim (parent-was x.beat mid x.port u) [
         | inl a ↦ inl (sym (ap (λ o. is_port o x.port) h.parent) ∙ a)
         | inr a ↦ inr (sym h.phase ∙ a)
       ]
@@ -156,7 +170,7 @@ module _ (d : ℕ) (x y : Side) (r : Rivals d x y) where
   here-is p e u = same-port mid.view.parent p x.port (ap (λ o. is_port o p) e ∙ eq-eqb p p refl) u
 
   pub drew-sees :
-      Drew x.coin mid now → is_port mid.view.parent x.port ≡ true →
+      Drew (coin_of x.beat) mid now → is_port mid.view.parent x.port ≡ true →
       level_shown mid x.port ≡ level.Parent
   drew-sees w u = subst (λ p. level_shown mid p ≡ level.Parent) (here-is w.port w.parent u) w.shown
 
@@ -181,17 +195,17 @@ module _ (d : ℕ) (x y : Side) (r : Rivals d x y) where
   still h n = record { draws = n.draws ∙ h.draws; first_draws = n.first_draws ∙ h.first_draws; wait = n.wait ∙ h.wait }
 
   -- a node draws in T2 alone, where the parent port shows Parent
-  pub draws-not : NoEntry was (hearing x) → (Drew x.coin mid now → ⊥) → DrewNone was now
-  draws-not h no_draw = elim (tick-draws x.coin mid) [ inl a ↦ absurd (no_draw a) | inr a ↦ still h a ]
+  pub draws-not : NoEntry was (hearing x) → (Drew (coin_of x.beat) mid now → ⊥) → DrewNone was now
+  draws-not h no_draw = elim (beat-draws x.beat mid) [ inl a ↦ absurd (no_draw a) | inr a ↦ still h a ]
 
   pub adds-draw :
-      NoEntry was (hearing x) → Drew x.coin mid now →
+      NoEntry was (hearing x) → Drew (coin_of x.beat) mid now →
       AddsDraw was.view.draws was.view.first_draws now
   adds-draw h w =
-      let c : last_coin now ≡ x.coin = ap (λ (t : Timing). nat_le t.long now.view.wait) j.near.ticks.timing ∙ ap (nat_le mid.timing.long) w.wait ∙ drawn-coin d mid.timing x.coin j.some_delay (heard_timing d x j.near) in
+      let c : last_coin now ≡ coin_of x.beat = ap (λ (t : Timing). nat_le t.long now.view.wait) j.near.ticks.timing ∙ ap (nat_le mid.timing.long) w.wait ∙ drawn-coin d mid.timing (coin_of x.beat) j.some_delay (heard_timing d x j.near) in
       record {
         count = w.draws ∙ ap (λ n. min (n + 1) 65535) h.draws;
-        coins = w.first_draws ∙ ap (λ n. draws_with x.coin n mid.view.first_draws) h.draws ∙ ap (draws_with x.coin was.view.draws) h.first_draws ∙ ap (λ b. draws_with b was.view.draws was.view.first_draws) (sym c);
+        coins = w.first_draws ∙ ap (λ n. draws_with (coin_of x.beat) n mid.view.first_draws) h.draws ∙ ap (draws_with (coin_of x.beat) was.view.draws) h.first_draws ∙ ap (λ b. draws_with b was.view.draws was.view.first_draws) (sym c);
       }
 
   timing-still : now.timing ≡ was.timing

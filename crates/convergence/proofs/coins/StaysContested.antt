@@ -1,14 +1,16 @@
 -- What nodes know of coins holds in every world that comes of a power-on world.
-use Rattle.std.proofs.Common.{◌≡◌, ◌⊎◌, inl, inr, ℕ, ◌≤◌, true, List, [], ◌∷◌, ◌++◌, Some, None, slice_get, refl, sym, ◌∙◌, ap, subst, arith}
+use Rattle.std.proofs.Common.{◌≡◌, ◌⊎◌, inl, inr, ℕ, ◌≤◌, Bool, true, false, if◌then◌else◌, List, [], ◌∷◌, ◌++◌, Some, None, slice_get, refl, sym, ◌∙◌, ap, subst, arith}
 use Rattle.std.specs.Prelude.{nat_le}
 use Rattle.port_state.specs.declared.timing.Timing.{Timing}
 use Rattle.cable_world.specs.Times.{Suits}
 use Rattle.cable_world.proofs.Lemmas.{suits-cables}
-use Rattle.convergence.proofs.Common.{End, Wiring, far, ports_of, Phase, NodeState, coin, is_child, is_port, port_is, draws_with, IsValid, PortNode, Travelling, new_signal, CableWorld, wire_of, hold, ComesOfPowerOn, inbox, turn_at, turn, IsLawful, is_before_tree, is_shaking, signals_of, has_reset, shown_or_idle, level_shown, leads_down, cabling-after, delay-after, before, hears, ticks, side, side-node, side-wire, ticking, not-both, turn-state, comes, holds-kept, PlacedHold, HoldSchedule, with_holds, quiet_after, AddsDraw, DrewTogether, KnowsCoins, AreApart, AreRivals, Contests, IsContested, contrary}
+use Rattle.convergence.proofs.Common.{End, Wiring, far, ports_of, Phase, NodeState, beat, is_child, is_port, port_is, draws_with, IsValid, PortNode, Travelling, new_signal, CableWorld, wire_of, hold, ComesOfPowerOn, inbox, turn_at, turn, IsLawful, is_before_tree, is_shaking, signals_of, has_reset, shown_or_idle, level_shown, leads_down, cabling-after, delay-after, before, hears, ticks, side, side-node, side-wire, ticking, not-both, turn-state, comes, holds-kept, PlacedHold, HoldSchedule, with_holds, quiet_after, AddsDraw, DrewTogether, KnowsCoins, AreApart, AreRivals, Contests, IsContested, contrary}
 use Rattle.port_state.specs.declared.signal.Phase.TheVariants as phase
 use Rattle.port_state.specs.declared.signal.Signal.TheVariants as signal
 use Rattle.port_state.specs.Config.{ConfigPacket}
 use Rattle.port_state.specs.Machine.{node_set_config}
+use Rattle.port_state.specs.Coins.{coin}
+use Rattle.port_state.specs.Clock.{Clock, misses}
 use Rattle.cable_world.specs.declared.act.Act.{Act}
 use Rattle.cable_world.specs.World.{IsPowerOnWorld}
 use Rattle.cable_world.specs.Act.{change_in_set, note_changes, Acted, hold_fault}
@@ -24,6 +26,15 @@ use Rattle.convergence.proofs.coins.Rivals.{Rivals}
 use Rattle.convergence.proofs.turns.Roles.{early-parentless}
 use Rattle.convergence.proofs.turns.PortFacts.{same-port}
 
+-- ---- clocks
+
+beat-missed : (x : PortNode) → beat x ≡ None → misses x.clock ≡ true
+beat-missed x e = go (misses x.clock) refl e
+  where
+    go : (b : Bool) → misses x.clock ≡ b → (if b then None else Some (coin x.coins)) ≡ None → b ≡ true
+    go true f g = refl
+    go false f g = absurd cc
+
 -- ---- turns
 
 pub rivals-of :
@@ -37,7 +48,6 @@ rivals-of w l c a b x y e at_x at_y =
     record {
       pair = record {
         some_delay = l.well_formed.some_delay;
-        short_delay = l.well_formed.short_delay;
         near = ready w a b x l.well_formed l.coupled e at_x;
         other = ready w b a y l.well_formed l.coupled back at_y;
         comes = comes w b a e;
@@ -51,15 +61,19 @@ rivals-of w l c a b x y e at_x at_y =
       other = c.nodes b.node y at_y;
       here = c.cables a b x y e at_x at_y;
       there = c.cables b a y x back at_y at_x;
-      waits = omega (arith, tx.long_least, ty.short_most);
-      waits_back = omega (arith, ty.long_least, tx.short_most);
+      waits = tx.long_least;
+      waits_back = ty.long_least;
+      short = tx.short_most;
+      short_back = ty.short_most;
+      beats = record { missed = beat-missed x; longest = w.longest; keeps = l.paced a.node x at_x };
+      beats_back = record { missed = beat-missed y; longest = w.longest; keeps = l.paced b.node y at_y };
     }
 
 turn-cable :
     (w : CableWorld) → IsLawful w → IsContested w → (a b : End) (x y : PortNode) →
     far w.cabling a ≡ Some b → slice_get w.nodes a.node ≡ Some x →
     slice_get w.nodes b.node ≡ Some y →
-    Contests w.delay (turn_at w a.node x).node.state a.port (wire_of (turn w) a).signals (turn_at w b.node y).node.state b.port (wire_of (turn w) b).signals
+    Contests w.delay (turn_at w a.node x).node.state (turn_at w a.node x).node.clock a.port (wire_of (turn w) a).signals (turn_at w b.node y).node.state (turn_at w b.node y).node.clock b.port (wire_of (turn w) b).signals
 turn-cable w l c a b x y e at_x at_y =
     let back : far w.cabling b ≡ Some a = l.well_formed.cabling.both_ways a b e in
     rw (side-node w a x, side-node w b y, side-wire w a b x l.well_formed e at_x, side-wire w b a y l.well_formed back at_y)
@@ -99,7 +113,7 @@ turn-contested w l c = record {
       let f : IsWellFormed w = l.well_formed in
       let x = before w k y f e in
       rw (x.2, turn-state (inbox w 0 (ports_of w.cabling k)) x.0)
-      (knows-after w.delay (inbox w 0 (ports_of w.cabling k)) (coin x.0.coins) x.0.state f.some_delay (suits-cables w.delay w.longest x.0.state.timing (f.nodes k x.0 x.1).timing) (hears w k x.0 f x.1) (ticks w k x.0 f x.1) (c.nodes k x.0 x.1));
+      (knows-after w.delay (inbox w 0 (ports_of w.cabling k)) (beat x.0) x.0.state f.some_delay (suits-cables w.delay w.longest x.0.state.timing (f.nodes k x.0 x.1).timing) (hears w k x.0 f x.1) (ticks w k x.0 f x.1) (c.nodes k x.0 x.1));
   cables = λ a b y z e at_y at_z.
       let was : far w.cabling a ≡ Some b = sym (ap (λ (d : Wiring). far d a) (cabling-after w)) ∙ e in
       let x = before w a.node y l.well_formed at_y in
@@ -129,23 +143,23 @@ begun-apart x b v k u = contrary u (ap (λ o. is_port o k) (early-parentless x v
 
 -- at this end of the cable
 begun-here :
-    (d : ℕ) (x : NodeState) (p : ℕ) (there : List Travelling) (y : NodeState) (q : ℕ)
-    (back : List Travelling) → HasBegun x → IsValid x → Contests d x p there y q back
-begun-here d x p there y q back b v = record {
+    (d : ℕ) (x : NodeState) (c : Clock) (p : ℕ) (there : List Travelling) (y : NodeState) (e : Clock)
+    (q : ℕ) (back : List Travelling) → HasBegun x → IsValid x → Contests d x c p there y e q back
+begun-here d x c p there y e q back b v = record {
   told = λ l s. contrary (ap is_before_tree b.phase) l;
   later = λ u n s. absurd (begun-apart x b v p u);
   rivals = λ u o. absurd (begun-apart x b v p u);
-  won = λ c s. absurd (not-both (leads_down x.view.ports p) c (not-leading x p b v));
-  below = λ c n. absurd (not-both (leads_down x.view.ports p) c (not-leading x p b v));
+  won = λ g s. absurd (not-both (leads_down x.view.ports p) g (not-leading x p b v));
+  below = λ g n. absurd (not-both (leads_down x.view.ports p) g (not-leading x p b v));
 }
 
 -- at the other end
 begun-there :
-    (d : ℕ) (x : NodeState) (p : ℕ) (there : List Travelling) (old y : NodeState) (q : ℕ)
-    (back : List Travelling) → HasBegun y → IsValid y → level_shown y q ≡ level_shown old q →
-    Contests d x p there old q back →
-    Contests d x p there y q (back ++ new_signal signal.Reset ∷ [])
-begun-there d x p there old y q back b v shown c = record {
+    (d : ℕ) (x : NodeState) (i : Clock) (p : ℕ) (there : List Travelling) (old : NodeState) (j : Clock)
+    (y : NodeState) (e : Clock) (q : ℕ) (back : List Travelling) → HasBegun y → IsValid y →
+    level_shown y q ≡ level_shown old q → Contests d x i p there old j q back →
+    Contests d x i p there y e q (back ++ new_signal signal.Reset ∷ [])
+begun-there d x i p there old j y e q back b v shown c = record {
   told = λ l s. c.told l (sym (ap is_child shown) ∙ s);
   later = λ u n s. absurd (not-both (has_reset (signals_of (back ++ new_signal signal.Reset ∷ []))) (ends-in-reset back) n);
   rivals = λ u o. absurd (begun-apart y b v q o);
@@ -158,29 +172,29 @@ module _ (w v : CableWorld) (h : between.Happens w v) (c : IsContested w) where
   node-stayed :
       (a b : End) (x y : PortNode) → far v.cabling a ≡ Some b → slice_get v.nodes b.node ≡ Some y →
       Stayed w v a b x → Entered w v b a y ⊎ Stayed w v b a y →
-      Contests w.delay x.state a.port (wire_of w a).signals y.state b.port (wire_of v b).signals
+      Contests w.delay x.state x.clock a.port (wire_of w a).signals y.state y.clock b.port (wire_of v b).signals
   node-stayed a b x y e at s (inr u) =
-      subst (λ (ts : List Travelling). Contests w.delay x.state a.port (wire_of w a).signals y.state b.port ts) (sym u.signals)
+      subst (λ (ts : List Travelling). Contests w.delay x.state x.clock a.port (wire_of w a).signals y.state y.clock b.port ts) (sym u.signals)
       (c.cables a b x y s.cable s.node u.node)
   node-stayed a b x y e at s (inl u) =
       let back : far w.cabling b ≡ Some a = h.before.cabling.both_ways a b s.cable in
       let old : CableEnd w b = cable-end w b a h.before back in
       let same : shown_if_there y.state b.port ≡ shown_if_there old.node.state b.port =
       sym (shown-is v b y at) ∙ h.shows b a back (h.after.cabling.both_ways a b e) ∙ shown-is w b old.node old.node_at in
-      subst (λ (ts : List Travelling). Contests w.delay x.state a.port (wire_of w a).signals y.state b.port ts) (sym (u.signals back))
-      (begun-there w.delay x.state a.port (wire_of w a).signals old.node.state y.state b.port (wire_of w b).signals u.begun (h.after.nodes b.node y at).valid
+      subst (λ (ts : List Travelling). Contests w.delay x.state x.clock a.port (wire_of w a).signals y.state y.clock b.port ts) (sym (u.signals back))
+      (begun-there w.delay x.state x.clock a.port (wire_of w a).signals old.node.state old.node.clock y.state y.clock b.port (wire_of w b).signals u.begun (h.after.nodes b.node y at).valid
       (shown-same y.state old.node.state b.port same)
       (c.cables a b x old.node s.cable s.node old.node_at))
 
   happened-cable :
       (a b : End) (x y : PortNode) → far v.cabling a ≡ Some b → slice_get v.nodes a.node ≡ Some x →
       slice_get v.nodes b.node ≡ Some y →
-      Contests v.delay x.state a.port (wire_of v a).signals y.state b.port (wire_of v b).signals
+      Contests v.delay x.state x.clock a.port (wire_of v a).signals y.state y.clock b.port (wire_of v b).signals
   happened-cable a b x y e at there = elim (h.ends a b x e at) [
-    | inl s ↦ begun-here v.delay x.state a.port (wire_of v a).signals y.state b.port (wire_of v b).signals s.begun (h.after.nodes a.node x at).valid
+    | inl s ↦ begun-here v.delay x.state x.clock a.port (wire_of v a).signals y.state y.clock b.port (wire_of v b).signals s.begun (h.after.nodes a.node x at).valid
     | inr s ↦
-        subst (λ (d : ℕ). Contests d x.state a.port (wire_of v a).signals y.state b.port (wire_of v b).signals) (sym h.delay)
-        (subst (λ (ts : List Travelling). Contests w.delay x.state a.port ts y.state b.port (wire_of v b).signals) (sym s.signals)
+        subst (λ (d : ℕ). Contests d x.state x.clock a.port (wire_of v a).signals y.state y.clock b.port (wire_of v b).signals) (sym h.delay)
+        (subst (λ (ts : List Travelling). Contests w.delay x.state x.clock a.port ts y.state y.clock b.port (wire_of v b).signals) (sym s.signals)
         (node-stayed a b x y e there s (h.ends b a y (h.after.cabling.both_ways a b e) there)))
   ]
 
@@ -256,10 +270,10 @@ apart-as d x z p y u back e f a = record {
 }
 
 contests-as :
-    (d : ℕ) (x z : NodeState) (p : ℕ) (there : List Travelling) (y u : NodeState) (q : ℕ)
-    (back : List Travelling) → IsAs x z → IsAs y u → Contests d x p there y q back →
-    Contests d z p there u q back
-contests-as d x z p there y u q back e f h = record {
+    (d : ℕ) (x z : NodeState) (i : Clock) (p : ℕ) (there : List Travelling) (y u : NodeState) (j : Clock)
+    (q : ℕ) (back : List Travelling) → IsAs x z → IsAs y u → Contests d x i p there y j q back →
+    Contests d z i p there u j q back
+contests-as d x z i p there y u j q back e f h = record {
   told = λ l s. ap (λ ps. port_is (λ r. r.child) ps p) e.ports ∙ h.told (sym (ap is_before_tree e.phase) ∙ l) (sym (ap is_child (shown-as y u q f)) ∙ s);
   later = λ v n s. ap is_before_tree f.phase ∙ h.later (sym (ap (λ o. is_port o p) e.parent) ∙ v) n (omega (arith, s, e.draws));
   rivals = λ v o. go (h.rivals (sym (ap (λ i. is_port i p) e.parent) ∙ v) (sym (ap (λ i. is_port i q) f.parent) ∙ o));
@@ -277,7 +291,7 @@ contests-as d x z p there y u q back e f h = record {
       };
 }
   where
-    go : AreRivals d x p there y q back → AreRivals d z p there u q back
+    go : AreRivals d x i p there y j q back → AreRivals d z i p there u j q back
     go (inl a) = inl (record {
       here = ap is_shaking e.phase ∙ a.here;
       there = ap is_shaking f.phase ∙ a.there;
@@ -287,8 +301,8 @@ contests-as d x z p there y u q back e f h = record {
       here = e.phase ∙ m.here;
       there = f.phase ∙ m.there;
       drew = together-as x z y u e f m.drew;
-      near = omega (arith, e.timer, f.timer, m.near);
-      far = omega (arith, e.timer, f.timer, m.far);
+      near = rw (e.timer, f.timer, f.wait, e.timing, f.timing) m.near;
+      far = rw (e.timer, f.timer, e.wait, e.timing, f.timing) m.far;
     }))
     go (inr (inr (inl a))) = inr (inr (inl (apart-as d x z p y u back e f a)))
     go (inr (inr (inr a))) = inr (inr (inr (apart-as d y u q x z there f e a)))
@@ -301,11 +315,11 @@ told-contested set packet w c =
     record {
       nodes = λ k. each-kept set change w.nodes k (λ x. KnowsCoins x.state) (λ x h. record { fresh = h.fresh; undrawn = h.undrawn; counts = h.counts; drawn = h.drawn; waits = h.waits; shows = h.shows }) (c.nodes k);
       cables = λ a b x y e at there.
-          let Two : PortNode → PortNode → Type 0 = λ x y. Contests w.delay x.state a.port (wire_of w a).signals y.state b.port (wire_of w b).signals in
+          let Two : PortNode → PortNode → Type 0 = λ x y. Contests w.delay x.state x.clock a.port (wire_of w a).signals y.state y.clock b.port (wire_of w b).signals in
           each-kept set change w.nodes a.node (λ x. Two x y)
-          (λ x h. contests-as w.delay x.state (change x).state a.port (wire_of w a).signals y.state y.state b.port (wire_of w b).signals (told-as packet x) (is-as y.state) h)
+          (λ x h. contests-as w.delay x.state (change x).state x.clock a.port (wire_of w a).signals y.state y.state y.clock b.port (wire_of w b).signals (told-as packet x) (is-as y.state) h)
           (λ x at. each-kept set change w.nodes b.node (λ y. Two x y)
-          (λ y h. contests-as w.delay x.state x.state a.port (wire_of w a).signals y.state (change y).state b.port (wire_of w b).signals (is-as x.state) (told-as packet y) h)
+          (λ y h. contests-as w.delay x.state x.state x.clock a.port (wire_of w a).signals y.state (change y).state y.clock b.port (wire_of w b).signals (is-as x.state) (told-as packet y) h)
           (λ y there. c.cables a b x y e at there) y there) x at;
       one_rival = λ a b e f x y z same ab ef at_x at_y at_z.
           let Three : PortNode → PortNode → PortNode → Type 0 = λ x y z. leads_down x.state.view.ports a.port ≡ true → leads_down x.state.view.ports e.port ≡ true → 1 ≤ y.state.view.draws → 1 ≤ z.state.view.draws → a.port ≡ e.port in

@@ -2,32 +2,33 @@
 use Rattle.std.proofs.Common.{◌≡◌, ◌≢◌, ◌⊎◌, inl, inr, ℕ, zero, suc, ◌+◌, ◌*◌, ◌<◌, ◌≤◌, true, false, not, List, Option, Some, None, length, slice_get, refl, sym, ◌∙◌, ap, subst, arith, add-one}
 use Rattle.convergence.proofs.turns.PhaseFacts.{late-start}
 use Rattle.std.proofs.lemmas.Bool.{eq-eqb}
-use Rattle.convergence.proofs.Common.{End, Wiring, far, IsComponent, Holds, Phase, NodeState, is_port, is_resetting, raise_timer, PortNode, Travelling, CableWorld, wire_of, turn_at, turn, ComesOfPowerOn, is_before_tree, is_shaking, leads_down, IsLawful, node-after, cabling-after, delay-after, came, side, side-node, side-wire, steady, after-delay, child-if, some-same, Side, hearing, ticking, wire_after, late-roles, comes-lawful, not-both, NoEntry, risen, holds-signals, one-quiet, quiet-lawful, turn-lawful, PlacedHold, HoldSchedule, with_holds, quiet_after, last_coin, KnowsCoins, AsksAgain, IsContested, HaveMet, AreRivals, AreJoined, AreMutual, AreUnequal, contrary}
+use Rattle.convergence.proofs.Common.{End, Wiring, far, IsComponent, Holds, Phase, NodeState, is_port, is_resetting, raise_timer, PortNode, Travelling, CableWorld, wire_of, turn_at, turn, ComesOfPowerOn, is_before_tree, is_shaking, leads_down, IsLawful, node-after, cabling-after, delay-after, came, side, side-node, side-wire, steady, child-if, some-same, Side, hearing, ticking, wire_after, late-roles, comes-lawful, not-both, NoEntry, holds-signals, one-quiet, quiet-lawful, turn-lawful, PlacedHold, HoldSchedule, with_holds, quiet_after, last_coin, KnowsCoins, AsksAgain, IsContested, HaveMet, AreRivals, AreJoined, AreMutual, AreUnequal, contrary}
 use Rattle.port_state.specs.declared.signal.Phase.TheVariants as phase
 use Rattle.port_state.specs.declared.timing.Timing.{Timing}
 use Rattle.cable_world.specs.Times.{Suits}
-use Rattle.cable_world.proofs.Lemmas.{heard_connected, after-longest}
+use Rattle.cable_world.proofs.Lemmas.{heard_connected, after-longest, beat-misses, misses-slowly, longest-after}
 use Rattle.convergence.proofs.turns.Cables.{joined-held}
 use Rattle.convergence.specs.Drawers.{HasWonAt}
 use Rattle.convergence.proofs.coins.StaysContested.{rivals-of, comes-contested, quiet-contested}
 use Rattle.convergence.proofs.coins.ContestsInTurns.{down-after}
 use Rattle.convergence.proofs.coins.Drawers.{unequal-mutual}
-use Rattle.convergence.proofs.turns.Moves.{Drew, DrewNone, Shook, Waited, TookRival, Fought}
+use Rattle.convergence.proofs.turns.Moves.{Drew, DrewNone, Shook, Waits, TookRival, Fights, coin_of}
+use Rattle.port_state.specs.Clock.{Clock, clock_after}
 use Rattle.convergence.proofs.resets.ResetsOver.{resets-over}
 use Rattle.convergence.proofs.coins.Rivals.{Rivals, swapped, up-mid, coin-still, draws-not, no-contend}
 use Rattle.convergence.proofs.turns.Roles.{parent-was, child-late, parent-late}
-use Rattle.convergence.proofs.coins.Stands.{shaken, fought, waited-timer, over-timer, long-undrawn, contend-none, waits-on, asks-still, not-again, not-over, took-none}
+use Rattle.convergence.proofs.coins.Stands.{shaken, fought, HasWaited, MissesSlowly, waited-less, waited-on, over-timer, long-undrawn, contend-none, waits-on, asks-still, not-again, not-over, took-none}
 
 -- two rivals: x waits long, and has waited for so many turns; y waits short, or asks again
 pub record Faces
-    (d : ℕ) (x : NodeState) (p : ℕ) (y : NodeState) (q : ℕ) (back : List Travelling) (i : ℕ)
-    : Type 0 where
+    (d most : ℕ) (x : NodeState) (c : Clock) (p : ℕ) (y : NodeState) (q : ℕ) (back : List Travelling)
+    (i : ℕ) : Type 0 where
   pub here : is_port x.view.parent p ≡ true
   pub there : is_port y.view.parent q ≡ true
   pub contends : x.view.phase ≡ phase.Contend
   pub long : last_coin x ≡ true
   pub short : last_coin y ≡ false
-  pub waited : i ≤ x.view.timer
+  pub waited : HasWaited most 1 i x c
   pub how :
       (y.view.phase ≡ phase.Contend) ⊎ ((is_shaking y.view.phase ≡ true) × AsksAgain d x y back)
 
@@ -35,13 +36,13 @@ abbrev pub Over : NodeState → ℕ → Type 0
 Over x p = (leads_down x.view.ports p ≡ true) × (x.view.parent ≡ None)
 
 module _
-    (d : ℕ) (x y : Side) (r : Rivals d x y) (hx : NoEntry x.node (hearing x))
-    (hy : NoEntry y.node (hearing y)) where
+    (d most : ℕ) (x y : Side) (r : Rivals d x y) (hx : NoEntry x.node (hearing x))
+    (hy : NoEntry y.node (hearing y)) (slowly : MissesSlowly most 1 x) where
   s : Rivals d y x
   s = swapped d x y r
 
   abbrev After : ℕ → Type 0
-  After i = Over (ticking x).state x.port ⊎ Faces d (ticking x).state x.port (ticking y).state y.port (wire_after y) (i + 1)
+  After i = Over (ticking x).state x.port ⊎ Faces d most (ticking x).state (clock_after x.clock) x.port (ticking y).state y.port (wire_after y) (i + 1)
 
   up-x :
       (ticking x).state.view.parent ≡ (hearing x).state.view.parent →
@@ -53,43 +54,33 @@ module _
       is_port y.node.view.parent y.port ≡ true → is_port (ticking y).state.view.parent y.port ≡ true
   up-y e u = ap (λ o. is_port o y.port) e ∙ up-mid d y x s hy u
 
-  rises : (i t u w : ℕ) → i ≤ t → u ≡ risen t → risen t < w → w ≤ 65535 → i + 1 ≤ u
-  rises i t u w h e l m = grind (arith, h, e, l, m)
-
   contend-shakes : (f : Phase) → f ≡ phase.Contend → is_shaking f ≡ true → ⊥
   contend-shakes f a b = grind arith
 
-  wait-most : x.node.view.phase ≡ phase.Contend → x.node.view.wait ≤ 65535
-  wait-most c = elim (r.near.shows c) [
-    | inl a ↦ omega (arith, a, r.pair.near.timing.apart, r.pair.near.timing.long_most)
-    | inr a ↦ omega (arith, a, r.pair.near.timing.long_most)
-  ]
-
-  pub faces-after : (i : ℕ) → Faces d x.node x.port y.node y.port y.wire i → After i
+  pub faces-after : (i : ℕ) → Faces d most x.node x.clock x.port y.node y.port y.wire i → After i
   faces-after i f = go (fought d x y r f.here f.there hx f.contends) f.how
     where
       nx : DrewNone x.node (ticking x).state
       nx = contend-none d x y r f.here f.there hx hy f.contends
 
-      met : y.node.view.phase ≡ phase.Contend → HaveMet d x.node y.node
+      met : y.node.view.phase ≡ phase.Contend → HaveMet d x.node x.clock y.node y.clock
       met c = both-in (r.here.rivals f.here f.there)
         where
-          both-in : AreRivals d x.node x.port x.wire y.node y.port y.wire → HaveMet d x.node y.node
+          both-in : AreRivals d x.node x.clock x.port x.wire y.node y.clock y.port y.wire → HaveMet d x.node x.clock y.node y.clock
           both-in (inl a) = absurd (contend-shakes x.node.view.phase f.contends a.here)
           both-in (inr (inl m)) = m
           both-in (inr (inr (inl a))) = absurd (contend-shakes y.node.view.phase c a.there)
           both-in (inr (inr (inr a))) = absurd (contend-shakes x.node.view.phase f.contends a.there)
 
       on :
-          Waited (raise_timer (hearing x).state) (ticking x).state (ticking x).sends →
-          i + 1 ≤ (ticking x).state.view.timer
+          Waits x.beat (hearing x).state (ticking x).state (ticking x).sends →
+          HasWaited most 1 (i + 1) (ticking x).state (clock_after x.clock)
       on w =
-          let t = waited-timer d x y r f.here f.there hx w in
-          rises i x.node.view.timer (ticking x).state.view.timer x.node.view.wait f.waited t.0 t.1 (wait-most f.contends)
+          waited-on d x y r f.here f.there hx f.contends w nx.wait most 1 i slowly f.waited
 
       both :
-          Waited (raise_timer (hearing x).state) (ticking x).state (ticking x).sends →
-          (c : y.node.view.phase ≡ phase.Contend) → Fought (raise_timer (hearing y).state)
+          Waits x.beat (hearing x).state (ticking x).state (ticking x).sends →
+          (c : y.node.view.phase ≡ phase.Contend) → Fights y.beat (hearing y).state
           (ticking y).state (ticking y).sends → After i
       both w c (inl v) = inr (record {
         here = up-x w.parent f.here;
@@ -114,10 +105,10 @@ module _
       })
 
       asked :
-          Waited (raise_timer (hearing x).state) (ticking x).state (ticking x).sends →
+          Waits x.beat (hearing x).state (ticking x).state (ticking x).sends →
           (sh : is_shaking y.node.view.phase ≡ true) → AsksAgain d x.node y.node y.wire →
           Shook (hearing y).state (ticking y).state (ticking y).sends
-          ⊎ Drew y.coin (hearing y).state (ticking y).state →
+          ⊎ Drew (coin_of y.beat) (hearing y).state (ticking y).state →
           After i
       asked w sh h (inl v) = inr (record {
         here = up-x w.parent f.here;
@@ -138,7 +129,7 @@ module _
       )
 
       go :
-          Fought (raise_timer (hearing x).state) (ticking x).state (ticking x).sends →
+          Fights x.beat (hearing x).state (ticking x).state (ticking x).sends →
           (y.node.view.phase ≡ phase.Contend)
           ⊎ ((is_shaking y.node.view.phase ≡ true) × AsksAgain d x.node y.node y.wire) → After i
       go (inl w) (inl c) = both w c (fought d y x s f.there f.here hy c)
@@ -163,7 +154,7 @@ module _ (d : ℕ) (x y : Side) (r : Rivals d x y) (hx : NoEntry x.node (hearing
 
       go : (o : Option ℕ) → (ticking x).state.view.parent ≡ o → o ≡ None
       go None e = refl
-      go (Some p) e = elim (parent-was x.coin (hearing x).state p (ap (λ z. is_port z p) e ∙ eq-eqb p p refl)) [
+      go (Some p) e = elim (parent-was x.beat (hearing x).state p (ap (λ z. is_port z p) e ∙ eq-eqb p p refl)) [
         | inl u ↦ contrary u (ap (λ z. is_port z p) (hx.parent ∙ o.1))
         | inr t ↦ absurd (start x.node.view.phase late (sym hx.phase ∙ t))
       ]
@@ -172,7 +163,7 @@ module _ (d : ℕ) (x y : Side) (r : Rivals d x y) (hx : NoEntry x.node (hearing
 
 record FacesIn (w : CableWorld) (a b : End) (i : ℕ) : Type 0 where
   ends : AreJoined w a b
-  faces : Faces w.delay ends.near.state a.port ends.other.state b.port (wire_of w b).signals i
+  faces : Faces w.delay w.longest.long ends.near.state ends.near.clock a.port ends.other.state b.port (wire_of w b).signals i
 
 record OverIn (w : CableWorld) (a b : End) : Type 0 where
   ends : AreJoined w a b
@@ -180,6 +171,14 @@ record OverIn (w : CableWorld) (a b : End) : Type 0 where
 
 abbrev State : CableWorld → End → End → ℕ → Type 0
 State w a b i = OverIn w a b ⊎ FacesIn w a b i
+
+-- a clock that misses a turn
+slow-side :
+    (u : CableWorld) → IsLawful u → (a : End) (x : PortNode) → slice_get u.nodes a.node ≡ Some x →
+    MissesSlowly u.longest.long 1 (side u a x)
+slow-side u m a x at none =
+    let h = misses-slowly u.longest x.state.timing x.clock (beat-misses x none) (m.paced a.node x at) in
+    (h.1.long_most, omega arith)
 
 -- one turn in which neither node begins a reset
 module _
@@ -224,11 +223,11 @@ module _
 
     faces-next :
         (i : ℕ) →
-        Faces u.delay (ticking (side u a e.near)).state a.port (ticking (side u b e.other)).state b.port (wire_after (side u b e.other))
+        Faces u.delay u.longest.long (ticking (side u a e.near)).state (clock_after e.near.clock) a.port (ticking (side u b e.other)).state b.port (wire_after (side u b e.other))
         i → FacesIn (turn u) a b i
     faces-next i f = record {
       ends = next;
-      faces = rw (side-node u a e.near, side-node u b e.other, side-wire u b a e.other m.well_formed back e.other_at, delay-after u) f;
+      faces = rw (side-node u a e.near, side-node u b e.other, side-wire u b a e.other m.well_formed back e.other_at, delay-after u, longest-after u) f;
     }
 
   state-next : (i : ℕ) → State u a b i → State (turn u) a b (i + 1)
@@ -241,7 +240,7 @@ module _
       let hx = hears-on f.ends a b f.ends.near f.ends.other q f.ends.near_at (late-x f.ends (inr f.faces.here)) in
       let hy = hears-on f.ends b a f.ends.other f.ends.near (swapped u.delay (side u a f.ends.near) (side u b f.ends.other) q) f.ends.other_at
       (parent-late f.ends.other.state (m.well_formed.nodes b.node f.ends.other f.ends.other_at).valid b.port f.faces.there) in
-      elim (faces-after u.delay (side u a f.ends.near) (side u b f.ends.other) q hx hy i f.faces) [
+      elim (faces-after u.delay u.longest.long (side u a f.ends.near) (side u b f.ends.other) q hx hy (slow-side u m a f.ends.near f.ends.near_at) i f.faces) [
         | inl o ↦ inl (over-next f.ends o)
         | inr g ↦ inr (faces-next f.ends (i + 1) g)
       ]
@@ -254,7 +253,7 @@ state-held :
 state-held holds w a b i l (inl o) = inl (record { ends = joined-held holds w a b o.ends; over = o.over })
 state-held holds w a b i l (inr f) = inr (record {
   ends = joined-held holds w a b f.ends;
-  faces = subst (λ ts. Faces w.delay f.ends.near.state a.port f.ends.other.state b.port ts i) (sym (holds-signals holds w b l)) f.faces;
+  faces = subst (λ ts. Faces w.delay w.longest.long f.ends.near.state f.ends.near.clock a.port f.ends.other.state b.port ts i) (sym (holds-signals holds w b l)) f.faces;
 })
 
 -- ---- late
@@ -289,10 +288,11 @@ module _
   won-by i long (inr f) =
       let knows : KnowsCoins f.ends.near.state = (quiet-contested hs (k + i) w l c).nodes a.node f.ends.near f.ends.near_at in
       let fits : Suits (later i).delay (later i).longest f.ends.near.state.timing = ((quiet-lawful hs (k + i) w l).well_formed.nodes a.node f.ends.near f.ends.near_at).timing in
-      absurd (elim (knows.shows f.faces.contends) [
-        | inl s ↦ omega (arith, long, f.faces.waited, knows.waits f.faces.contends, s, fits.short_most, fits.long_least, fits.long_most)
-        | inr s ↦ omega (arith, long, f.faces.waited, knows.waits f.faces.contends, s, fits.long_most)
-      ])
+      let under : f.ends.near.state.view.timer < f.ends.near.state.timing.long = elim (knows.shows f.faces.contends) [
+        | inl s ↦ omega (arith, knows.waits f.faces.contends, s, fits.short_most, fits.long_least)
+        | inr s ↦ omega (arith, knows.waits f.faces.contends, s)
+      ] in
+      absurd (omega (arith, long, waited-less (later i).longest.long 1 i f.ends.near.state f.ends.near.clock under fits.long_most f.faces.waited))
 
   starts :
       (m : AreMutual (quiet_after hs k w) a b) → m.ends.near.state.view.phase ≡ phase.Contend →
@@ -303,7 +303,7 @@ module _
       let z : k + 0 ≡ k = omega arith in
       subst (λ (n : ℕ). State (quiet_after hs n w) a b 0) (sym z) (inr (record {
         ends = m.ends;
-        faces = record { here = m.here; there = m.there; contends = here; long = long; short = short; waited = omega arith; how = inl there };
+        faces = record { here = m.here; there = m.there; contends = here; long = long; short = short; waited = inl (omega arith); how = inl there };
       }))
 
   pub wins :

@@ -6,11 +6,12 @@ use Rattle.convergence.proofs.Common.{PortNode, CableWorld, IsLawful, some-of, s
 use Rattle.convergence.proofs.loops.Cores.{core-shows}
 use Rattle.convergence.proofs.resets.ResetsDone.{done-over}
 use Rattle.convergence.proofs.ranks.StaysAcyclic.{quiet-acyclic}
+use Rattle.convergence.specs.Turns.{slack}
 use Rattle.convergence.proofs.trees.TreeStart.{done-at, start-reports}
 
 pub loops-reported :
     (hs : HoldSchedule) (v : CableWorld) → IsLawful v → IsAcyclic v → ResetsAreDone v → (i : ℕ) →
-    v.longest.timeout + 1 ≤ i →
+    v.longest.timeout + 1 + slack v ≤ i →
     LoopsAreReported (quiet_after hs i v)
 loops-reported hs v l c done i late set core k is h =
     let u : CableWorld = quiet_after hs i v in

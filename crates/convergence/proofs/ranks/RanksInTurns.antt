@@ -1,7 +1,7 @@
 -- A turn keeps a world acyclic: all nodes that take their roles in it get ranks above the others.
 use Rattle.std.proofs.Common.{◌≡◌, ◌⊎◌, inl, inr, ℕ, ◌+◌, ◌<◌, ◌≤◌, Bool, true, false, ◌&&◌, ◌||◌, List, [], Option, Some, None, slice_get, refl, sym, ◌∙◌, ap, subst, arith, if◌then◌else◌, true≢false}
 use Rattle.std.proofs.lemmas.Bool.{false_from_ne_true}
-use Rattle.convergence.proofs.Common.{Level, Phase, Signal, NodeState, coin, is_connected, is_port, is_resetting, PortNode, End, Wiring, far, ports_of, age_wire, gives, CableWorld, wire_of, inbox, turn_at, turn, hear_all, is_before_tree, is_shaking, signals_of, has_reset, level_shown, leads_down, level_after, Coupling, IsLawful, cabling-after, before, hears, ticks, cable-connected, tree_start-known, turn-state, comes, IsAcyclic, contrary}
+use Rattle.convergence.proofs.Common.{Level, Phase, Signal, NodeState, beat, is_connected, is_port, is_resetting, PortNode, End, Wiring, far, ports_of, age_wire, gives, CableWorld, wire_of, inbox, turn_at, turn, hear_all, is_before_tree, is_shaking, signals_of, has_reset, level_shown, leads_down, level_after, Coupling, IsLawful, cabling-after, before, hears, ticks, cable-connected, tree_start-known, turn-state, comes, IsAcyclic, contrary}
 use Rattle.port_state.specs.declared.signal.Level.TheVariants as level
 use Rattle.port_state.specs.declared.signal.Phase.TheVariants as phase
 use Rattle.cable_world.specs.Signals.{shows_no_notice, has_no_notice}
@@ -21,7 +21,7 @@ pub parent-kept :
 parent-kept w l k x at p =
     let signals = inbox w 0 (ports_of w.cabling k) in
     subst (λ (y : NodeState). is_port y.view.parent p ≡ true → takes x.state y ≡ false → is_port x.state.view.parent p ≡ true) (sym (turn-state signals x))
-    (parent-before signals (coin x.coins) x.state (hears w k x l.well_formed at) (ticks w k x l.well_formed at) p)
+    (parent-before signals (beat x) x.state (hears w k x l.well_formed at) (ticks w k x l.well_formed at) p)
 
 -- what a child port was before a turn
 abbrev pub WasOrTook : CableWorld → ℕ → PortNode → ℕ → NodeState → Type 0
@@ -37,7 +37,7 @@ pub child-kept :
 child-kept w l k x at p on =
     let signals = inbox w 0 (ports_of w.cabling k) in
     subst (λ (y : NodeState). leads_down y.view.ports p ≡ true → WasOrTook w k x p y) (sym (turn-state signals x))
-    (child-before signals (coin x.coins) x.state (hears w k x l.well_formed at) (ticks w k x l.well_formed at) p on)
+    (child-before signals (beat x) x.state (hears w k x l.well_formed at) (ticks w k x l.well_formed at) p on)
 
 -- ---- one cable
 

@@ -1,63 +1,50 @@
 -- In quiet turns nobody is in R0 or R1 any more, the longest hold and d turns after the last entry
 -- at the latest.
-use Rattle.std.proofs.Common.{◌≡◌, inl, inr, ℕ, zero, suc, ◌+◌, ◌-◌, ◌*◌, ◌<◌, ◌≤◌, Bool, true, false, not, ◌&&◌, ◌||◌, length, Option, Some, None, is_some, slice_get, refl, sym, ◌∙◌, ap, subst, arith, true≢false}
+use Rattle.std.proofs.Common.{◌≡◌, ◌⊎◌, inl, inr, ℕ, zero, suc, ◌+◌, ◌-◌, ◌*◌, ◌<◌, ◌≤◌, Bool, true, false, not, ◌&&◌, ◌||◌, length, Option, Some, None, is_some, slice_get, refl, sym, ◌∙◌, ap, subst, arith, add-one, true≢false}
 use Rattle.std.proofs.lemmas.Bool.{false_from_ne_true}
-use Rattle.convergence.proofs.Common.{Phase, PortView, NodeState, Timing, coin, passes, port_is, is_connected, is_port, is_resetting, PortNode, IsValid, End, Wiring, far, end_at, CableWorld, wire_of, turn_at, turn, hear_all, level_sent, level_shown, shown_or_idle, leads_down, level_sent_at, signals_of, has_reset, is_before_tree, is_in_bus_reset, is_shaking, is_asking, Coupling, IsLawful, node-after, some-same, before, hears, steady, after-delay, child-if, cable-connected, late-roles, NoEntry, HearsWell, turn-state, one-quiet, quiet-then, quiet-lawful, after-cabling, HoldSchedule, holds_after, with_holds, quiet_after, ResetsAreOver, NoneIn, ResetsAreDone, contrary}
+use Rattle.convergence.proofs.Common.{Phase, PortView, NodeState, Timing, beat, passes, port_is, is_connected, is_port, is_resetting, PortNode, IsValid, End, Wiring, far, end_at, CableWorld, wire_of, turn_at, turn, level_sent, level_shown, shown_or_idle, leads_down, level_sent_at, signals_of, has_reset, is_before_tree, is_in_bus_reset, is_shaking, is_asking, Coupling, IsLawful, node-after, some-same, before, steady, after-delay, child-if, cable-connected, late-roles, one-quiet, quiet-then, quiet-lawful, after-cabling, HoldSchedule, holds_after, with_holds, quiet_after, ResetsAreOver, NoneIn, ResetsAreDone, contrary}
 use Rattle.port_state.specs.declared.signal.Phase.TheVariants as phase
 use Rattle.port_state.specs.Resetting.{is_calm}
 use Rattle.cable_world.specs.Phases.{is_after_hold}
-use Rattle.cable_world.specs.Times.{Suits}
-use Rattle.cable_world.proofs.Lemmas.{after-longest, in-turn, hold-left, between-known}
+use Rattle.cable_world.specs.Times.{Suits, KeepsTime}
+use Rattle.port_state.specs.Clock.{clock_after, TicksFor}
+use Rattle.cable_world.proofs.Lemmas.{after-longest, in-turn-rises, beat-misses, between-known, misses-slowly, steady-at}
+use Rattle.convergence.proofs.turns.Clocks.{ticks-less, ticks-missed, misses-none}
+use Rattle.convergence.specs.Turns.{slack, seen_turns}
+use Rattle.convergence.proofs.turns.SlowTurns.{HasRun, run-on, run-over}
+use Rattle.convergence.proofs.turns.TwoTurns.{Misses, slack-later, not-missed}
 use Rattle.convergence.proofs.turns.Cables.{joined-of}
-use Rattle.convergence.proofs.turns.CalmTurns.{Calmly, calmly, signals, heard_by, waiting-before, done-calm}
+use Rattle.convergence.proofs.turns.CalmTurns.{Calmly, calmly, heard_by, waiting-before, done-calm}
 use Rattle.convergence.proofs.turns.BeforeTree.{waits-for, every-from}
 use Rattle.convergence.proofs.turns.Flush.{Tells, Shown, flush}
 
 -- ---- holds end
 
--- a node that a turn leaves in R0 has some of its hold left
-hold-runs :
-    (w : CableWorld) → IsLawful w → (k : ℕ) (x y : PortNode) → slice_get w.nodes k ≡ Some x →
-    slice_get (turn w).nodes k ≡ Some y → is_resetting x.state.view.phase ≡ true →
-    is_resetting y.state.view.phase ≡ true → y.state.view.timer < w.longest.hold
-hold-runs w l k x y at_x at_y was there =
-    omega (arith, (in-turn w l k x y at_x at_y).rises was there, left, heard.timer, ap (λ (z : Timing). z.hold) h.timing, (l.well_formed.nodes k x at_x).timing.hold_most)
-  where
-    h : HearsWell (signals w k) x.state
-    h = hears w k x l.well_formed at_x
+-- with these holds no quiet turn makes a node enter R0
+abbrev pub NoneEnters : HoldSchedule → CableWorld → Type 0
+NoneEnters hs w =
+    (i k : ℕ) (x y : PortNode) → slice_get (quiet_after hs i w).nodes k ≡ Some x →
+    slice_get (quiet_after hs (i + 1) w).nodes k ≡ Some y → is_resetting x.state.view.phase ≡ false →
+    is_resetting y.state.view.phase ≡ false
 
-    heard : NoEntry x.state (hear_all (signals w k) x.state)
-    heard = elim (hears w k x l.well_formed at_x).cases [ inl s ↦ s | inr c ↦ contrary was c.before ]
+-- Its hold isn't over, once its clock has ticked.
+abbrev IsUnder : ℕ → PortNode → Type 0
+IsUnder n x = (x.state.view.timer < x.state.timing.hold) ⊎ ((n ≡ 0) ⊎ TicksFor 1 x.clock)
 
-    same : (turn_at w k x).node ≡ y
-    same = some-same (turn_at w k x).node y (sym (node-after w k x l.well_formed.count at_x) ∙ at_y)
-
-    hold-most : (heard_by w k x).timing.hold ≤ 65535
-    hold-most = omega (arith, ap (λ (z : Timing). z.hold) (hears w k x l.well_formed at_x).timing, (l.well_formed.nodes k x at_x).timing.hold_most, (l.well_formed.nodes k x at_x).timing.counted.hold)
-
-    left : (heard_by w k x).view.timer + 1 < (heard_by w k x).timing.hold
-    left =
-        hold-left (coin x.coins) (heard_by w k x) (ap is_resetting heard.phase ∙ was) hold-most
-        (sym (ap (λ (s : NodeState). is_resetting s.view.phase) (turn-state (signals w k) x)) ∙ ap (λ (u : PortNode). is_resetting u.state.view.phase) same ∙ there)
-
-module _ (hs : HoldSchedule) (w : CableWorld) (l : IsLawful w) where
-  abbrev enough : ℕ
-  enough = length w.nodes * w.delay
-
+module _
+    (hs : HoldSchedule) (w : CableWorld) (l : IsLawful w) (none : NoneEnters hs w) where
   abbrev later : ℕ → CableWorld
-  later i = quiet_after hs (enough + i) w
+  later i = quiet_after hs i w
 
-  lawful-later : (i : ℕ) → IsLawful (later i)
-  lawful-later i = quiet-lawful hs (enough + i) w l
+  lawful-then : (i : ℕ) → IsLawful (later i)
+  lawful-then i = quiet-lawful hs i w l
 
-  next : (i : ℕ) → with_holds (hs (enough + i + 1)) (turn (later i)) ≡ later (suc i)
-  next i =
-      let z : enough + i + 1 ≡ enough + suc i = omega arith in
-      sym (one-quiet hs (enough + i) w) ∙ ap (λ n. quiet_after hs n w) z
+  next : (i : ℕ) → with_holds (hs (i + 1)) (turn (later i)) ≡ later (suc i)
+  next i = let z : i + 1 ≡ suc i = omega arith in sym (one-quiet hs i w) ∙ ap (λ n. later n) z
 
   -- each node in R0 has been there for so many turns
   abbrev Risen : ℕ → CableWorld → Type 0
-  Risen n v = (k : ℕ) (x : PortNode) → slice_get v.nodes k ≡ Some x → is_resetting x.state.view.phase ≡ true → n ≤ x.state.view.timer
+  Risen n v = (k : ℕ) (x : PortNode) → slice_get v.nodes k ≡ Some x → is_resetting x.state.view.phase ≡ true → HasRun w.longest n x × IsUnder n x
 
   -- it was there before
   stayed :
@@ -65,7 +52,7 @@ module _ (hs : HoldSchedule) (w : CableWorld) (l : IsLawful w) where
       is_resetting y.state.view.phase ≡ true → (x : PortNode)
       × (slice_get (later i).nodes k ≡ Some x) × (is_resetting x.state.view.phase ≡ true)
   stayed i k y at there =
-      let x = before (later i) k y (lawful-later i).well_formed at in
+      let x = before (later i) k y (lawful-then i).well_formed at in
       (x.0, x.1, was x.0 x.1 (is_resetting x.0.state.view.phase) refl)
     where
       was :
@@ -73,33 +60,70 @@ module _ (hs : HoldSchedule) (w : CableWorld) (l : IsLawful w) where
           is_resetting x.state.view.phase ≡ b → b ≡ true
       was x at_x true e = refl
       was x at_x false e =
-          let late : enough ≤ enough + i = omega arith in
-          contrary there (steady hs w l (enough + i) late k x y at_x (ap (λ (u : CableWorld). slice_get u.nodes k) (one-quiet hs (enough + i) w) ∙ at) e)
+          contrary there (none i k x y at_x (ap (λ (u : CableWorld). slice_get u.nodes k) (one-quiet hs i w) ∙ at) e)
 
-  rises : (i : ℕ) → Risen i (later i) → Risen (suc i) (turn (later i))
+  same-longest : (i : ℕ) → (later i).longest ≡ w.longest
+  same-longest i = after-longest hs w l i
+
+  some-long : (i k : ℕ) (x : PortNode) → slice_get (later i).nodes k ≡ Some x → 1 ≤ x.state.timing.long
+  some-long i k x at =
+      let fits : Suits (later i).delay (later i).longest x.state.timing = ((lawful-then i).well_formed.nodes k x at).timing in
+      omega (arith, fits.long_least, fits.short_most, fits.short_least)
+
+  keeps : (i k : ℕ) (x : PortNode) → slice_get (later i).nodes k ≡ Some x → KeepsTime w.longest x.state.timing x.clock
+  keeps i k x at = subst (λ (t : Timing). KeepsTime t x.state.timing x.clock) (same-longest i) ((lawful-then i).paced k x at)
+
+  same-times :
+      (i k : ℕ) (x y : PortNode) → slice_get (later i).nodes k ≡ Some x →
+      slice_get (turn (later i)).nodes k ≡ Some y → y.state.timing ≡ x.state.timing
+  same-times i k x y at_x at_y =
+      let f = (lawful-then i).well_formed in
+      ap (λ (z : PortNode). z.state.timing) (sym (some-same (turn_at (later i) k x).node y (sym (node-after (later i) k x f.count at_x) ∙ at_y))) ∙ (steady-at (later i) k x f at_x).timing
+
+  rises : (i : ℕ) → Risen i (later i) → Risen (i + 1) (turn (later i))
   rises i h k y at there =
       let x = stayed i k y at there in
-      omega (arith, (in-turn (later i) (lawful-later i) k x.0 y x.1 at).rises x.2 there, h k x.0 x.1 x.2)
+      let t = in-turn-rises (later i) (lawful-then i) k x.0 y x.1 at x.2 there in
+      let same = same-times i k x.0 y x.1 at in (
+        run-on w.longest i x.0 y (some-long i k x.0 x.1) (keeps i k x.0 x.1) same t.1 (elim t.0 [ inl m ↦ inl m | inr r ↦ inr r.0 ]) (h k x.0 x.1 x.2).0,
+        elim t.0 [
+          | inl m ↦
+              let pace = (misses-slowly w.longest x.0.state.timing x.0.clock m.0 (keeps i k x.0 x.1)).0 in
+              inr (inr (subst (TicksFor 1) (sym t.1) (ticks-less 1 x.0.state.timing.long (clock_after x.0.clock) (some-long i k x.0 x.1) (ticks-missed x.0.state.timing.long x.0.clock m.0 pace))))
+          | inr r ↦ inl (omega (arith, r.1, ap (λ (t : Timing). t.hold) same))
+        ],
+      )
 
   all-risen : (i : ℕ) → Risen i (later i)
-  all-risen zero = λ k x at r. omega arith
-  all-risen (suc i) = subst (Risen (suc i)) (next i) (rises i (all-risen i))
+  all-risen zero = λ k x at r. (inl (omega arith), inr (inl refl))
+  all-risen (suc i) = subst (Risen (suc i)) (next i) (subst (λ n. Risen n (turn (later i))) (add-one i) (rises i (all-risen i)))
 
   -- after the longest hold none is there
-  longest-hold : (i : ℕ) → (later i).longest.hold ≡ w.longest.hold
-  longest-hold i = ap (λ (t : Timing). t.hold) (after-longest hs w l (enough + i))
-
-  pub holds-over : (i : ℕ) → w.longest.hold ≤ i → NoneIn is_resetting (later i)
+  holds-over : (i : ℕ) → w.longest.hold ≤ i → NoneIn is_resetting (later i)
   holds-over zero h = λ k x at.
-      let m : IsLawful (later zero) = lawful-later zero in
-      let fits : Suits (later zero).delay (later zero).longest x.state.timing = (m.well_formed.nodes k x at).timing in
-      absurd (omega (arith, h, fits.hold_least, fits.hold_most, m.well_formed.some_delay, longest-hold zero))
-  holds-over (suc i) h = subst (NoneIn is_resetting) (next i) none
+      let fits : Suits (later 0).delay (later 0).longest x.state.timing = ((lawful-then 0).well_formed.nodes k x at).timing in
+      absurd (omega (arith, h, fits.hold_least, fits.hold_most, (lawful-then 0).well_formed.some_delay, ap (λ (t : Timing). t.hold) (same-longest 0)))
+  holds-over (suc i) h = subst (NoneIn is_resetting) (next i) nobody
     where
-      none : NoneIn is_resetting (turn (later i))
-      none k y at = false_from_ne_true _ (λ e.
+      nobody : NoneIn is_resetting (turn (later i))
+      nobody k y at = false_from_ne_true _ (λ e.
           let x = stayed i k y at e in
-          omega (arith, h, (in-turn (later i) (lawful-later i) k x.0 y x.1 at).rises x.2 e, all-risen i k x.0 x.1 x.2, hold-runs (later i) (lawful-later i) k x.0 y x.1 at x.2 e, longest-hold i))
+          let t = in-turn-rises (later i) (lawful-then i) k x.0 y x.1 at x.2 e in
+          let same = ap (λ (t : Timing). t.hold) (same-times i k x.0 y x.1 at) in
+          let fits : Suits (later i).delay (later i).longest x.0.state.timing = ((lawful-then i).well_formed.nodes k x.0 x.1).timing in
+          let most : x.0.state.timing.hold ≤ w.longest.hold = omega (arith, fits.hold_most, ap (λ (t : Timing). t.hold) (same-longest i)) in
+          let one : i + 1 ≡ suc i = add-one i in
+          let over : y.state.timing.hold ≤ y.state.view.timer = run-over w.longest (i + 1) y y.state.timing.hold w.longest.hold (omega (arith, some-long i k x.0 x.1, ap (λ (t : Timing). t.long) (same-times i k x.0 y x.1 at))) (omega (arith, same, most)) (λ s. s.hold_most) (omega (arith, h, one)) (rises i (all-risen i) k y at e).0 in
+          elim t.0 [
+            | inr r ↦ omega (arith, r.1, over, same)
+            | inl m ↦ elim (all-risen i k x.0 x.1 x.2).1 [
+              | inl u ↦ omega (arith, m.1, u, over, same)
+              | inr u ↦ elim u [
+                | inl z ↦ omega (arith, z, h, fits.hold_least, most, (lawful-then i).well_formed.some_delay)
+                | inr ticks ↦ misses-none 0 x.0.clock ticks m.0
+              ]
+            ]
+          ])
 
 -- ---- R1
 
@@ -162,12 +186,17 @@ module _
     shows-calm : (i : ℕ) → v.delay ≤ i → Waits i → Shown (quiet_after hs i v) (end_at k p) is_calm
     shows-calm = flush hs v l a (end_at k p) back is_calm Waits waited tells-calm
 
-  -- d turns later every port is calm, so that R1 ends
-  wait-ends : (i : ℕ) → v.delay ≤ i + 1 → Waits (i + 1) → ⊥
-  wait-ends i late h =
-      true≢false (sym (every-from (λ q. is_calm q.shown) now.view.ports each)
-      ∙ waits-for (coin c.node.coins) now (only-wait now.view.phase (ap is_in_bus_reset c.heard.phase ∙ waiting-before u k h.0.state c h.2) (ap is_resetting c.heard.phase ∙ calm i k c.node c.at))
-      (sym (ap (λ (s : NodeState). is_in_bus_reset s.view.phase) c.is) ∙ h.2))
+  -- d turns later every port is calm, so that R1 ends with the next tick
+  wait-misses : (i : ℕ) → v.delay ≤ i + 1 → (h : Waits (i + 1)) → Misses hs v i k
+  wait-misses i late h = record {
+    node = c.node;
+    at = c.at;
+    missed = elim (waits-for (beat c.node) now (only-wait now.view.phase (ap is_in_bus_reset c.heard.phase ∙ waiting-before u k h.0.state c h.2) (ap is_resetting c.heard.phase ∙ calm i k c.node c.at))
+        (sym (ap (λ (s : NodeState). is_in_bus_reset s.view.phase) c.is) ∙ h.2)) [
+          | inl none ↦ beat-misses c.node none
+          | inr not ↦ absurd (true≢false (sym (every-from (λ q. is_calm q.shown) now.view.ports each) ∙ not))
+        ];
+  }
     where
       u : CableWorld
       u = quiet_after hs i v
@@ -207,36 +236,63 @@ module _
           go None e = contrary on-first (((quiet-lawful hs i v l).well_formed.nodes k c.node c.at).connected q ∙ ap is_some e)
           go (Some a) e = ap is_calm (sym (same q)) ∙ shows-calm a q (sym (ap (λ (d : Wiring). far d (end_at k q)) (after-cabling hs i v)) ∙ e) (i + 1) late h h.0 h.1
 
--- ---- the longest hold and d turns
+  wait-ends : (i : ℕ) → v.delay ≤ i + 1 → Waits (i + slack v + 1) → ⊥
+  wait-ends i late h =
+      not-missed hs v l i k (wait-misses (i + slack v) (omega (arith, late)) h) (λ one.
+      let z : i + slack v ≡ i + 1 = omega (arith, one) in
+      wait-misses i late (subst Waits z (waited (i + slack v) h)))
 
-pub resets-done :
-    (hs : HoldSchedule) (w : CableWorld) → IsLawful w → (i : ℕ) → w.longest.hold + w.delay ≤ i →
-    ResetsAreDone (quiet_after hs (length w.nodes * w.delay + i) w)
-resets-done hs w l i late k x at = false_from_ne_true _ (λ e.
-    let j : ℕ = i - w.longest.hold - 1 in
+-- ---- the longest hold, and what is told then is seen
+
+pub none-enters-done :
+    (hs : HoldSchedule) (w : CableWorld) → IsLawful w → NoneEnters hs w → (i : ℕ) →
+    w.longest.hold + seen_turns w ≤ i → ResetsAreDone (quiet_after hs i w)
+none-enters-done hs w l none i late k x at = false_from_ne_true _ (λ e.
+    let few : slack start ≤ slack w = slack-later hs w l w.longest.hold in
+    let j : ℕ = i - w.longest.hold - 1 - slack start in
     let some : 1 ≤ w.delay = l.well_formed.some_delay in
-    let z : length w.nodes * w.delay + i ≡ length w.nodes * w.delay + w.longest.hold + (j + 1) = omega (arith, late, some) in
-    let is : quiet_after hs (length w.nodes * w.delay + i) w ≡ quiet_after rest (j + 1) start = ap (λ n. quiet_after hs n w) z ∙ quiet-then hs (length w.nodes * w.delay + w.longest.hold) (j + 1) w in
-    wait-ends rest start m calm k j (omega (arith, late, some, after-delay hs w l (length w.nodes * w.delay + w.longest.hold)))
+    let z : i ≡ w.longest.hold + (j + slack start + 1) = omega (arith, late, some, few) in
+    let is : quiet_after hs i w ≡ quiet_after rest (j + slack start + 1) start = ap (λ n. quiet_after hs n w) z ∙ quiet-then hs w.longest.hold (j + slack start + 1) w in
+    wait-ends rest start m calm k j (omega (arith, late, some, few, after-delay hs w l w.longest.hold))
     (x, ap (λ (u : CableWorld). slice_get u.nodes k) (sym is) ∙ at, e))
   where
     rest : HoldSchedule
-    rest = holds_after (length w.nodes * w.delay + w.longest.hold) hs
+    rest = holds_after w.longest.hold hs
 
     start : CableWorld
-    start = quiet_after hs (length w.nodes * w.delay + w.longest.hold) w
+    start = quiet_after hs w.longest.hold w
 
-    m : IsLawful (quiet_after hs (length w.nodes * w.delay + w.longest.hold) w)
-    m = quiet-lawful hs (length w.nodes * w.delay + w.longest.hold) w l
+    m : IsLawful (quiet_after hs w.longest.hold w)
+    m = quiet-lawful hs w.longest.hold w l
 
     calm :
         (j : ℕ) →
         NoneIn is_resetting
-        (quiet_after (holds_after (length w.nodes * w.delay + w.longest.hold) hs) j (quiet_after hs (length w.nodes * w.delay + w.longest.hold) w))
+        (quiet_after (holds_after w.longest.hold hs) j (quiet_after hs w.longest.hold w))
     calm j =
-        let z : length w.nodes * w.delay + (w.longest.hold + j) ≡ length w.nodes * w.delay + w.longest.hold + j = omega arith in
         let low : w.longest.hold ≤ w.longest.hold + j = omega arith in
-        subst (NoneIn is_resetting) (ap (λ n. quiet_after hs n w) z ∙ quiet-then hs (length w.nodes * w.delay + w.longest.hold) j w) (holds-over hs w l (w.longest.hold + j) low)
+        subst (NoneIn is_resetting) (quiet-then hs w.longest.hold j w) (holds-over hs w l none (w.longest.hold + j) low)
+
+-- after n d turns nobody enters
+pub steady-enters :
+    (hs : HoldSchedule) (w : CableWorld) (n : ℕ) → IsLawful w → length w.nodes * w.delay ≤ n →
+    NoneEnters (holds_after n hs) (quiet_after hs n w)
+steady-enters hs w n l late i k x y at_x at_y out =
+    let one : n + (i + 1) ≡ n + i + 1 = omega arith in
+    let past : length w.nodes * w.delay ≤ n + i = omega (arith, late) in
+    steady hs w l (n + i) past k x y
+    (ap (λ (u : CableWorld). slice_get u.nodes k) (quiet-then hs n i w) ∙ at_x)
+    (ap (λ j. slice_get (quiet_after hs j w).nodes k) (sym one) ∙ ap (λ (u : CableWorld). slice_get u.nodes k) (quiet-then hs n (i + 1) w) ∙ at_y) out
+
+pub resets-done :
+    (hs : HoldSchedule) (w : CableWorld) → IsLawful w → (i : ℕ) → w.longest.hold + seen_turns w ≤ i →
+    ResetsAreDone (quiet_after hs (length w.nodes * w.delay + i) w)
+resets-done hs w l i late =
+    let n : ℕ = length w.nodes * w.delay in
+    let past : n ≤ n = omega arith in
+    subst ResetsAreDone (sym (quiet-then hs n i w))
+    (none-enters-done (holds_after n hs) (quiet_after hs n w) (quiet-lawful hs n w l) (steady-enters hs w n l past) i
+    (omega (arith, late, slack-later hs w l n, after-delay hs w l n, ap (λ (t : Timing). t.hold) (after-longest hs w l n))))
 
 -- then no Reset is under way
 pub no-resets :

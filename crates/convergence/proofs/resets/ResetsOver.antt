@@ -1,7 +1,7 @@
 -- After n * d quiet turns a Reset is under way to nodes in R0 alone: any other would enter
 -- R0 when it comes.
 use Rattle.std.proofs.Common.{◌≡◌, ◌⊎◌, inl, inr, ℕ, zero, suc, ◌+◌, ◌-◌, ◌*◌, ◌<◌, ◌≤◌, Bool, true, false, ◌||◌, List, [], ◌∷◌, ◌++◌, map, Some, length, slice_get, if◌then◌else◌, refl, sym, ◌∙◌, ap, subst, arith, add-one, true≢false}
-use Rattle.convergence.proofs.Common.{Signal, Timing, NodeState, coin, is_resetting, PortNode, End, Wiring, far, ports_of, Travelling, age_wire, gives, new_signal, CableWorld, wire_of, inbox, turn_at, turn, hear_all, signals_of, has_reset, AgesFall, IsLawful, node-after, cabling-after, hears, ticks, side, side-wire, steady, after-delay, cable-connected, some-same, departures, HearsWell, TicksWell, turn-state, comes, holds-signals, one-quiet, quiet-lawful, turn-lawful, HoldSchedule, with_holds, quiet_after, ResetsAreOver, contrary}
+use Rattle.convergence.proofs.Common.{Signal, Timing, NodeState, beat, is_resetting, PortNode, End, Wiring, far, ports_of, Travelling, age_wire, gives, new_signal, CableWorld, wire_of, inbox, turn_at, turn, hear_all, signals_of, has_reset, AgesFall, IsLawful, node-after, cabling-after, hears, ticks, side, side-wire, steady, after-delay, cable-connected, some-same, departures, HearsWell, TicksWell, turn-state, comes, holds-signals, one-quiet, quiet-lawful, turn-lawful, HoldSchedule, with_holds, quiet_after, ResetsAreOver, contrary}
 use Rattle.cable_world.specs.Wire.{age_signal}
 use Rattle.cable_world.specs.Signals.{is_reset}
 use Rattle.convergence.proofs.turns.Cables.{joined-of}
@@ -71,7 +71,7 @@ comes-in w l a b y e at g r out = ap (λ (s : NodeState). is_resetting s.view.ph
     h : HearsWell (inbox w 0 (ports_of w.cabling b.node)) y.state
     h = hears w b.node y l.well_formed at
 
-    t : TicksWell (coin y.coins) (hear_all (inbox w 0 (ports_of w.cabling b.node)) y.state).state
+    t : TicksWell (beat y) (hear_all (inbox w 0 (ports_of w.cabling b.node)) y.state).state
     t = ticks w b.node y l.well_formed at
 
     hold-least :

@@ -2,20 +2,20 @@
 -- done. It stays so; its
 -- child cables stay.
 use Rattle.std.proofs.Common.{◌≡◌, inl, inr, ℕ, zero, suc, ◌+◌, ◌≤◌, true, false, not, List, Option, Some, None, slice_get, refl, sym, ◌∙◌, ap, subst, arith, add-one}
-use Rattle.convergence.proofs.Common.{End, Wiring, far, Holds, IsClosed, NodeState, coin, is_resetting, is_port, IsValid, PortNode, CableWorld, turn_at, turn, is_before_tree, leads_down, IsLawful, cabling-after, node-after, came, side, side-node, child-if, cable-connected, hearing, ticking, late-roles, turn-lawful, not-both, NoEntry, no-quiet, one-quiet, PlacedHold, HoldSchedule, with_holds, quiet_after, IsChildCable, IsAcyclic, IsContested, ResetsAreDone}
+use Rattle.convergence.proofs.Common.{End, Wiring, far, Holds, IsClosed, NodeState, beat, is_resetting, is_port, IsValid, PortNode, CableWorld, turn_at, turn, is_before_tree, leads_down, IsLawful, cabling-after, node-after, came, side, side-node, child-if, cable-connected, hearing, ticking, late-roles, turn-lawful, not-both, NoEntry, no-quiet, one-quiet, PlacedHold, HoldSchedule, with_holds, quiet_after, IsChildCable, IsAcyclic, IsContested, ResetsAreDone}
 use Rattle.cable_world.proofs.Lemmas.{holds-lawful}
 use Rattle.convergence.proofs.turns.Cables.{joined-of}
 use Rattle.convergence.specs.Rivals.{IsBelow}
 use Rattle.convergence.proofs.turns.CalmTurns.{Calmly, calmly, heard_by, turn-done, done-calm}
 use Rattle.convergence.proofs.coins.StaysContested.{rivals-of, turn-contested, holds-contested}
 use Rattle.convergence.proofs.coins.ContestsInTurns.{down-after}
-use Rattle.convergence.proofs.turns.Moves.{tick-late}
+use Rattle.convergence.proofs.turns.Moves.{beat-late}
 use Rattle.convergence.proofs.resets.ResetsDone.{no-resets}
 use Rattle.convergence.proofs.coins.Rivals.{Rivals}
 use Rattle.convergence.proofs.turns.Roles.{parent-late, child-late}
 use Rattle.convergence.proofs.ranks.RanksInTurns.{turn-acyclic}
 use Rattle.convergence.proofs.ranks.StaysAcyclic.{holds-acyclic}
-use Rattle.convergence.proofs.turns.Weights.{weight, tick-weight}
+use Rattle.convergence.proofs.turns.Weights.{weight, beat-weight}
 
 pub record Grown (w : CableWorld) (set : ℕ) : Type 0 where
   pub lawful : IsLawful w
@@ -78,7 +78,7 @@ module _ (w : CableWorld) (set : ℕ) (g : Grown w set) where
       is_before_tree y.state.view.phase ≡ false
   late-turn k y h at =
       let c = calm-turn k y at in
-      ap (λ (s : NodeState). is_before_tree s.view.phase) c.is ∙ tick-late (coin c.node.coins) (heard_by w k c.node) (ap is_before_tree c.heard.phase ∙ g.late k c.node h c.at)
+      ap (λ (s : NodeState). is_before_tree s.view.phase) c.is ∙ beat-late (beat c.node) (heard_by w k c.node) (ap is_before_tree c.heard.phase ∙ g.late k c.node h c.at)
 
   pub grown-turn : Grown (turn w) set
   grown-turn = record {
@@ -102,7 +102,7 @@ module _ (w : CableWorld) (set : ℕ) (g : Grown w set) where
       go None e = omega arith
       go (Some y) e =
           let c = calm-turn k y e in
-          let less = tick-weight (coin c.node.coins) (heard_by w k c.node) (ap is_before_tree c.heard.phase ∙ g.late k c.node h c.at) in
+          let less = beat-weight (beat c.node) (heard_by w k c.node) (ap is_before_tree c.heard.phase ∙ g.late k c.node h c.at) in
           omega (arith, less, ap weight c.is, ap weight_in c.at, same (heard_by w k c.node) c.node.state c.heard.phase c.heard.parent)
         where
           same :

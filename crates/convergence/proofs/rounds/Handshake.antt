@@ -1,15 +1,19 @@
--- A node in T1 without child in T1 leaves T1 within 2d turns: its children see Child after d turns
--- and go on, and it sees
--- their Idle d turns later.
+-- A node in T1 without child in T1 leaves T1 within 2 d turns, or 2 (d + 1) where clocks miss
+-- turns: its children see Child after d turns and go on with their next tick, and it sees their Idle
+-- d turns later.
 use Rattle.std.proofs.Common.{◌≡◌, ◌⊎◌, inl, inr, ℕ, zero, suc, ◌+◌, ◌-◌, ◌≤◌, Bool, true, false, Option, Some, None, is_some, slice_get, refl, sym, ◌∙◌, ap, subst, arith, add-one, true≢false}
 use Rattle.std.proofs.lemmas.Bool.{false_from_ne_true}
-use Rattle.convergence.proofs.Common.{End, Wiring, far, Holds, end_at, Phase, NodeState, coin, is_idle, is_child, is_port, is_connected, tick, PortNode, CableWorld, level_sent, level_shown, leads_down, is_before_tree, is_shaking, after-delay, cable-connected, some-same, no-quiet, quiet-then, after-cabling, HoldSchedule, holds_after, quiet_after, IsChildCable, contrary}
+use Rattle.convergence.proofs.Common.{End, Wiring, far, Holds, end_at, Phase, NodeState, beat, is_idle, is_child, is_port, is_connected, on_beat, PortNode, CableWorld, level_sent, level_shown, leads_down, is_before_tree, is_shaking, after-delay, cable-connected, some-same, no-quiet, quiet-then, after-cabling, HoldSchedule, holds_after, quiet_after, IsChildCable, contrary}
 use Rattle.port_state.specs.declared.signal.Phase.TheVariants as phase
 use Rattle.convergence.proofs.turns.CalmTurns.{Calmly, heard_by}
 use Rattle.convergence.proofs.turns.Flush.{Tells, Shown, flush}
 use Rattle.convergence.proofs.rounds.Grown.{Grown, weight_in, child-cable, below-cable, parent-only, grown-after, cable-after, weight-step, weight-after, calm-at}
-use Rattle.convergence.proofs.turns.Moves.{all_idle, tick-child-shake}
-use Rattle.convergence.proofs.turns.Weights.{weigh, weight, still-shakes, tick-child-shake-by, tick-parent-shake-by, tick-accepted, Busy, some-busy}
+use Rattle.convergence.proofs.turns.Moves.{all_idle}
+use Rattle.port_state.specs.Clock.{misses}
+use Rattle.cable_world.proofs.Lemmas.{beat-misses}
+use Rattle.convergence.proofs.turns.TwoTurns.{Misses, not-missed}
+use Rattle.convergence.specs.Turns.{slack}
+use Rattle.convergence.proofs.turns.Weights.{weigh, weight, still-shakes, beat-child-shake-by, beat-parent-shake-by, beat-accepted, beat-goes-on, Busy, some-busy}
 use Rattle.convergence.proofs.turns.PhaseFacts.{start-late, not-shake}
 
 shake-two : (f : Phase) → is_shaking f ≡ true → (f ≡ phase.ChildShake) ⊎ (f ≡ phase.ParentShake)
@@ -123,7 +127,7 @@ module _ (hs : HoldSchedule) (v : CableWorld) (set : ℕ) (g : Grown v set) (u :
             ((z : PortNode) → slice_get (later i).nodes b.node ≡ Some z →
             z.state.view.phase ≡ phase.ChildShake → ⊥)
             → ⊥
-        go none = elim (tick-child-shake-by (coin c.calm.node.coins) (heard_by (later i) b.node c.calm.node) (sym (ap (λ (z : NodeState). z.view.phase) c.calm.is) ∙ t)) [
+        go none = elim (beat-child-shake-by (beat c.calm.node) (heard_by (later i) b.node c.calm.node) (sym (ap (λ (z : NodeState). z.view.phase) c.calm.is) ∙ t)) [
           | inl f ↦ none c.calm.node c.calm.at (sym c.calm.heard.phase ∙ f)
           | inr f ↦ elim f [
             | inl f ↦ start-late (heard_by (later i) b.node c.calm.node).view.phase f c.late
@@ -131,28 +135,45 @@ module _ (hs : HoldSchedule) (v : CableWorld) (set : ℕ) (g : Grown v set) (u :
           ]
         ]
 
-    -- after d turns it isn't in T2 either
-    gone-on :
-        (i : ℕ) → v.delay ≤ i → C i → (y : PortNode) → slice_get (later i).nodes b.node ≡ Some y →
-        y.state.view.phase ≡ phase.ParentShake → ⊥
-    gone-on zero d c y at t = omega (arith, d, g.lawful.well_formed.some_delay)
-    gone-on (suc i) d c y at t = elim (tick-parent-shake-by (coin k.calm.node.coins) (heard_by (later i) b.node k.calm.node) (sym (ap (λ (z : NodeState). z.view.phase) k.calm.is) ∙ t)) [
-      | inl f ↦ not-ident y.state.view.phase
-          (ap (λ (z : NodeState). z.view.phase) k.calm.is ∙ tick-accepted (coin k.calm.node.coins) (heard_by (later i) b.node k.calm.node) b.port f k.parent k.on shown)
-          t
-      | inr f ↦ elim f [
+    -- if it is in T2 after d turns, its clock missed the turn
+    asks-missed :
+        (i : ℕ) → v.delay ≤ i + 1 → C (i + 1) → (y : PortNode) →
+        slice_get (later (i + 1)).nodes b.node ≡ Some y →
+        y.state.view.phase ≡ phase.ParentShake → (x : PortNode)
+        × (slice_get (later i).nodes b.node ≡ Some x) × (x.state.view.phase ≡ phase.ParentShake)
+        × (misses x.clock ≡ true)
+    asks-missed i d c y at t = elim (beat-parent-shake-by (beat k.calm.node) (heard_by (later i) b.node k.calm.node) (sym (ap (λ (z : NodeState). z.view.phase) k.calm.is) ∙ t)) [
+      | inl f ↦ elim (beat-accepted (beat k.calm.node) (heard_by (later i) b.node k.calm.node) b.port f k.parent k.on shown) [
+        | inl none ↦ (k.calm.node, k.calm.at, sym k.calm.heard.phase ∙ f, beat-misses k.calm.node none)
+        | inr s ↦ absurd (not-ident y.state.view.phase (ap (λ (z : NodeState). z.view.phase) k.calm.is ∙ s) t)
+      ]
+      | inr f ↦ absurd (elim f [
         | inl f ↦ never i k.calm.node k.calm.at (sym k.calm.heard.phase ∙ f)
         | inr f ↦ k.meets f
-      ]
+      ])
     ]
       where
         k : Child i y
-        k = child-of i y (subst (λ n. slice_get (quiet_after hs n v).nodes b.node ≡ Some y) (sym (add-one i)) at)
+        k = child-of i y at
 
         shown : is_child (level_shown (heard_by (later i) b.node k.calm.node) b.port) ≡ true
-        shown = ap is_child (sym (k.calm.ticks.shown b.port)) ∙ ap (λ (z : NodeState). is_child (level_shown z b.port)) (sym k.calm.is) ∙ shown-child (suc i) d c y at
+        shown = ap is_child (sym (k.calm.ticks.shown b.port)) ∙ ap (λ (z : NodeState). is_child (level_shown z b.port)) (sym k.calm.is) ∙ shown-child (i + 1) d c y at
 
-    tells-idle : (i : ℕ) → v.delay ≤ i → C i → Tells (later i) b is_idle
+    -- then it isn't in T2 either
+    gone-on :
+        (i : ℕ) → v.delay + slack v ≤ i → C i → (y : PortNode) → slice_get (later i).nodes b.node ≡ Some y →
+        y.state.view.phase ≡ phase.ParentShake → ⊥
+    gone-on i d c y at t =
+        let j : ℕ = i - 1 - slack v in
+        let z : j + slack v + 1 ≡ i = omega (arith, d, g.lawful.well_formed.some_delay) in
+        let last : C (j + slack v + 1) = subst C (sym z) c in
+        let second = asks-missed (j + slack v) (omega (arith, d, z)) last y (ap (λ n. slice_get (later n).nodes b.node) z ∙ at) t in
+        not-missed hs v g.lawful j b.node (record { node = second.0; at = second.1; missed = second.3 }) (λ one.
+        let x : j + slack v ≡ j + 1 = omega (arith, one) in
+        let first = asks-missed j (omega (arith, d, z, one)) (subst C x (was (j + slack v) last)) second.0 (ap (λ n. slice_get (later n).nodes b.node) (sym x) ∙ second.1) second.2 in
+        record { node = first.0; at = first.1; missed = first.3 })
+
+    tells-idle : (i : ℕ) → v.delay + slack v ≤ i → C i → Tells (later i) b is_idle
     tells-idle i d c y at =
         let k = cable i in
         let gi = grown-after hs v set g i in
@@ -161,25 +182,25 @@ module _ (hs : HoldSchedule) (v : CableWorld) (set : ℕ) (g : Grown v set) (u :
         (parent-only (later i) set gi b (end_at u p) y back at (ap (λ (n : PortNode). is_port n.state.view.parent b.port) (some-same y k.below (sym at ∙ k.below_at)) ∙ k.parent))
 
     abbrev D : ℕ → Type 0
-    D i = C (v.delay + i)
+    D i = C (v.delay + slack v + i)
 
     was-then : (i : ℕ) → D (i + 1) → D i
-    was-then i c = let z : v.delay + (i + 1) ≡ v.delay + i + 1 = omega arith in was (v.delay + i) (subst C z c)
+    was-then i c = let z : v.delay + slack v + (i + 1) ≡ v.delay + slack v + i + 1 = omega arith in was (v.delay + slack v + i) (subst C z c)
 
     -- the holds from there
     abbrev rest : HoldSchedule
-    rest = holds_after v.delay hs
+    rest = holds_after (v.delay + slack v) hs
 
-    then-tells : (i : ℕ) → D i → Tells (quiet_after rest i (later v.delay)) b is_idle
-    then-tells i c = subst (λ (w : CableWorld). Tells w b is_idle) (quiet-then hs v.delay i v) (tells-idle (v.delay + i) (omega arith) c)
+    then-tells : (i : ℕ) → D i → Tells (quiet_after rest i (later (v.delay + slack v))) b is_idle
+    then-tells i c = subst (λ (w : CableWorld). Tells w b is_idle) (quiet-then hs (v.delay + slack v) i v) (tells-idle (v.delay + slack v + i) (omega arith) c)
 
     -- d turns later u sees Idle
-    shown-idle : C (v.delay + v.delay) → Shown (later (v.delay + v.delay)) (end_at u p) is_idle
-    shown-idle c =
-        let gd = grown-after hs v set g v.delay in
-        let k = cable v.delay in
-        subst (λ (w : CableWorld). Shown w (end_at u p) is_idle) (sym (quiet-then hs v.delay v.delay v))
-        (flush rest (later v.delay) gd.lawful b (end_at u p) (gd.lawful.well_formed.cabling.both_ways (end_at u p) b k.joined) is_idle D was-then then-tells v.delay (omega (arith, after-delay hs v g.lawful v.delay)) c)
+    shown-idle : (i : ℕ) → v.delay ≤ i → C (v.delay + slack v + i) → Shown (later (v.delay + slack v + i)) (end_at u p) is_idle
+    shown-idle i d c =
+        let gd = grown-after hs v set g (v.delay + slack v) in
+        let k = cable (v.delay + slack v) in
+        subst (λ (w : CableWorld). Shown w (end_at u p) is_idle) (sym (quiet-then hs (v.delay + slack v) i v))
+        (flush rest (later (v.delay + slack v)) gd.lawful b (end_at u p) (gd.lawful.well_formed.cabling.both_ways (end_at u p) b k.joined) is_idle D was-then then-tells i (omega (arith, d, after-delay hs v g.lawful (v.delay + slack v))) c)
 
   -- ---- all children
 
@@ -216,20 +237,22 @@ module _ (hs : HoldSchedule) (v : CableWorld) (set : ℕ) (g : Grown v set) (u :
         ]
       ]
 
-  not-still : C (v.delay + v.delay) → ⊥
-  not-still c = go (tick-child-shake (coin h.node.coins) mid (h.heard.phase ∙ before j t.node h cj))
+  -- if it is in T1 even so, its clock missed the turn
+  still-missed :
+      (i : ℕ) → v.delay ≤ i → C (v.delay + slack v + i) → Misses hs v (v.delay + slack v + i - 1) u
+  still-missed i d c = go (beat-goes-on (beat h.node) mid (h.heard.phase ∙ before j t.node h cj))
     where
       j : ℕ
-      j = v.delay + v.delay - 1
+      j = v.delay + slack v + i - 1
 
-      z : j + 1 ≡ v.delay + v.delay
+      z : j + 1 ≡ v.delay + slack v + i
       z = omega (arith, g.lawful.well_formed.some_delay)
 
       cj : C j
       cj = was j (subst C (sym z) c)
 
-      t : Shakes (later (v.delay + v.delay)) u
-      t = there (v.delay + v.delay) c
+      t : Shakes (later (v.delay + slack v + i)) u
+      t = there (v.delay + slack v + i) c
 
       h : Calmly (later j) u t.node.state
       h = calm-at hs v set g j u t.node (ap (λ n. slice_get (quiet_after hs n v).nodes u) z ∙ t.at)
@@ -248,21 +271,29 @@ module _ (hs : HoldSchedule) (v : CableWorld) (set : ℕ) (g : Grown v set) (u :
               (sym k.on ∙ h.hears.cables k.port ∙ (gj.lawful.well_formed.nodes u h.node h.at).connected k.port ∙ ap (λ (c : Wiring). is_some (far c (end_at u k.port))) (after-cabling hs j v) ∙ ap is_some e)
           there-is (Some b) e =
               let down : leads_down s.node.state.view.ports k.port ≡ true = child-was k.port b e j cj h.node h.at (sym (h.heard.child k.port) ∙ k.child) in
-              let shown = shown-idle k.port b (child-cable v set g (end_at u k.port) b s.node e s.at down) c t.node t.at in
+              let shown = shown-idle k.port b (child-cable v set g (end_at u k.port) b s.node e s.at down) i d c t.node t.at in
               contrary shown (ap (λ (n : NodeState). is_idle (level_shown n k.port)) h.is ∙ ap is_idle (h.ticks.shown k.port) ∙ k.busy)
 
       go :
-          ((all_idle mid ≡ true)
-          × ((tick (coin h.node.coins) mid).state.view.phase ≡ phase.ParentShake))
-          ⊎ ((all_idle mid ≡ false) × ((tick (coin h.node.coins) mid).state.view.phase ≡ phase.ChildShake))
-          → ⊥
-      go (inl a) = not-shake t.node.state.view.phase (ap (λ (n : NodeState). n.view.phase) h.is ∙ a.1) t.shakes
-      go (inr a) = busy (some-busy mid a.0)
+          (beat h.node ≡ None)
+          ⊎ ((all_idle mid ≡ false) ⊎ ((on_beat (beat h.node) mid).state.view.phase ≡ phase.ParentShake)) →
+          Misses hs v (v.delay + slack v + i - 1) u
+      go (inl none) = record { node = h.node; at = h.at; missed = beat-misses h.node none }
+      go (inr (inl a)) = absurd (busy (some-busy mid a))
+      go (inr (inr a)) = absurd (not-shake t.node.state.view.phase (ap (λ (n : NodeState). n.view.phase) h.is ∙ a) t.shakes)
+
+  not-still : C (v.delay + slack v + (v.delay + slack v)) → ⊥
+  not-still c =
+      let j : ℕ = v.delay + slack v + v.delay - 1 in
+      let z : v.delay + slack v + (v.delay + slack v) - 1 ≡ j + slack v = omega (arith, g.lawful.well_formed.some_delay) in
+      not-missed hs v g.lawful j u (subst (λ n. Misses hs v n u) z (still-missed (v.delay + slack v) (omega arith) c)) (λ one.
+      let y : v.delay + slack v + (v.delay + slack v) ≡ v.delay + slack v + v.delay + 1 = omega (arith, one) in
+      still-missed v.delay (omega arith) (was (v.delay + slack v + v.delay) (subst C y c)))
 
   -- so it is lighter
   pub lighter :
-      weight_in (slice_get (quiet_after hs (v.delay + v.delay) v).nodes u) + 1 ≤ weight s.node.state
-  lighter = elim (less-or (weight_in (slice_get (later (v.delay + v.delay)).nodes u)) (weight s.node.state)) [
+      weight_in (slice_get (quiet_after hs (v.delay + slack v + (v.delay + slack v)) v).nodes u) + 1 ≤ weight s.node.state
+  lighter = elim (less-or (weight_in (slice_get (later (v.delay + slack v + (v.delay + slack v))).nodes u)) (weight s.node.state)) [
     | inl a ↦ a
     | inr a ↦ absurd (not-still a)
   ]

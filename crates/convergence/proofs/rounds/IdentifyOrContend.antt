@@ -1,21 +1,20 @@
 -- Where a component without loop knows its tree, it comes to self identify or to a contention, and
 -- stays there.
 use Rattle.std.proofs.Common.{◌≡◌, ◌⊎◌, inl, inr, ℕ, ◌+◌, ◌-◌, ◌*◌, ◌≤◌, true, false, length, refl, sym, ◌∙◌, ap, subst, arith}
-use Rattle.std.proofs.lemmas.Bool.{cases_lt}
-use Rattle.port_state.specs.declared.timing.Timing.{Timing}
-use Rattle.cable_world.proofs.Lemmas.{after-longest}
-use Rattle.convergence.proofs.Common.{End, Holds, IsComponent, IsCore, Phase, CableWorld, wire_of, turn, is_shaking, cabling-after, after-delay, after-length, one-quiet, quiet-then, after-cabling, HoldSchedule, holds_after, quiet_after, AreRivals, AreMutual, AreIdentifying, TreesAreDecided}
+use Rattle.convergence.proofs.Common.{End, Holds, IsComponent, IsCore, Phase, CableWorld, wire_of, turn, is_shaking, cabling-after, after-delay, after-length, quiet-then, after-cabling, HoldSchedule, holds_after, quiet_after, AreRivals, AreMutual, AreIdentifying, TreesAreDecided}
 use Rattle.cabling.specs.NodeSet.{IsEmpty}
 use Rattle.port_state.specs.declared.signal.Phase.TheVariants as phase
 use Rattle.cable_world.specs.Outcome.{HasNoLoop}
 use Rattle.convergence.specs.Kept.{IsGrown}
-use Rattle.convergence.specs.Turns.{decision_turns}
+use Rattle.std.proofs.lemmas.Nat.{mul-le}
+use Rattle.convergence.specs.Turns.{slack, seen_turns, decision_turns}
+use Rattle.convergence.proofs.turns.TwoTurns.{slack-later}
 use Rattle.convergence.specs.Milestones.{HasContention, IdentifyOrContend}
 use Rattle.convergence.proofs.rounds.ThirtyThreeRounds.{contend, contention-turn, contention-after, rounds}
 use Rattle.convergence.proofs.rounds.Grown.{Grown, grown-after}
 use Rattle.convergence.proofs.rounds.Rooted.{component-after, identify-after, rooted-ends}
 use Rattle.convergence.proofs.rounds.RivalSteps.{AreUp}
-use Rattle.convergence.proofs.rounds.Rounds.{At}
+use Rattle.convergence.proofs.rounds.Rounds.{At, Bounds, bounds-after}
 use Rattle.convergence.proofs.rounds.Shaken.{NoneShakes, is_unrooted, search-set, shaken-out, rival-of, all-identify, identify-turn}
 use Rattle.convergence.proofs.turns.Weights.{is_child_shake}
 
@@ -44,11 +43,11 @@ rivals-up w set g none a b in_a m = record {
     y-quiet = none b.node m.ends.other (g.closed a b m.ends.joined in_a) m.ends.other_at
 
     stand :
-        AreRivals w.delay m.ends.near.state a.port (wire_of w a).signals m.ends.other.state b.port (wire_of w b).signals
+        AreRivals w.delay m.ends.near.state m.ends.near.clock a.port (wire_of w a).signals m.ends.other.state m.ends.other.clock b.port (wire_of w b).signals
     stand = (g.contested.cables a b m.ends.near m.ends.other m.ends.joined m.ends.near_at m.ends.other_at).rivals m.here m.there
 
     go :
-        AreRivals w.delay m.ends.near.state a.port (wire_of w a).signals m.ends.other.state b.port (wire_of w b).signals →
+        AreRivals w.delay m.ends.near.state m.ends.near.clock a.port (wire_of w a).signals m.ends.other.state m.ends.other.clock b.port (wire_of w b).signals →
         ((m.ends.near.state.view.phase ≡ phase.ParentShake)
         ⊎ (m.ends.near.state.view.phase ≡ phase.Contend))
         × ((m.ends.other.state.view.phase ≡ phase.ParentShake) ⊎ (m.ends.other.state.view.phase ≡ phase.Contend))
@@ -58,13 +57,14 @@ rivals-up w set g none a b in_a m = record {
     go (inr (inr (inr h))) = (inl (shake-parent m.ends.near.state.view.phase h.there x-quiet), inr h.here)
 
 -- within so many turns
-abbrev most : ℕ → ℕ → ℕ → ℕ
-most n d t = 3 * n * (d + d) + (33 * (t + 2 * d) + (t + (t + 2 * d))) + (3 * n * (d + d) + 1)
+-- for n nodes, where a level is seen in d turns, a wait takes t, and clocks have a slack of s
+abbrev most : ℕ → ℕ → ℕ → ℕ → ℕ
+most n d t s = 3 * n * (d + d) + (33 * (t + 2 * d) + (t + (t + 2 * d))) + (3 * n * (d + d) + 1 + s)
 
 settles :
     (hs : HoldSchedule) (v : CableWorld) (set node : ℕ) → Grown v set →
     IsComponent v.cabling node set →
-    HasNoLoop v set → (i : ℕ) × (i ≤ most (length v.nodes) v.delay v.longest.long)
+    HasNoLoop v set → (i : ℕ) × (i ≤ most (length v.nodes) (seen_turns v) v.longest.long (slack v))
     × IdentifyOrContend (quiet_after hs i v) set
 settles hs v set node g whole free =
     let s = shaken-out set hs v g in
@@ -72,17 +72,17 @@ settles hs v set node g whole free =
     let gw : Grown w set = grown-after hs v set g s.0 in
     let rest : HoldSchedule = holds_after s.0 hs in
     elim (search-set set is_unrooted w) [
-      | inl none ↦ (s.0 + 1, omega (arith, s.1), inl (subst (λ (u : CableWorld). AreIdentifying u set) (sym (one-quiet hs s.0 v)) (all-identify w set gw s.2 none)))
+      | inl none ↦ (s.0 + (slack w + 1), omega (arith, s.1, slack-later hs v g.lawful s.0), inl (subst (λ (u : CableWorld). AreIdentifying u set) (sym (quiet-then hs s.0 (slack w + 1) v)) (all-identify w set gw s.2 rest none)))
       | inr f ↦
           let m = rival-of w set gw s.2 f.0 f.1 in
           let up = rivals-up w set gw s.2 m.0 m.1 (subst (Holds set) (sym m.2) f.1.holds) m.3 in
           let d : w.delay ≡ v.delay = after-delay hs v g.lawful s.0 in
-          let long : w.longest.long ≡ v.longest.long = ap (λ (t : Timing). t.long) (after-longest hs v g.lawful s.0) in
-          elim (rounds set m.0 m.1 rest 33 0 (omega arith) w gw up) [
+          let f : Bounds v.longest.long (slack v) w = bounds-after hs v set g v.longest.long (slack v) (record { long = omega arith; few = omega arith }) s.0 in
+          elim (rounds set v.longest.long (slack v) m.0 m.1 rest 33 0 (omega arith) w gw f up) [
             | inl t ↦
                 let same : quiet_after hs (s.0 + t.0) v ≡ quiet_after rest t.0 w = quiet-then hs s.0 t.0 v in (
                   s.0 + t.0,
-                  omega (arith, s.1, t.1, d, long),
+                  omega (arith, s.1, t.1, d),
                   inr (subst (λ (u : CableWorld). HasContention u set) (sym same)
                       (contend (quiet_after rest t.0 w) set (grown-after rest w set gw t.0) m.0 m.1 (let z : 0 + 33 ≡ 33 = omega arith in subst (λ k. At (quiet_after rest t.0 w) set m.0 m.1 (AreUp m.0.port m.1.port k)) z t.2)
                       (subst (λ (u : CableWorld). HasNoLoop u set) same (no-loop-after (s.0 + t.0))))),
@@ -93,7 +93,8 @@ settles hs v set node g whole free =
                 let e = rooted-ends (holds_after t.0 rest) set u gu node (component-after rest set w node t.0 (component-after hs set v node s.0 whole)) t.2 in
                 let z : s.0 + (t.0 + e.0) ≡ s.0 + (t.0 + e.0) = refl in (
                   s.0 + (t.0 + e.0),
-                  sums (length v.nodes) (length u.nodes) v.delay u.delay w.delay v.longest.long w.longest.long s.0 t.0 e.0 (after-length rest w gw.lawful t.0 ∙ after-length hs v g.lawful s.0) (after-delay rest w gw.lawful t.0 ∙ d) d long s.1 t.1 e.1,
+                  sums (length v.nodes) (length u.nodes) (seen_turns v) (seen_turns u) (w.delay + slack v) v.longest.long (slack v) (slack u) s.0 t.0 e.0 (after-length rest w gw.lawful t.0 ∙ after-length hs v g.lawful s.0)
+                      (omega (arith, after-delay rest w gw.lawful t.0 ∙ d, slack-later rest w gw.lawful t.0, slack-later hs v g.lawful s.0)) (omega (arith, d)) (omega (arith, slack-later rest w gw.lawful t.0, slack-later hs v g.lawful s.0)) s.1 t.1 e.1,
                   inl (subst (λ (u : CableWorld). AreIdentifying u set) (sym (quiet-then hs s.0 (t.0 + e.0) v)) (subst (λ (u : CableWorld). AreIdentifying u set) (sym (quiet-then rest t.0 e.0 w)) e.2)),
                 )
           ]
@@ -103,18 +104,18 @@ settles hs v set node g whole free =
     no-loop-after i = record { core = free.core; is_core = subst (λ c. IsCore c set free.core) (sym (after-cabling hs i v)) free.is_core; empty = free.empty }
 
     sums :
-        (n m d e c t u i j k : ℕ) → m ≡ n → e ≡ d → c ≡ d → u ≡ t → i ≤ 3 * n * (d + d) →
-        j ≤ 33 * (u + 2 * c) + (u + (u + 2 * c)) → k ≤ 3 * m * (e + e) + 1 →
-        i + (j + k) ≤ most n d t
-    sums n m d e c t u i j k same delay delay_too long h l q =
-        let q_too : k ≤ 3 * n * (d + d) + 1 = subst (λ a. k ≤ 3 * a * (d + d) + 1) same (subst (λ a. k ≤ 3 * m * (a + a) + 1) delay q) in
-        omega (arith, h, l, delay_too, long, q_too)
+        (n m d e c t s q i j k : ℕ) → m ≡ n → e ≤ d → c ≡ d → q ≤ s → i ≤ 3 * n * (d + d) →
+        j ≤ 33 * (t + 2 * c) + (t + (t + 2 * c)) → k ≤ 3 * m * (e + e) + 1 + q →
+        i + (j + k) ≤ most n d t s
+    sums n m d e c t s q i j k same seen seen_too less h l r =
+        let first : 3 * m * (e + e) ≤ 3 * n * (d + d) = mul-le (3 * m) (e + e) (3 * n) (d + d) (omega (arith, same)) (omega (arith, seen)) in
+        omega (arith, h, l, seen_too, r, first, less)
 
 -- and stays
 settled :
     (hs : HoldSchedule) (v : CableWorld) (set node : ℕ) → Grown v set →
     IsComponent v.cabling node set →
-    HasNoLoop v set → (i : ℕ) → most (length v.nodes) v.delay v.longest.long ≤ i →
+    HasNoLoop v set → (i : ℕ) → most (length v.nodes) (seen_turns v) v.longest.long (slack v) ≤ i →
     IdentifyOrContend (quiet_after hs i v) set
 settled hs v set node g whole free i late =
     let s = settles hs v set node g whole free in
@@ -131,8 +132,8 @@ settled hs v set node g whole free i late =
 -- ---- the share
 
 share :
-    (n d t : ℕ) → most n d t ≤ 12 * (n * d) + 33 * (t + 2 * d) + (t + (t + 2 * d)) + 1
-share n d t =
+    (n d t s : ℕ) → most n d t s ≤ 12 * (n * d) + 33 * (t + 2 * d) + (t + (t + 2 * d)) + 1 + s
+share n d t s =
     let q : 3 * n * (d + d) ≡ 6 * (n * d) = grind arith in
     omega (arith, q)
 
@@ -159,7 +160,7 @@ decided-after hs w k g late node set core whole is empty =
     let comp : IsComponent w.cabling node set = subst (λ c. IsComponent c node set) same whole in
     let is_core : IsCore w.cabling set core = subst (λ c. IsCore c set core) same is in
     settled hs w set node (grown-of w node set core g comp is_core empty) comp (record { core = core; is_core = is_core; empty = empty }) k
-    (omega (arith, share (length w.nodes) w.delay w.longest.long, late))
+    (omega (arith, share (length w.nodes) (seen_turns w) w.longest.long (slack w), late))
 
 -- a turn keeps it
 pub decided-turn : (w : CableWorld) → IsGrown w → TreesAreDecided w → TreesAreDecided (turn w)

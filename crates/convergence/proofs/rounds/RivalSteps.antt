@@ -2,12 +2,13 @@
 use Rattle.std.proofs.Common.{◌≡◌, ◌⊎◌, inl, inr, ℕ, ◌+◌, ◌*◌, ◌<◌, ◌≤◌, true, false, None, refl, sym, ◌∙◌, ap, arith, true≢false}
 use Rattle.std.specs.Prelude.{min}
 use Rattle.port_state.specs.declared.signal.Level.TheVariants as level
-use Rattle.convergence.proofs.Common.{Phase, NodeState, is_parent, is_port, is_shaking, level_shown, NoEntry, risen, Side, hearing, ticking, HaveMet, AreRivals}
+use Rattle.convergence.proofs.Common.{Phase, NodeState, is_parent, is_port, is_shaking, level_shown, NoEntry, Side, hearing, ticking, HaveMet, AreRivals}
 use Rattle.port_state.specs.declared.signal.Phase.TheVariants as phase
-use Rattle.convergence.proofs.turns.Moves.{Drew}
+use Rattle.port_state.specs.Clock.{Clock, clock_after}
+use Rattle.convergence.proofs.turns.Moves.{Drew, coin_of}
 use Rattle.convergence.proofs.coins.Rivals.{Rivals, swapped, other-level, no-contend, up-mid, drew-sees, again-sees, draws-not, asks-on}
-use Rattle.convergence.proofs.coins.Stands.{shaken, fought, waited-timer, over-timer, contend-none, long-undrawn}
-use Rattle.convergence.proofs.turns.Weights.{tick-child-shake-by}
+use Rattle.convergence.proofs.coins.Stands.{shaken, fought, near-most, HasWaited, MissesSlowly, waited-most, waited-least, waited-on, over-timer, contend-none, long-undrawn}
+use Rattle.convergence.proofs.turns.Weights.{beat-child-shake-by}
 use Rattle.convergence.proofs.turns.PhaseFacts.{not-shake}
 
 shake-parent :
@@ -28,41 +29,41 @@ pub record Stands (p : ℕ) (m : ℕ) (x : NodeState) : Type 0 where
   pub draws : m ≤ x.view.draws
 
 -- both in T3 for so many turns
-pub record BothWait (i p q m : ℕ) (x y : NodeState) : Type 0 where
+pub record BothWait (most slack i p q m : ℕ) (x : NodeState) (c : Clock) (y : NodeState) (e : Clock) : Type 0 where
   pub here : Stands p m x
   pub there : Stands q m y
   pub contends : x.view.phase ≡ phase.Contend
   pub contends_too : y.view.phase ≡ phase.Contend
-  pub waited : i ≤ x.view.timer
-  pub waited_too : i ≤ y.view.timer
+  pub waited : HasWaited most slack i x c
+  pub waited_too : HasWaited most slack i y e
 
 -- the first is, for d turns at least, and the other asks
-pub record OneWaits (d i p q m : ℕ) (x y : NodeState) : Type 0 where
+pub record OneWaits (d most slack i p q m : ℕ) (x : NodeState) (c : Clock) (y : NodeState) (e : Clock) : Type 0 where
   pub here : Stands p m x
   pub there : Stands q m y
   pub contends : x.view.phase ≡ phase.Contend
   pub asks : y.view.phase ≡ phase.ParentShake
   pub long : d ≤ x.view.timer
-  pub waited : i ≤ x.view.timer
+  pub waited : HasWaited most slack i x c
 
 -- both ask
-pub record BothAsk (p q m : ℕ) (x y : NodeState) : Type 0 where
+pub record BothAsk (p q m : ℕ) (x : NodeState) (c : Clock) (y : NodeState) (e : Clock) : Type 0 where
   pub here : Stands p m x
   pub there : Stands q m y
   pub asks : x.view.phase ≡ phase.ParentShake
   pub asks_too : y.view.phase ≡ phase.ParentShake
 
 -- the first drew once more, and is shown that the other asks
-pub record OneAhead (i p q m : ℕ) (x y : NodeState) : Type 0 where
+pub record OneAhead (most slack i p q m : ℕ) (x : NodeState) (c : Clock) (y : NodeState) (e : Clock) : Type 0 where
   pub here : Stands p (m + 1) x
   pub there : Stands q m y
   pub contends : x.view.phase ≡ phase.Contend
   pub asks : y.view.phase ≡ phase.ParentShake
   pub shown : level_shown x p ≡ level.Parent
-  pub waited : i ≤ x.view.timer
+  pub waited : HasWaited most slack i x c
 
 -- in T2 or T3
-pub record AreUp (p q m : ℕ) (x y : NodeState) : Type 0 where
+pub record AreUp (p q m : ℕ) (x : NodeState) (c : Clock) (y : NodeState) (e : Clock) : Type 0 where
   pub here : Stands p m x
   pub there : Stands q m y
   pub first : (x.view.phase ≡ phase.ParentShake) ⊎ (x.view.phase ≡ phase.Contend)
@@ -78,7 +79,7 @@ module _
     pub draws : (ticking x).state.view.draws ≡ x.node.view.draws
 
   record Begun : Type 0 where
-    pub drew : Drew x.coin (hearing x).state (ticking x).state
+    pub drew : Drew (coin_of x.beat) (hearing x).state (ticking x).state
     pub up : is_port (ticking x).state.view.parent x.port ≡ true
     pub draws : (ticking x).state.view.draws ≡ min (x.node.view.draws + 1) 65535
     pub shown : level_shown (ticking x).state x.port ≡ level.Parent
@@ -86,7 +87,10 @@ module _
   record OnWait : Type 0 where
     pub phase : (ticking x).state.view.phase ≡ phase.Contend
     pub up : is_port (ticking x).state.view.parent x.port ≡ true
-    pub timer : x.node.view.timer + 1 ≤ (ticking x).state.view.timer
+    pub timer : x.node.view.timer ≤ (ticking x).state.view.timer
+    pub waited :
+        (most slack i : ℕ) → MissesSlowly most slack x → HasWaited most slack i x.node x.clock →
+        HasWaited most slack (i + 1) (ticking x).state (clock_after x.clock)
     pub draws : (ticking x).state.view.draws ≡ x.node.view.draws
 
   record OnAsk : Type 0 where
@@ -100,7 +104,7 @@ module _
   asked : x.node.view.phase ≡ phase.ParentShake → Held ⊎ Begun
   asked t = elim (shaken d x y r ux uy hx (ap is_shaking t)) [
     | inl s ↦ inl (record {
-      phase = shake-parent (ticking x).state.view.phase s.phase (λ c. elim (tick-child-shake-by x.coin (hearing x).state c) [
+      phase = shake-parent (ticking x).state.view.phase s.phase (λ c. elim (beat-child-shake-by x.beat (hearing x).state c) [
         | inl e ↦ not-shake x.node.view.phase t (sym hx.phase ∙ e)
         | inr e ↦ elim e [ inl e ↦ apart-two x.node.view.phase t (sym hx.phase ∙ e) | inr e ↦ apart-three x.node.view.phase t (sym hx.phase ∙ e) ]
       ]);
@@ -122,7 +126,8 @@ module _
     | inl w ↦ inl (record {
       phase = w.phase;
       up = ap (λ o. is_port o x.port) w.parent ∙ up-mid d x y r hx ux;
-      timer = let h = waited-timer d x y r ux uy hx w in rises x.node.view.timer (ticking x).state.view.timer x.node.view.wait h.0 h.1 wait-most;
+      timer = (waited-least d x y r ux uy hx t w).0;
+      waited = waited-on d x y r ux uy hx t w (contend-none d x y r ux uy hx hy t).wait;
       draws = (contend-none d x y r ux uy hx hy t).draws;
     })
     | inr w ↦ elim w [
@@ -136,20 +141,12 @@ module _
       }))
     ]
   ]
-    where
-      wait-most : x.node.view.wait ≤ 65535
-      wait-most = elim (r.near.shows t) [
-        | inl a ↦ omega (arith, a, r.pair.near.timing.apart, r.pair.near.timing.long_most)
-        | inr a ↦ omega (arith, a, r.pair.near.timing.long_most)
-      ]
-
-      rises : (t u w : ℕ) → u ≡ risen t → risen t < w → w ≤ 65535 → t + 1 ≤ u
-      rises t u w e l m = grind (arith, e, l, m)
 
 module _
     (d : ℕ) (x y : Side) (r : Rivals d x y) (ux : is_port x.node.view.parent x.port ≡ true)
     (uy : is_port y.node.view.parent y.port ≡ true) (hx : NoEntry x.node (hearing x))
-    (hy : NoEntry y.node (hearing y)) where
+    (hy : NoEntry y.node (hearing y)) (most slack : ℕ) (slow_x : MissesSlowly most slack x)
+    (slow_y : MissesSlowly most slack y) where
   sw : Rivals d y x
   sw = swapped d x y r
 
@@ -158,6 +155,12 @@ module _
 
   abbrev Y : NodeState
   Y = (ticking y).state
+
+  abbrev CX : Clock
+  CX = clock_after x.clock
+
+  abbrev CY : Clock
+  CY = clock_after y.clock
 
   abbrev Rooted : Type 0
   Rooted = (X.view.parent ≡ None) ⊎ (Y.view.parent ≡ None)
@@ -168,16 +171,16 @@ module _
   keep : (m n k : ℕ) → m ≤ n → k ≡ n → m ≤ k
   keep m n k h e = omega (arith, h, e)
 
-  pub step-both-wait : (i m : ℕ) → BothWait i x.port y.port m x.node y.node →
-      (BothWait (i + 1) x.port y.port m X Y
-      ⊎ (OneWaits d (i + 1) x.port y.port m X Y ⊎ OneWaits d (i + 1) y.port x.port m Y X))
-      ⊎ (BothAsk x.port y.port m X Y ⊎ Rooted)
+  pub step-both-wait : (i m : ℕ) → BothWait most slack i x.port y.port m x.node x.clock y.node y.clock →
+      (BothWait most slack (i + 1) x.port y.port m X CX Y CY
+      ⊎ (OneWaits d most slack (i + 1) x.port y.port m X CX Y CY ⊎ OneWaits d most slack (i + 1) y.port x.port m Y CY X CX))
+      ⊎ (BothAsk x.port y.port m X CX Y CY ⊎ Rooted)
   step-both-wait i m s = go (waited d x y r ux uy hx hy s.contends) (waited d y x sw uy ux hy hx s.contends_too)
     where
-      met : HaveMet d x.node y.node
+      met : HaveMet d x.node x.clock y.node y.clock
       met = both (r.here.rivals ux uy)
         where
-          both : AreRivals d x.node x.port x.wire y.node y.port y.wire → HaveMet d x.node y.node
+          both : AreRivals d x.node x.clock x.port x.wire y.node y.clock y.port y.wire → HaveMet d x.node x.clock y.node y.clock
           both (inl a) = absurd (no-contend x.node.view.phase a.here s.contends)
           both (inr (inl m)) = m
           both (inr (inr (inl a))) = absurd (no-contend y.node.view.phase a.there s.contends_too)
@@ -186,9 +189,9 @@ module _
       go :
           OnWait d x y r ux uy hx hy ⊎ (OnAsk d x y r ux uy hx hy ⊎ (X.view.parent ≡ None)) →
           OnWait d y x sw uy ux hy hx ⊎ (OnAsk d y x sw uy ux hy hx ⊎ (Y.view.parent ≡ None)) →
-          (BothWait (i + 1) x.port y.port m X Y
-          ⊎ (OneWaits d (i + 1) x.port y.port m X Y ⊎ OneWaits d (i + 1) y.port x.port m Y X))
-          ⊎ (BothAsk x.port y.port m X Y ⊎ Rooted)
+          (BothWait most slack (i + 1) x.port y.port m X CX Y CY
+          ⊎ (OneWaits d most slack (i + 1) x.port y.port m X CX Y CY ⊎ OneWaits d most slack (i + 1) y.port x.port m Y CY X CX))
+          ⊎ (BothAsk x.port y.port m X CX Y CY ⊎ Rooted)
       go (inr (inr a)) b = inr (inr (inl a))
       go a (inr (inr b)) = inr (inr (inr b))
       go (inl a) (inl b) = inl (inl (record {
@@ -196,24 +199,24 @@ module _
         there = record { up = b.up; draws = keep m y.node.view.draws Y.view.draws s.there.draws b.draws };
         contends = a.phase;
         contends_too = b.phase;
-        waited = omega (arith, s.waited, a.timer);
-        waited_too = omega (arith, s.waited_too, b.timer);
+        waited = a.waited most slack i slow_x s.waited;
+        waited_too = b.waited most slack i slow_y s.waited_too;
       }))
       go (inl a) (inr (inl b)) = inl (inr (inl (record {
         here = record { up = a.up; draws = keep m x.node.view.draws X.view.draws s.here.draws a.draws };
         there = record { up = b.up; draws = keep m y.node.view.draws Y.view.draws s.there.draws b.draws };
         contends = a.phase;
         asks = b.phase;
-        long = omega (arith, a.timer, b.over, met.far, r.pair.some_delay);
-        waited = omega (arith, s.waited, a.timer);
+        long = omega (arith, a.timer, b.over, near-most d y.node x.node x.clock met.far);
+        waited = a.waited most slack i slow_x s.waited;
       })))
       go (inr (inl a)) (inl b) = inl (inr (inr (record {
         here = record { up = b.up; draws = keep m y.node.view.draws Y.view.draws s.there.draws b.draws };
         there = record { up = a.up; draws = keep m x.node.view.draws X.view.draws s.here.draws a.draws };
         contends = b.phase;
         asks = a.phase;
-        long = omega (arith, b.timer, a.over, met.near, r.pair.some_delay);
-        waited = omega (arith, s.waited_too, b.timer);
+        long = omega (arith, b.timer, a.over, near-most d x.node y.node y.clock met.near);
+        waited = b.waited most slack i slow_y s.waited_too;
       })))
       go (inr (inl a)) (inr (inl b)) = inr (inl (record {
         here = record { up = a.up; draws = keep m x.node.view.draws X.view.draws s.here.draws a.draws };
@@ -223,14 +226,14 @@ module _
       }))
 
   pub step-one-waits :
-      (i m : ℕ) → OneWaits d i x.port y.port m x.node y.node → OneWaits d (i + 1)
-      x.port y.port m X Y ⊎ (BothAsk x.port y.port m X Y ⊎ Rooted)
+      (i m : ℕ) → OneWaits d most slack i x.port y.port m x.node x.clock y.node y.clock → OneWaits d most slack (i + 1)
+      x.port y.port m X CX Y CY ⊎ (BothAsk x.port y.port m X CX Y CY ⊎ Rooted)
   step-one-waits i m s = go (waited d x y r ux uy hx hy s.contends) (asked d y x sw uy ux hy hx s.asks)
     where
       go :
           OnWait d x y r ux uy hx hy ⊎ (OnAsk d x y r ux uy hx hy ⊎ (X.view.parent ≡ None)) →
-          Held d y x sw uy ux hy hx ⊎ Begun d y x sw uy ux hy hx → OneWaits d (i + 1)
-          x.port y.port m X Y ⊎ (BothAsk x.port y.port m X Y ⊎ Rooted)
+          Held d y x sw uy ux hy hx ⊎ Begun d y x sw uy ux hy hx → OneWaits d most slack (i + 1)
+          x.port y.port m X CX Y CY ⊎ (BothAsk x.port y.port m X CX Y CY ⊎ Rooted)
       go a (inr b) = absurd (long-undrawn d x y r ux uy s.contends s.long hy b.drew)
       go (inr (inr a)) (inl b) = inr (inr (inl a))
       go (inl a) (inl b) = inl (record {
@@ -239,7 +242,7 @@ module _
         contends = a.phase;
         asks = b.phase;
         long = omega (arith, s.long, a.timer);
-        waited = omega (arith, s.waited, a.timer);
+        waited = a.waited most slack i slow_x s.waited;
       })
       go (inr (inl a)) (inl b) = inr (inl (record {
         here = record { up = a.up; draws = keep m x.node.view.draws X.view.draws s.here.draws a.draws };
@@ -248,16 +251,16 @@ module _
         asks_too = b.phase;
       }))
 
-  pub step-both-ask : (m : ℕ) → m ≤ 64 → BothAsk x.port y.port m x.node y.node →
-      BothAsk x.port y.port m X Y
-      ⊎ (AreUp x.port y.port (m + 1) X Y ⊎ (OneAhead 0 x.port y.port m X Y ⊎ OneAhead 0 y.port x.port m Y X))
+  pub step-both-ask : (m : ℕ) → m ≤ 64 → BothAsk x.port y.port m x.node x.clock y.node y.clock →
+      BothAsk x.port y.port m X CX Y CY
+      ⊎ (AreUp x.port y.port (m + 1) X CX Y CY ⊎ (OneAhead most slack 0 x.port y.port m X CX Y CY ⊎ OneAhead most slack 0 y.port x.port m Y CY X CX))
   step-both-ask m small s = go (asked d x y r ux uy hx hy s.asks) (asked d y x sw uy ux hy hx s.asks_too)
     where
       go :
           Held d x y r ux uy hx hy ⊎ Begun d x y r ux uy hx hy →
           Held d y x sw uy ux hy hx ⊎ Begun d y x sw uy ux hy hx →
-          BothAsk x.port y.port m X Y
-          ⊎ (AreUp x.port y.port (m + 1) X Y ⊎ (OneAhead 0 x.port y.port m X Y ⊎ OneAhead 0 y.port x.port m Y X))
+          BothAsk x.port y.port m X CX Y CY
+          ⊎ (AreUp x.port y.port (m + 1) X CX Y CY ⊎ (OneAhead most slack 0 x.port y.port m X CX Y CY ⊎ OneAhead most slack 0 y.port x.port m Y CY X CX))
       go (inl a) (inl b) = inl (record {
         here = record { up = a.up; draws = keep m x.node.view.draws X.view.draws s.here.draws a.draws };
         there = record { up = b.up; draws = keep m y.node.view.draws Y.view.draws s.there.draws b.draws };
@@ -276,7 +279,7 @@ module _
         contends = a.drew.phase;
         asks = b.phase;
         shown = a.shown;
-        waited = omega arith;
+        waited = inl (omega arith);
       })))
       go (inl a) (inr b) = inr (inr (inr (record {
         here = record { up = b.up; draws = more m y.node.view.draws Y.view.draws s.there.draws small b.draws };
@@ -284,13 +287,13 @@ module _
         contends = b.drew.phase;
         asks = a.phase;
         shown = b.shown;
-        waited = omega arith;
+        waited = inl (omega arith);
       })))
 
   -- the other meets it while it began to wait lately; else it wins
   pub step-one-ahead :
-      (i m : ℕ) → m ≤ 64 → OneAhead i x.port y.port m x.node y.node → OneAhead (i + 1)
-      x.port y.port m X Y ⊎ (((i < d) × AreUp x.port y.port (m + 1) X Y) ⊎ Rooted)
+      (i m : ℕ) → m ≤ 64 → OneAhead most slack i x.port y.port m x.node x.clock y.node y.clock → OneAhead most slack (i + 1)
+      x.port y.port m X CX Y CY ⊎ (((i < d + slack) × AreUp x.port y.port (m + 1) X CX Y CY) ⊎ Rooted)
   step-one-ahead i m small s = go (waited d x y r ux uy hx hy s.contends) (asked d y x sw uy ux hy hx s.asks)
     where
       asking : level_shown (hearing x).state x.port ≡ level.Parent
@@ -301,8 +304,8 @@ module _
 
       go :
           OnWait d x y r ux uy hx hy ⊎ (OnAsk d x y r ux uy hx hy ⊎ (X.view.parent ≡ None)) →
-          Held d y x sw uy ux hy hx ⊎ Begun d y x sw uy ux hy hx → OneAhead (i + 1)
-          x.port y.port m X Y ⊎ (((i < d) × AreUp x.port y.port (m + 1) X Y) ⊎ Rooted)
+          Held d y x sw uy ux hy hx ⊎ Begun d y x sw uy ux hy hx → OneAhead most slack (i + 1)
+          x.port y.port m X CX Y CY ⊎ (((i < d + slack) × AreUp x.port y.port (m + 1) X CX Y CY) ⊎ Rooted)
       go (inr (inl a)) b = absurd (other-level (level_shown (hearing x).state x.port) asking a.shown)
       go (inr (inr a)) b = inr (inr (inl a))
       go (inl a) (inl b) = inl (record {
@@ -311,10 +314,10 @@ module _
         contends = a.phase;
         asks = b.phase;
         shown = r.pair.near.ticks.shown x.port ∙ asking;
-        waited = omega (arith, s.waited, a.timer);
+        waited = a.waited most slack i slow_x s.waited;
       })
-      go (inl a) (inr b) = elim (late-or i d) [
-        | inr l ↦ absurd (long-undrawn d x y r ux uy s.contends (omega (arith, l, s.waited)) hy b.drew)
+      go (inl a) (inr b) = elim (late-or i (d + slack)) [
+        | inr l ↦ absurd (long-undrawn d x y r ux uy s.contends (omega (arith, l, waited-most most slack i x.node x.clock s.waited)) hy b.drew)
         | inl l ↦ inr (inl (
           l,
           record {

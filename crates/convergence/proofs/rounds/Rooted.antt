@@ -1,7 +1,9 @@
 -- A set with a root comes to self identify.
 use Rattle.std.proofs.Common.{◌≡◌, inl, inr, ℕ, zero, suc, ◌+◌, ◌*◌, ◌≤◌, false, length, List, Some, slice_get, sym, subst, arith}
-use Rattle.convergence.proofs.Common.{Holds, IsComponent, PortNode, CableWorld, turn_at, turn, node-after, one-quiet, after-cabling, PlacedHold, HoldSchedule, with_holds, quiet_after, IsRoot, AreIdentifying}
+use Rattle.convergence.proofs.Common.{Holds, IsComponent, PortNode, CableWorld, turn_at, turn, node-after, quiet-then, after-cabling, PlacedHold, HoldSchedule, holds_after, with_holds, quiet_after, IsRoot, AreIdentifying}
 use Rattle.convergence.proofs.coins.Drawers.{pair-no-root}
+use Rattle.convergence.specs.Turns.{slack, seen_turns}
+use Rattle.convergence.proofs.turns.TwoTurns.{slack-later}
 use Rattle.convergence.proofs.rounds.Grown.{Grown, grown-turn, grown-after}
 use Rattle.convergence.proofs.resets.ResetsDone.{done-over}
 use Rattle.convergence.proofs.rounds.Shaken.{is_unrooted, search-set, shaken-out, rival-of, all-identify, root-turn, identify-turn}
@@ -55,7 +57,7 @@ module _ (hs : HoldSchedule) (set : ℕ) where
 
   pub rooted-ends :
       (v : CableWorld) → Grown v set → (node : ℕ) → IsComponent v.cabling node set → HasRoot v set →
-      (i : ℕ) × (i ≤ 3 * length v.nodes * (v.delay + v.delay) + 1)
+      (i : ℕ) × (i ≤ 3 * length v.nodes * (seen_turns v + seen_turns v) + 1 + slack v)
       × AreIdentifying (quiet_after hs i v) set
   rooted-ends v g node whole r =
       let s = shaken-out set hs v g in
@@ -68,4 +70,4 @@ module _ (hs : HoldSchedule) (set : ℕ) where
             let root = root-after v g s.0 r in
             absurd (pair-no-root w gw.lawful gw.contested (done-over w gw.lawful gw.done) m.0 m.1 m.3 node set root.node (component-after v node s.0 whole) (subst (Holds set) (sym m.2) f.1.holds) root.holds root.root)
       ] in
-      (s.0 + 1, omega (arith, s.1), subst (λ (u : CableWorld). AreIdentifying u set) (sym (one-quiet hs s.0 v)) (all-identify w set gw s.2 alone))
+      (s.0 + (slack w + 1), omega (arith, s.1, slack-later hs v g.lawful s.0), subst (λ (u : CableWorld). AreIdentifying u set) (sym (quiet-then hs s.0 (slack w + 1) v)) (all-identify w set gw s.2 (holds_after s.0 hs) alone))

@@ -1,8 +1,8 @@
--- A round of a contention: within 12d turns both rivals draw once more, or within 22d turns one has
--- taken the other as child.
+-- A round of a contention: within a wait and twice the turns that a level takes to be seen both rivals draw once more, or within
+-- one wait more one has taken the other as child.
 use Rattle.std.proofs.Common.{◌≡◌, ◌⊎◌, inl, inr, ℕ, zero, suc, ◌+◌, ◌-◌, ◌*◌, ◌<◌, ◌≤◌, Bool, true, false, List, None, Some, slice_get, sym, ◌∙◌, ap, subst, arith}
 use Rattle.std.specs.Prelude.{min}
-use Rattle.convergence.proofs.Common.{End, Wiring, far, Holds, Phase, NodeState, coin, is_parent, is_port, PortNode, CableWorld, wire_of, turn_at, turn, level_sent, level_shown, leads_down, node-after, cabling-after, delay-after, side, side-node, after-delay, cable-connected, some-same, hearing, ticking, NoEntry, no-quiet, quiet-then, PlacedHold, HoldSchedule, holds_after, with_holds, quiet_after, KnowsCoins, IsAhead, AsksAgain, AreRivals, AreJoined}
+use Rattle.convergence.proofs.Common.{IsLawful, End, Wiring, far, Holds, Phase, NodeState, beat, is_parent, is_port, PortNode, CableWorld, wire_of, turn_at, turn, level_sent, level_shown, leads_down, node-after, cabling-after, delay-after, side, side-node, after-delay, cable-connected, some-same, hearing, ticking, NoEntry, no-quiet, quiet-then, PlacedHold, HoldSchedule, holds_after, with_holds, quiet_after, KnowsCoins, IsAhead, AsksAgain, AreRivals, AreJoined}
 use Rattle.convergence.proofs.turns.PhaseFacts.{contend-shake}
 use Rattle.port_state.specs.declared.signal.Phase.TheVariants as phase
 use Rattle.port_state.specs.declared.timing.Timing.{Timing}
@@ -16,7 +16,12 @@ use Rattle.convergence.proofs.rounds.Grown.{Grown, parent-only, hears-on, grown-
 use Rattle.convergence.proofs.coins.Rivals.{Rivals, swapped, no-contend}
 use Rattle.convergence.proofs.rounds.RivalSteps.{BothWait, OneWaits, BothAsk, OneAhead, AreUp, step-both-wait, step-one-waits, step-both-ask, step-one-ahead}
 use Rattle.convergence.proofs.rounds.Rooted.{HasRoot, root-held}
-use Rattle.convergence.proofs.turns.Weights.{tick-begins}
+use Rattle.convergence.proofs.turns.Weights.{beat-begins}
+use Rattle.port_state.specs.Clock.{Clock, misses, clock_after}
+use Rattle.cable_world.proofs.Lemmas.{beat-misses, misses-slowly, longest-after}
+use Rattle.convergence.specs.Turns as turns
+use Rattle.convergence.proofs.turns.TwoTurns.{Misses, misses-slack, slack-turn, slack-later, not-missed}
+use Rattle.convergence.proofs.coins.Stands.{HasWaited, MissesSlowly, waited-less}
 
 -- ---- turn by turn
 
@@ -24,24 +29,40 @@ use Rattle.convergence.proofs.turns.Weights.{tick-begins}
 abbrev pub KeptInHolds : (CableWorld → Type 0) → Type 0
 KeptInHolds P = (holds : List PlacedHold) (w : CableWorld) → P w → P (with_holds holds w)
 
-module _ (set : ℕ) where
+-- a world in which no long wait takes longer, and clocks have this slack at most
+pub record Bounds (most slack : ℕ) (w : CableWorld) : Type 0 where
+  pub long : w.longest.long ≤ most
+  pub few : turns.slack w ≤ slack
+
+bounds-held : (most slack : ℕ) → KeptInHolds (Bounds most slack)
+bounds-held most slack holds w b = record { long = b.long; few = b.few }
+
+bounds-turn :
+    (most slack : ℕ) (w : CableWorld) → IsLawful w → Bounds most slack w →
+    Bounds most slack (turn w)
+bounds-turn most slack w l b = record {
+  long = omega (arith, b.long, ap (λ (t : Timing). t.long) (longest-after w));
+  few = omega (arith, b.few, slack-turn w l);
+}
+
+module _ (set most slack : ℕ) where
   module _
       (S : ℕ → CableWorld → Type 0) (T : CableWorld → Type 0)
       (held : (i : ℕ) → KeptInHolds (S i)) (held-then : KeptInHolds T)
-      (step : (w : CableWorld) → Grown w set → (i : ℕ) → S i w → S (i + 1) (turn w) ⊎ T (turn w))
+      (step : (w : CableWorld) → Grown w set → Bounds most slack w → (i : ℕ) → S i w → S (i + 1) (turn w) ⊎ T (turn w))
     where
       run :
-          (hs : HoldSchedule) (n i : ℕ) (w : CableWorld) → Grown w set → S i w →
+          (hs : HoldSchedule) (n i : ℕ) (w : CableWorld) → Grown w set → Bounds most slack w → S i w →
           S (i + n) (quiet_after hs n w) ⊎ ((j : ℕ) × (j ≤ n) × T (quiet_after hs j w))
       unfolding quiet_after
-      run hs zero i w g s =
+      run hs zero i w g f s =
           let z : i ≡ i + 0 = omega arith in
           inl (subst (λ k. S k (with_holds (hs 0) w)) z (held i (hs 0) w s))
-      run hs (suc n) i w g s = elim (step v gv i (held i (hs 0) w s)) [
+      run hs (suc n) i w g f s = elim (step v gv fv i (held i (hs 0) w s)) [
         | inr t ↦
             let few : 1 ≤ suc n = omega arith in
             inr (1, few, held-then (hs 1) (turn v) t)
-        | inl t ↦ elim (run rest n (i + 1) (turn v) (grown-turn v set gv) t) [
+        | inl t ↦ elim (run rest n (i + 1) (turn v) (grown-turn v set gv) (bounds-turn most slack v gv.lawful fv) t) [
           | inl u ↦ let z : i + 1 + n ≡ i + suc n = omega arith in inl (subst (S (i + suc n)) (sym (quiet-first hs n w)) (subst (λ k. S k (quiet_after rest n (turn v))) z u))
           | inr u ↦ let few : suc u.0 ≤ suc n = omega (arith, u.1) in inr (suc u.0, few, subst T (sym (quiet-first hs u.0 w)) u.2)
         ]
@@ -53,12 +74,15 @@ module _ (set : ℕ) where
           gv : Grown (with_holds (hs 0) w) set
           gv = grown-held (hs 0) w set g
 
+          fv : Bounds most slack (with_holds (hs 0) w)
+          fv = bounds-held most slack (hs 0) w f
+
           rest : HoldSchedule
           rest i = hs (suc i)
 
   module _
       (S T : CableWorld → Type 0) (held : KeptInHolds S) (held-then : KeptInHolds T)
-      (step : (w : CableWorld) → Grown w set → S w → S (turn w) ⊎ T (turn w)) where
+      (step : (w : CableWorld) → Grown w set → Bounds most slack w → S w → S (turn w) ⊎ T (turn w)) where
     all-along :
         (hs : HoldSchedule) (n : ℕ) (w : CableWorld) → S w →
         ((j : ℕ) → j ≤ n → S (quiet_after (λ i. hs (suc i)) j (turn (with_holds (hs 0) w)))) →
@@ -68,18 +92,18 @@ module _ (set : ℕ) where
     all-along hs n w s rest (suc j) h = subst S (sym (quiet-first hs j w)) (rest j (omega (arith, h)))
 
     run-all :
-        (hs : HoldSchedule) (n : ℕ) (w : CableWorld) → Grown w set → S w →
+        (hs : HoldSchedule) (n : ℕ) (w : CableWorld) → Grown w set → Bounds most slack w → S w →
         ((j : ℕ) → j ≤ n → S (quiet_after hs j w))
         ⊎ ((j : ℕ) × (j ≤ n) × T (quiet_after hs j w))
     unfolding quiet_after
-    run-all hs zero w g s = inl (λ j h.
+    run-all hs zero w g f s = inl (λ j h.
         let z : 0 ≡ j = omega (arith, h) in
         subst (λ k. S (quiet_after hs k w)) z (held (hs 0) w s))
-    run-all hs (suc n) w g s = elim (step v gv (held (hs 0) w s)) [
+    run-all hs (suc n) w g f s = elim (step v gv fv (held (hs 0) w s)) [
       | inr t ↦
           let few : 1 ≤ suc n = omega arith in
           inr (1, few, held-then (hs 1) (turn v) t)
-      | inl t ↦ elim (run-all rest n (turn v) (grown-turn v set gv) t) [
+      | inl t ↦ elim (run-all rest n (turn v) (grown-turn v set gv) (bounds-turn most slack v gv.lawful fv) t) [
         | inl all ↦ inl (all-along hs n w s all)
         | inr u ↦ let few : suc u.0 ≤ suc n = omega (arith, u.1) in inr (suc u.0, few, subst T (sym (quiet-first hs u.0 w)) u.2)
       ]
@@ -91,20 +115,23 @@ module _ (set : ℕ) where
         gv : Grown (with_holds (hs 0) w) set
         gv = grown-held (hs 0) w set g
 
+        fv : Bounds most slack (with_holds (hs 0) w)
+        fv = bounds-held most slack (hs 0) w f
+
         rest : HoldSchedule
         rest i = hs (suc i)
 
 -- ---- two ends in a world
 
 pub record At
-    (w : CableWorld) (set : ℕ) (a b : End) (S : NodeState → NodeState → Type 0)
+    (w : CableWorld) (set : ℕ) (a b : End) (S : NodeState → Clock → NodeState → Clock → Type 0)
     : Type 0 where
   pub ends : AreJoined w a b
   pub holds : Holds set a.node
-  pub is : S ends.near.state ends.other.state
+  pub is : S ends.near.state ends.near.clock ends.other.state ends.other.clock
 
 pub at-held :
-    (set : ℕ) (a b : End) (S : NodeState → NodeState → Type 0) →
+    (set : ℕ) (a b : End) (S : NodeState → Clock → NodeState → Clock → Type 0) →
     KeptInHolds (λ w. At w set a b S)
 at-held set a b S holds w s = record { ends = joined-held holds w a b s.ends; holds = s.holds; is = s.is }
 
@@ -146,23 +173,27 @@ module _
   }
 
   lift :
-      (S : NodeState → NodeState → Type 0) →
-      S (ticking (side w a e.near)).state (ticking (side w b e.other)).state → At (turn w) set a b S
+      (S : NodeState → Clock → NodeState → Clock → Type 0) →
+      S (ticking (side w a e.near)).state (clock_after e.near.clock) (ticking (side w b e.other)).state (clock_after e.other.clock) →
+      At (turn w) set a b S
   unfolding next
   lift S s = record {
     ends = next;
     holds = in_a;
-    is = subst (λ n. S n (turn_at w b.node e.other).node.state) (sym (side-node w a e.near)) (subst (S (ticking (side w a e.near)).state) (sym (side-node w b e.other)) s);
+    is = subst (λ n. S n (clock_after e.near.clock) (turn_at w b.node e.other).node.state (clock_after e.other.clock)) (sym (side-node w a e.near))
+        (subst (λ n. S (ticking (side w a e.near)).state (clock_after e.near.clock) n (clock_after e.other.clock)) (sym (side-node w b e.other)) s);
   }
 
   lift-round :
-      (S : NodeState → NodeState → Type 0) →
-      S (ticking (side w b e.other)).state (ticking (side w a e.near)).state → At (turn w) set b a S
+      (S : NodeState → Clock → NodeState → Clock → Type 0) →
+      S (ticking (side w b e.other)).state (clock_after e.other.clock) (ticking (side w a e.near)).state (clock_after e.near.clock) →
+      At (turn w) set b a S
   unfolding next
   lift-round S s = record {
     ends = ends-round (turn w) set (grown-turn w set g) a b next;
     holds = in_b;
-    is = subst (λ n. S (turn_at w b.node e.other).node.state n) (sym (side-node w a e.near)) (subst (λ n. S n (ticking (side w a e.near)).state) (sym (side-node w b e.other)) s);
+    is = subst (λ n. S (turn_at w b.node e.other).node.state (clock_after e.other.clock) n (clock_after e.near.clock)) (sym (side-node w a e.near))
+        (subst (λ n. S n (clock_after e.other.clock) (ticking (side w a e.near)).state (clock_after e.near.clock)) (sym (side-node w b e.other)) s);
   }
 
   lift-root :
@@ -192,9 +223,18 @@ module _
 
 -- ---- the steps in a world
 
-module _ (set : ℕ) (a b : End) (m : ℕ) (small : m ≤ 64) where
+-- a clock that misses a turn
+slow-side :
+    (w : CableWorld) → IsLawful w → (most slack : ℕ) → Bounds most slack w → (a : End) (x : PortNode) →
+    slice_get w.nodes a.node ≡ Some x → MissesSlowly most slack (side w a x)
+slow-side w l most slack f a x at none =
+    let m : misses x.clock ≡ true = beat-misses x none in
+    let h = misses-slowly w.longest x.state.timing x.clock m (l.paced a.node x at) in
+    (omega (arith, h.1.long_most, f.long), omega (arith, misses-slack w a.node x at m, f.few))
+
+module _ (set most slack : ℕ) (a b : End) (m : ℕ) (small : m ≤ 64) where
   abbrev Waiting : ℕ → CableWorld → Type 0
-  Waiting i w = At w set a b (BothWait i a.port b.port m) ⊎ (At w set a b (OneWaits w.delay i a.port b.port m) ⊎ At w set b a (OneWaits w.delay i b.port a.port m))
+  Waiting i w = At w set a b (BothWait most slack i a.port b.port m) ⊎ (At w set a b (OneWaits w.delay most slack i a.port b.port m) ⊎ At w set b a (OneWaits w.delay most slack i b.port a.port m))
 
   abbrev Asking : CableWorld → Type 0
   Asking w = At w set a b (BothAsk a.port b.port m)
@@ -203,17 +243,17 @@ module _ (set : ℕ) (a b : End) (m : ℕ) (small : m ≤ 64) where
   Up w = At w set a b (AreUp a.port b.port (m + 1))
 
   abbrev Ahead : CableWorld → Type 0
-  Ahead w = At w set a b (OneAhead 0 a.port b.port m) ⊎ At w set b a (OneAhead 0 b.port a.port m)
+  Ahead w = At w set a b (OneAhead most slack 0 a.port b.port m) ⊎ At w set b a (OneAhead most slack 0 b.port a.port m)
 
   waiting-held : (i : ℕ) → KeptInHolds (Waiting i)
-  waiting-held i holds w (inl s) = inl (at-held set a b (BothWait i a.port b.port m) holds w s)
-  waiting-held i holds w (inr (inl s)) = inr (inl (at-held set a b (OneWaits w.delay i a.port b.port m) holds w s))
-  waiting-held i holds w (inr (inr s)) = inr (inr (at-held set b a (OneWaits w.delay i b.port a.port m) holds w s))
+  waiting-held i holds w (inl s) = inl (at-held set a b (BothWait most slack i a.port b.port m) holds w s)
+  waiting-held i holds w (inr (inl s)) = inr (inl (at-held set a b (OneWaits w.delay most slack i a.port b.port m) holds w s))
+  waiting-held i holds w (inr (inr s)) = inr (inr (at-held set b a (OneWaits w.delay most slack i b.port a.port m) holds w s))
 
   up-or-ahead-held : KeptInHolds (λ w. Up w ⊎ Ahead w)
   up-or-ahead-held holds w (inl s) = inl (at-held set a b (AreUp a.port b.port (m + 1)) holds w s)
-  up-or-ahead-held holds w (inr (inl s)) = inr (inl (at-held set a b (OneAhead 0 a.port b.port m) holds w s))
-  up-or-ahead-held holds w (inr (inr s)) = inr (inr (at-held set b a (OneAhead 0 b.port a.port m) holds w s))
+  up-or-ahead-held holds w (inr (inl s)) = inr (inl (at-held set a b (OneAhead most slack 0 a.port b.port m) holds w s))
+  up-or-ahead-held holds w (inr (inr s)) = inr (inr (at-held set b a (OneAhead most slack 0 b.port a.port m) holds w s))
 
   asking-or-root-held : KeptInHolds (λ w. Asking w ⊎ HasRoot w set)
   asking-or-root-held holds w (inl s) = inl (at-held set a b (BothAsk a.port b.port m) holds w s)
@@ -231,18 +271,18 @@ module _ (set : ℕ) (a b : End) (m : ℕ) (small : m ≤ 64) where
   }
 
   wait-step :
-      (w : CableWorld) → Grown w set → (i : ℕ) → Waiting i w → Waiting (i + 1) (turn w)
+      (w : CableWorld) → Grown w set → Bounds most slack w → (i : ℕ) → Waiting i w → Waiting (i + 1) (turn w)
       ⊎ (Asking (turn w) ⊎ HasRoot (turn w) set)
-  wait-step w g i (inl s) =
+  wait-step w g f i (inl s) =
       let e = s.ends in
-      elim (step-both-wait w.delay (side w a e.near) (side w b e.other) (r w set g a b e s.holds) s.is.here.up s.is.there.up (hx w set g a b e s.holds) (hy w set g a b e s.holds) i m s.is) [
+      elim (step-both-wait w.delay (side w a e.near) (side w b e.other) (r w set g a b e s.holds) s.is.here.up s.is.there.up (hx w set g a b e s.holds) (hy w set g a b e s.holds) most slack (slow-side w g.lawful most slack f a e.near e.near_at) (slow-side w g.lawful most slack f b e.other e.other_at) i m s.is) [
         | inl t ↦ elim t [
-          | inl t ↦ inl (inl (lift w set g a b e s.holds (BothWait (i + 1) a.port b.port m) t))
+          | inl t ↦ inl (inl (lift w set g a b e s.holds (BothWait most slack (i + 1) a.port b.port m) t))
           | inr t ↦ elim t [
-            | inl t ↦ inl (inr (inl (lift w set g a b e s.holds (OneWaits (turn w).delay (i + 1) a.port b.port m)
-                (subst (λ d. OneWaits d (i + 1) a.port b.port m (ticking (side w a e.near)).state (ticking (side w b e.other)).state) (sym (delay-after w)) t))))
-            | inr t ↦ inl (inr (inr (lift-round w set g a b e s.holds (OneWaits (turn w).delay (i + 1) b.port a.port m)
-                (subst (λ d. OneWaits d (i + 1) b.port a.port m (ticking (side w b e.other)).state (ticking (side w a e.near)).state) (sym (delay-after w)) t))))
+            | inl t ↦ inl (inr (inl (lift w set g a b e s.holds (OneWaits (turn w).delay most slack (i + 1) a.port b.port m)
+                (subst (λ d. OneWaits d most slack (i + 1) a.port b.port m (ticking (side w a e.near)).state (clock_after e.near.clock) (ticking (side w b e.other)).state (clock_after e.other.clock)) (sym (delay-after w)) t))))
+            | inr t ↦ inl (inr (inr (lift-round w set g a b e s.holds (OneWaits (turn w).delay most slack (i + 1) b.port a.port m)
+                (subst (λ d. OneWaits d most slack (i + 1) b.port a.port m (ticking (side w b e.other)).state (clock_after e.other.clock) (ticking (side w a e.near)).state (clock_after e.near.clock)) (sym (delay-after w)) t))))
           ]
         ]
         | inr t ↦ elim t [
@@ -250,21 +290,21 @@ module _ (set : ℕ) (a b : End) (m : ℕ) (small : m ≤ 64) where
           | inr t ↦ inr (inr (lift-root w set g a b e s.holds t))
         ]
       ]
-  wait-step w g i (inr (inl s)) =
+  wait-step w g f i (inr (inl s)) =
       let e = s.ends in
-      elim (step-one-waits w.delay (side w a e.near) (side w b e.other) (r w set g a b e s.holds) s.is.here.up s.is.there.up (hx w set g a b e s.holds) (hy w set g a b e s.holds) i m s.is) [
-        | inl t ↦ inl (inr (inl (lift w set g a b e s.holds (OneWaits (turn w).delay (i + 1) a.port b.port m)
-            (subst (λ d. OneWaits d (i + 1) a.port b.port m (ticking (side w a e.near)).state (ticking (side w b e.other)).state) (sym (delay-after w)) t))))
+      elim (step-one-waits w.delay (side w a e.near) (side w b e.other) (r w set g a b e s.holds) s.is.here.up s.is.there.up (hx w set g a b e s.holds) (hy w set g a b e s.holds) most slack (slow-side w g.lawful most slack f a e.near e.near_at) (slow-side w g.lawful most slack f b e.other e.other_at) i m s.is) [
+        | inl t ↦ inl (inr (inl (lift w set g a b e s.holds (OneWaits (turn w).delay most slack (i + 1) a.port b.port m)
+            (subst (λ d. OneWaits d most slack (i + 1) a.port b.port m (ticking (side w a e.near)).state (clock_after e.near.clock) (ticking (side w b e.other)).state (clock_after e.other.clock)) (sym (delay-after w)) t))))
         | inr t ↦ elim t [
           | inl t ↦ inr (inl (lift w set g a b e s.holds (BothAsk a.port b.port m) t))
           | inr t ↦ inr (inr (lift-root w set g a b e s.holds t))
         ]
       ]
-  wait-step w g i (inr (inr s)) =
+  wait-step w g f i (inr (inr s)) =
       let e = s.ends in
-      elim (step-one-waits w.delay (side w b e.near) (side w a e.other) (r w set g b a e s.holds) s.is.here.up s.is.there.up (hx w set g b a e s.holds) (hy w set g b a e s.holds) i m s.is) [
-        | inl t ↦ inl (inr (inr (lift w set g b a e s.holds (OneWaits (turn w).delay (i + 1) b.port a.port m)
-            (subst (λ d. OneWaits d (i + 1) b.port a.port m (ticking (side w b e.near)).state (ticking (side w a e.other)).state) (sym (delay-after w)) t))))
+      elim (step-one-waits w.delay (side w b e.near) (side w a e.other) (r w set g b a e s.holds) s.is.here.up s.is.there.up (hx w set g b a e s.holds) (hy w set g b a e s.holds) most slack (slow-side w g.lawful most slack f b e.near e.near_at) (slow-side w g.lawful most slack f a e.other e.other_at) i m s.is) [
+        | inl t ↦ inl (inr (inr (lift w set g b a e s.holds (OneWaits (turn w).delay most slack (i + 1) b.port a.port m)
+            (subst (λ d. OneWaits d most slack (i + 1) b.port a.port m (ticking (side w b e.near)).state (clock_after e.near.clock) (ticking (side w a e.other)).state (clock_after e.other.clock)) (sym (delay-after w)) t))))
         | inr t ↦ elim t [
           | inl t ↦ inr (inl (ask-round (turn w) (grown-turn w set g) (lift w set g b a e s.holds (BothAsk b.port a.port m) t)))
           | inr t ↦ inr (inr (lift-root w set g b a e s.holds t))
@@ -272,28 +312,28 @@ module _ (set : ℕ) (a b : End) (m : ℕ) (small : m ≤ 64) where
       ]
 
   ask-step :
-      (w : CableWorld) → Grown w set → Asking w → Asking (turn w) ⊎ (Up (turn w) ⊎ Ahead (turn w))
-  ask-step w g s =
+      (w : CableWorld) → Grown w set → Bounds most slack w → Asking w → Asking (turn w) ⊎ (Up (turn w) ⊎ Ahead (turn w))
+  ask-step w g f s =
       let e = s.ends in
-      elim (step-both-ask w.delay (side w a e.near) (side w b e.other) (r w set g a b e s.holds) s.is.here.up s.is.there.up (hx w set g a b e s.holds) (hy w set g a b e s.holds) m small s.is) [
+      elim (step-both-ask w.delay (side w a e.near) (side w b e.other) (r w set g a b e s.holds) s.is.here.up s.is.there.up (hx w set g a b e s.holds) (hy w set g a b e s.holds) most slack (slow-side w g.lawful most slack f a e.near e.near_at) (slow-side w g.lawful most slack f b e.other e.other_at) m small s.is) [
         | inl t ↦ inl (lift w set g a b e s.holds (BothAsk a.port b.port m) t)
         | inr t ↦ elim t [
           | inl t ↦ inr (inl (lift w set g a b e s.holds (AreUp a.port b.port (m + 1)) t))
           | inr t ↦ elim t [
-            | inl t ↦ inr (inr (inl (lift w set g a b e s.holds (OneAhead 0 a.port b.port m) t)))
-            | inr t ↦ inr (inr (inr (lift-round w set g a b e s.holds (OneAhead 0 b.port a.port m) t)))
+            | inl t ↦ inr (inr (inl (lift w set g a b e s.holds (OneAhead most slack 0 a.port b.port m) t)))
+            | inr t ↦ inr (inr (inr (lift-round w set g a b e s.holds (OneAhead most slack 0 b.port a.port m) t)))
           ]
         ]
       ]
 
   ahead-step :
-      (w : CableWorld) → Grown w set → (i : ℕ) → At w set a b (OneAhead i a.port b.port m) →
-      At (turn w) set a b (OneAhead (i + 1) a.port b.port m)
-      ⊎ (((i < w.delay) × Up (turn w)) ⊎ HasRoot (turn w) set)
-  ahead-step w g i s =
+      (w : CableWorld) → Grown w set → Bounds most slack w → (i : ℕ) → At w set a b (OneAhead most slack i a.port b.port m) →
+      At (turn w) set a b (OneAhead most slack (i + 1) a.port b.port m)
+      ⊎ (((i < w.delay + slack) × Up (turn w)) ⊎ HasRoot (turn w) set)
+  ahead-step w g f i s =
       let e = s.ends in
-      elim (step-one-ahead w.delay (side w a e.near) (side w b e.other) (r w set g a b e s.holds) s.is.here.up s.is.there.up (hx w set g a b e s.holds) (hy w set g a b e s.holds) i m small s.is) [
-        | inl t ↦ inl (lift w set g a b e s.holds (OneAhead (i + 1) a.port b.port m) t)
+      elim (step-one-ahead w.delay (side w a e.near) (side w b e.other) (r w set g a b e s.holds) s.is.here.up s.is.there.up (hx w set g a b e s.holds) (hy w set g a b e s.holds) most slack (slow-side w g.lawful most slack f a e.near e.near_at) (slow-side w g.lawful most slack f b e.other e.other_at) i m small s.is) [
+        | inl t ↦ inl (lift w set g a b e s.holds (OneAhead most slack (i + 1) a.port b.port m) t)
         | inr t ↦ elim t [
           | inl t ↦ inr (inl (t.0, lift w set g a b e s.holds (AreUp a.port b.port (m + 1)) t.1))
           | inr t ↦ inr (inr (lift-root w set g a b e s.holds t))
@@ -303,21 +343,24 @@ module _ (set : ℕ) (a b : End) (m : ℕ) (small : m ≤ 64) where
 -- a wait isn't so long
 not-so-long :
     (w : CableWorld) (set : ℕ) → Grown w set → (k : ℕ) (x : PortNode) →
-    slice_get w.nodes k ≡ Some x → x.state.view.phase ≡ phase.Contend →
-    w.longest.long ≤ x.state.view.timer → ⊥
-not-so-long w set g k x at c long =
+    slice_get w.nodes k ≡ Some x → x.state.view.phase ≡ phase.Contend → (most slack i : ℕ) →
+    Bounds most slack w → HasWaited most slack i x.state x.clock → most ≤ i → ⊥
+not-so-long w set g k x at c most slack i f h late =
     let knows : KnowsCoins x.state = g.contested.nodes k x at in
     let fits : Suits w.delay w.longest x.state.timing = (g.lawful.well_formed.nodes k x at).timing in
-    elim (knows.shows c) [
-      | inl s ↦ omega (arith, long, knows.waits c, s, fits.short_most, fits.long_least, fits.long_most)
-      | inr s ↦ omega (arith, long, knows.waits c, s, fits.long_most)
-    ]
+    let under : x.state.view.timer < x.state.timing.long = elim (knows.shows c) [
+      | inl s ↦ omega (arith, knows.waits c, s, fits.short_most, fits.long_least)
+      | inr s ↦ omega (arith, knows.waits c, s)
+    ] in
+    omega (arith, late, waited-less most slack i x.state x.clock under (omega (arith, fits.long_most, f.long)) h)
 
--- the longest wait after so many turns
-longest-wait :
-    (hs : HoldSchedule) (w : CableWorld) (set : ℕ) → Grown w set → (i : ℕ) →
-    (quiet_after hs i w).longest.long ≡ w.longest.long
-longest-wait hs w set g i = ap (λ (t : Timing). t.long) (after-longest hs w g.lawful i)
+pub bounds-after :
+    (hs : HoldSchedule) (w : CableWorld) (set : ℕ) → Grown w set → (most slack : ℕ) →
+    Bounds most slack w → (i : ℕ) → Bounds most slack (quiet_after hs i w)
+bounds-after hs w set g most slack f i = record {
+  long = omega (arith, f.long, ap (λ (t : Timing). t.long) (after-longest hs w g.lawful i));
+  few = omega (arith, f.few, slack-later hs w g.lawful i);
+}
 
 -- ---- both ask
 
@@ -327,8 +370,8 @@ parent-out f b h c = grind arith
 
 module _
     (hs : HoldSchedule) (set : ℕ) (a b : End) (m : ℕ) (w : CableWorld) (g : Grown w set)
-    (asking : (j : ℕ) → j ≤ w.delay → At (quiet_after hs j w) set a b (BothAsk a.port b.port m)) where
-  tell : (i : ℕ) → i ≤ w.delay → Tells (quiet_after hs i w) b is_parent
+    (asking : (j : ℕ) → j ≤ w.delay + turns.slack w → At (quiet_after hs j w) set a b (BothAsk a.port b.port m)) where
+  tell : (i : ℕ) → i ≤ w.delay + turns.slack w → Tells (quiet_after hs i w) b is_parent
   tell i h y at =
       let s = asking i h in
       let gi = grown-after hs w set g i in
@@ -336,31 +379,26 @@ module _
       parent-out y.state.view.phase (leads_down y.state.view.ports b.port) (ap (λ (n : PortNode). n.state.view.phase) (sym same) ∙ s.is.asks_too)
       (parent-only (quiet_after hs i w) set gi b a y (gi.lawful.well_formed.cabling.both_ways a b s.ends.joined) at (ap (λ (n : PortNode). is_port n.state.view.parent b.port) (sym same) ∙ s.is.there.up))
 
-  -- not for d turns
-  not-all-along : ⊥
-  not-all-along =
-      contend-shake z.ends.near.state.view.phase
-      (ap (λ (n : NodeState). n.view.phase) h.is ∙ tick-begins (coin h.node.coins) mid a.port
+  -- if both ask even after d turns, a clock missed the turn
+  ask-missed :
+      (j : ℕ) → w.delay ≤ j + 1 → j + 1 ≤ w.delay + turns.slack w → Misses hs w j a.node
+  ask-missed j late most = elim (beat-begins (beat h.node) mid a.port
       (h.heard.phase ∙ ap (λ (n : PortNode). n.state.view.phase) same ∙ s.is.asks)
       (ap (λ o. is_port o a.port) h.heard.parent ∙ ap (λ (n : PortNode). is_port n.state.view.parent a.port) same ∙ s.is.here.up)
       (h.hears.cables a.port ∙ cable-connected (quiet_after hs j w) a b h.node (grown-after hs w set g j).lawful.well_formed s.ends.joined h.at)
-      (ap is_parent (sym (h.ticks.shown a.port)) ∙ ap (λ (n : NodeState). is_parent (level_shown n a.port)) (sym h.is) ∙ shown))
-      z.is.asks
+      (ap is_parent (sym (h.ticks.shown a.port)) ∙ ap (λ (n : NodeState). is_parent (level_shown n a.port)) (sym h.is) ∙ shown)) [
+        | inl none ↦ record { node = h.node; at = h.at; missed = beat-misses h.node none }
+        | inr c ↦ absurd (contend-shake z.ends.near.state.view.phase (ap (λ (n : NodeState). n.view.phase) h.is ∙ c) z.is.asks)
+      ]
     where
-      j : ℕ
-      j = w.delay - 1
-
-      more : j + 1 ≡ w.delay
-      more = omega (arith, g.lawful.well_formed.some_delay)
-
       s : At (quiet_after hs j w) set a b (BothAsk a.port b.port m)
-      s = asking j (omega arith)
+      s = asking j (omega (arith, most))
 
-      z : At (quiet_after hs w.delay w) set a b (BothAsk a.port b.port m)
-      z = asking w.delay (omega arith)
+      z : At (quiet_after hs (j + 1) w) set a b (BothAsk a.port b.port m)
+      z = asking (j + 1) (omega (arith, most))
 
       h : Calmly (quiet_after hs j w) a.node z.ends.near.state
-      h = calm-at hs w set g j a.node z.ends.near (ap (λ n. slice_get (quiet_after hs n w).nodes a.node) more ∙ z.ends.near_at)
+      h = calm-at hs w set g j a.node z.ends.near z.ends.near_at
 
       same : h.node ≡ s.ends.near
       same = some-same h.node s.ends.near (sym h.at ∙ s.ends.near_at)
@@ -372,11 +410,19 @@ module _
       joined = ap (λ (u : CableWorld). far u.cabling a) (sym (no-quiet hs w)) ∙ (asking 0 (omega arith)).ends.joined
 
       shown : is_parent (level_shown z.ends.near.state a.port) ≡ true
-      shown = flush hs w g.lawful b a (g.lawful.well_formed.cabling.both_ways a b joined) is_parent (λ i. i ≤ w.delay) (λ i l. omega (arith, l)) tell w.delay (omega arith) (omega arith) z.ends.near z.ends.near_at
+      shown = flush hs w g.lawful b a (g.lawful.well_formed.cabling.both_ways a b joined) is_parent (λ i. i ≤ w.delay + turns.slack w) (λ i l. omega (arith, l)) tell (j + 1) late (omega (arith, most)) z.ends.near z.ends.near_at
+
+  -- not for so many turns
+  not-all-along : ⊥
+  not-all-along =
+      let j : ℕ = w.delay - 1 in
+      let more : j + 1 ≡ w.delay = omega (arith, g.lawful.well_formed.some_delay) in
+      not-missed hs w g.lawful j a.node (ask-missed (j + turns.slack w) (omega (arith, more)) (omega (arith, more)))
+      (λ one. ask-missed j (omega (arith, more)) (omega (arith, more)))
 
 -- ---- a round
 
-module _ (set : ℕ) (m : ℕ) (small : m ≤ 64) where
+module _ (set most slack : ℕ) (m : ℕ) (small : m ≤ 64) where
   -- within so many turns both have drawn once more, or within so many one is root
   abbrev Ends : HoldSchedule → End → End → ℕ → ℕ → CableWorld → Type 0
   Ends hs a b up root w = ((j : ℕ) × (j ≤ up) × At (quiet_after hs j w) set a b (AreUp a.port b.port (m + 1))) ⊎ ((j : ℕ) × (j ≤ root) × HasRoot (quiet_after hs j w) set)
@@ -398,119 +444,119 @@ module _ (set : ℕ) (m : ℕ) (small : m ≤ 64) where
   ends-round-two hs a b w g up root (inr t) = inr t
 
   from-ahead :
-      (hs : HoldSchedule) (a b : End) (w : CableWorld) → Grown w set →
-      At w set a b (OneAhead 0 a.port b.port m) →
-      Ends hs a b w.delay (w.longest.long + w.delay) w
-  from-ahead hs a b w g s = elim (run set (λ i v. At v set a b (OneAhead i a.port b.port m)) (λ v. At v set a b (AreUp a.port b.port (m + 1)) ⊎ HasRoot v set)
-      (λ i. at-held set a b (OneAhead i a.port b.port m)) (up-or-root-held set a b m small) first hs w.delay 0 w g s) [
+      (hs : HoldSchedule) (a b : End) (w : CableWorld) → Grown w set → Bounds most slack w →
+      At w set a b (OneAhead most slack 0 a.port b.port m) →
+      Ends hs a b (w.delay + slack) (most + (w.delay + slack)) w
+  from-ahead hs a b w g f s = elim (run set most slack (λ i v. At v set a b (OneAhead most slack i a.port b.port m)) (λ v. At v set a b (AreUp a.port b.port (m + 1)) ⊎ HasRoot v set)
+      (λ i. at-held set a b (OneAhead most slack i a.port b.port m)) (up-or-root-held set most slack a b m small) first hs (w.delay + slack) 0 w g f s) [
         | inr t ↦ elim t.2 [
           | inl u ↦ inl (t.0, t.1, u)
           | inr u ↦ inr (t.0, omega (arith, t.1), u)
         ]
-        | inl t ↦ elim (run set (λ i v. (v.delay ≤ i) × At v set a b (OneAhead i a.port b.port m)) (λ v. HasRoot v set)
-            (λ i holds u s. (s.0, at-held set a b (OneAhead i a.port b.port m) holds u s.1)) (root-held set) second rest w.longest.long w.delay v gv (omega (arith, same), (let z : 0 + w.delay ≡ w.delay = omega arith in subst (λ k. At (quiet_after hs w.delay w) set a b (OneAhead k a.port b.port m)) z t))) [
-              | inr u ↦ inr (w.delay + u.0, omega (arith, u.1), subst (λ (z : CableWorld). HasRoot z set) (sym (quiet-then hs w.delay u.0 w)) u.2)
-              | inl u ↦ absurd (not-so-long (quiet_after rest w.longest.long v) set (grown-after rest v set gv w.longest.long) a.node u.1.ends.near u.1.ends.near_at u.1.is.contends
-                  (omega (arith, u.1.is.waited, same-long, longest-wait rest v set gv w.longest.long)))
+        | inl t ↦ elim (run set most slack (λ i v. (v.delay + slack ≤ i) × At v set a b (OneAhead most slack i a.port b.port m)) (λ v. HasRoot v set)
+            (λ i holds u s. (s.0, at-held set a b (OneAhead most slack i a.port b.port m) holds u s.1)) (root-held set) second rest most (w.delay + slack) v gv fv (omega (arith, same), (let z : 0 + (w.delay + slack) ≡ w.delay + slack = omega arith in subst (λ k. At (quiet_after hs (w.delay + slack) w) set a b (OneAhead most slack k a.port b.port m)) z t))) [
+              | inr u ↦ inr (w.delay + slack + u.0, omega (arith, u.1), subst (λ (z : CableWorld). HasRoot z set) (sym (quiet-then hs (w.delay + slack) u.0 w)) u.2)
+              | inl u ↦ absurd (not-so-long (quiet_after rest most v) set (grown-after rest v set gv most) a.node u.1.ends.near u.1.ends.near_at u.1.is.contends
+                  most slack (w.delay + slack + most) (bounds-after rest v set gv most slack fv most) u.1.is.waited (omega arith))
             ]
       ]
     where
       rest : HoldSchedule
-      rest = holds_after w.delay hs
+      rest = holds_after (w.delay + slack) hs
 
       v : CableWorld
-      v = quiet_after hs w.delay w
+      v = quiet_after hs (w.delay + slack) w
 
-      gv : Grown (quiet_after hs w.delay w) set
-      gv = grown-after hs w set g w.delay
+      gv : Grown (quiet_after hs (w.delay + slack) w) set
+      gv = grown-after hs w set g (w.delay + slack)
 
-      same : (quiet_after hs w.delay w).delay ≡ w.delay
-      same = after-delay hs w g.lawful w.delay
+      fv : Bounds most slack (quiet_after hs (w.delay + slack) w)
+      fv = bounds-after hs w set g most slack f (w.delay + slack)
 
-      same-long : (quiet_after hs w.delay w).longest.long ≡ w.longest.long
-      same-long = longest-wait hs w set g w.delay
+      same : (quiet_after hs (w.delay + slack) w).delay ≡ w.delay
+      same = after-delay hs w g.lawful (w.delay + slack)
 
       first :
-          (u : CableWorld) → Grown u set → (i : ℕ) → At u set a b (OneAhead i a.port b.port m) →
-          At (turn u) set a b (OneAhead (i + 1) a.port b.port m)
+          (u : CableWorld) → Grown u set → Bounds most slack u → (i : ℕ) → At u set a b (OneAhead most slack i a.port b.port m) →
+          At (turn u) set a b (OneAhead most slack (i + 1) a.port b.port m)
           ⊎ (At (turn u) set a b (AreUp a.port b.port (m + 1)) ⊎ HasRoot (turn u) set)
-      first u gu i s = elim (ahead-step set a b m small u gu i s) [
+      first u gu fu i s = elim (ahead-step set most slack a b m small u gu fu i s) [
         | inl t ↦ inl t
         | inr t ↦ elim t [ inl t ↦ inr (inl t.1) | inr t ↦ inr (inr t) ]
       ]
 
       second :
-          (u : CableWorld) → Grown u set → (i : ℕ) → (u.delay ≤ i)
-          × At u set a b (OneAhead i a.port b.port m) →
-          (((turn u).delay ≤ i + 1) × At (turn u) set a b (OneAhead (i + 1) a.port b.port m))
+          (u : CableWorld) → Grown u set → Bounds most slack u → (i : ℕ) → (u.delay + slack ≤ i)
+          × At u set a b (OneAhead most slack i a.port b.port m) →
+          (((turn u).delay + slack ≤ i + 1) × At (turn u) set a b (OneAhead most slack (i + 1) a.port b.port m))
           ⊎ HasRoot (turn u) set
-      second u gu i s = elim (ahead-step set a b m small u gu i s.1) [
+      second u gu fu i s = elim (ahead-step set most slack a b m small u gu fu i s.1) [
         | inl t ↦ inl (omega (arith, s.0, delay-after u), t)
         | inr t ↦ elim t [ inl t ↦ absurd (omega (arith, t.0, s.0)) | inr t ↦ inr t ]
       ]
 
   from-asking :
-      (hs : HoldSchedule) (a b : End) (w : CableWorld) → Grown w set →
+      (hs : HoldSchedule) (a b : End) (w : CableWorld) → Grown w set → Bounds most slack w →
       At w set a b (BothAsk a.port b.port m) →
-      Ends hs a b (2 * w.delay) (w.longest.long + 2 * w.delay) w
-  from-asking hs a b w g s = elim (run-all set (Asking set a b m small) (λ v. Up set a b m small v ⊎ Ahead set a b m small v) (at-held set a b (BothAsk a.port b.port m)) (up-or-ahead-held set a b m small) (ask-step set a b m small) hs w.delay w g s) [
-    | inl all ↦ absurd (not-all-along hs set a b m w g all)
+      Ends hs a b (2 * (w.delay + slack)) (most + 2 * (w.delay + slack)) w
+  from-asking hs a b w g f s = elim (run-all set most slack (Asking set most slack a b m small) (λ v. Up set most slack a b m small v ⊎ Ahead set most slack a b m small v) (at-held set a b (BothAsk a.port b.port m)) (up-or-ahead-held set most slack a b m small) (ask-step set most slack a b m small) hs (w.delay + slack) w g f s) [
+    | inl all ↦ absurd (not-all-along hs set a b m w g (λ j h. all j (omega (arith, h, f.few))))
     | inr t ↦ elim t.2 [
       | inl u ↦ inl (t.0, omega (arith, t.1), u)
       | inr u ↦
           let v : CableWorld = quiet_after hs t.0 w in
           let gv : Grown v set = grown-after hs w set g t.0 in
+          let fv : Bounds most slack v = bounds-after hs w set g most slack f t.0 in
           let same : v.delay ≡ w.delay = after-delay hs w g.lawful t.0 in
-          let long : v.longest.long ≡ w.longest.long = longest-wait hs w set g t.0 in
-          ends-later hs a b w t.0 v.delay (v.longest.long + v.delay) (2 * w.delay) (w.longest.long + 2 * w.delay) (omega (arith, t.1, same, long)) (omega (arith, t.1, same, long))
-          (elim u [ inl c ↦ from-ahead (holds_after t.0 hs) a b v gv c | inr c ↦ ends-round-two (holds_after t.0 hs) a b v gv v.delay (v.longest.long + v.delay) (from-ahead (holds_after t.0 hs) b a v gv c) ])
+          ends-later hs a b w t.0 (v.delay + slack) (most + (v.delay + slack)) (2 * (w.delay + slack)) (most + 2 * (w.delay + slack)) (omega (arith, t.1, same)) (omega (arith, t.1, same))
+          (elim u [ inl c ↦ from-ahead (holds_after t.0 hs) a b v gv fv c | inr c ↦ ends-round-two (holds_after t.0 hs) a b v gv (v.delay + slack) (most + (v.delay + slack)) (from-ahead (holds_after t.0 hs) b a v gv fv c) ])
     ]
   ]
 
   from-waiting :
-      (hs : HoldSchedule) (a b : End) (w : CableWorld) → Grown w set → Waiting set a b m small 0 w →
-      Ends hs a b (w.longest.long + 2 * w.delay) (w.longest.long + (w.longest.long + 2 * w.delay)) w
-  from-waiting hs a b w g s = elim (run set (Waiting set a b m small) (λ v. Asking set a b m small v ⊎ HasRoot v set)
-      (waiting-held set a b m small) (asking-or-root-held set a b m small) (wait-step set a b m small) hs w.longest.long 0 w g s) [
+      (hs : HoldSchedule) (a b : End) (w : CableWorld) → Grown w set → Bounds most slack w → Waiting set most slack a b m small 0 w →
+      Ends hs a b (most + 2 * (w.delay + slack)) (most + (most + 2 * (w.delay + slack))) w
+  from-waiting hs a b w g f s = elim (run set most slack (Waiting set most slack a b m small) (λ v. Asking set most slack a b m small v ⊎ HasRoot v set)
+      (waiting-held set most slack a b m small) (asking-or-root-held set most slack a b m small) (wait-step set most slack a b m small) hs most 0 w g f s) [
         | inl t ↦ absurd (over t)
         | inr t ↦ elim t.2 [
           | inr u ↦ inr (t.0, omega (arith, t.1), u)
           | inl u ↦
               let v : CableWorld = quiet_after hs t.0 w in
               let gv : Grown v set = grown-after hs w set g t.0 in
+              let fv : Bounds most slack v = bounds-after hs w set g most slack f t.0 in
               let same : v.delay ≡ w.delay = after-delay hs w g.lawful t.0 in
-              let long : v.longest.long ≡ w.longest.long = longest-wait hs w set g t.0 in
-              ends-later hs a b w t.0 (2 * v.delay) (v.longest.long + 2 * v.delay) (w.longest.long + 2 * w.delay) (w.longest.long + (w.longest.long + 2 * w.delay)) (omega (arith, t.1, same, long)) (omega (arith, t.1, same, long)) (from-asking (holds_after t.0 hs) a b v gv u)
+              ends-later hs a b w t.0 (2 * (v.delay + slack)) (most + 2 * (v.delay + slack)) (most + 2 * (w.delay + slack)) (most + (most + 2 * (w.delay + slack))) (omega (arith, t.1, same)) (omega (arith, t.1, same)) (from-asking (holds_after t.0 hs) a b v gv fv u)
         ]
       ]
     where
       v : CableWorld
-      v = quiet_after hs w.longest.long w
+      v = quiet_after hs most w
 
-      gv : Grown (quiet_after hs w.longest.long w) set
-      gv = grown-after hs w set g w.longest.long
+      gv : Grown (quiet_after hs most w) set
+      gv = grown-after hs w set g most
 
-      same : (quiet_after hs w.longest.long w).longest.long ≡ w.longest.long
-      same = longest-wait hs w set g w.longest.long
+      fv : Bounds most slack (quiet_after hs most w)
+      fv = bounds-after hs w set g most slack f most
 
-      over : Waiting set a b m small (0 + w.longest.long) (quiet_after hs w.longest.long w) → ⊥
-      over (inl t) = not-so-long v set gv a.node t.ends.near t.ends.near_at t.is.contends (omega (arith, t.is.waited, same))
-      over (inr (inl t)) = not-so-long v set gv a.node t.ends.near t.ends.near_at t.is.contends (omega (arith, t.is.waited, same))
-      over (inr (inr t)) = not-so-long v set gv b.node t.ends.near t.ends.near_at t.is.contends (omega (arith, t.is.waited, same))
+      over : Waiting set most slack a b m small (0 + most) (quiet_after hs most w) → ⊥
+      over (inl t) = not-so-long v set gv a.node t.ends.near t.ends.near_at t.is.contends most slack (0 + most) fv t.is.waited (omega arith)
+      over (inr (inl t)) = not-so-long v set gv a.node t.ends.near t.ends.near_at t.is.contends most slack (0 + most) fv t.is.waited (omega arith)
+      over (inr (inr t)) = not-so-long v set gv b.node t.ends.near t.ends.near_at t.is.contends most slack (0 + most) fv t.is.waited (omega arith)
 
   -- one in T3, the other in T2
   one-of :
       (a b : End) (w : CableWorld) → Grown w set → (s : At w set a b (AreUp a.port b.port m)) →
       s.ends.near.state.view.phase ≡ phase.Contend →
       s.ends.other.state.view.phase ≡ phase.ParentShake →
-      At w set a b (OneAhead 0 a.port b.port m) ⊎ At w set a b (OneWaits w.delay 0 a.port b.port m)
+      At w set a b (OneAhead most slack 0 a.port b.port m) ⊎ At w set a b (OneWaits w.delay most slack 0 a.port b.port m)
   one-of a b w g s c t = go ((g.contested.cables a b s.ends.near s.ends.other s.ends.joined s.ends.near_at s.ends.other_at).rivals s.is.here.up s.is.there.up)
     where
       how :
           IsAhead s.ends.near.state a.port s.ends.other.state
           ⊎ AsksAgain w.delay s.ends.near.state s.ends.other.state (wire_of w b).signals →
-          At w set a b (OneAhead 0 a.port b.port m)
-          ⊎ At w set a b (OneWaits w.delay 0 a.port b.port m)
+          At w set a b (OneAhead most slack 0 a.port b.port m)
+          ⊎ At w set a b (OneWaits w.delay most slack 0 a.port b.port m)
       how (inl h) = inl (record {
         ends = s.ends;
         holds = s.holds;
@@ -520,7 +566,7 @@ module _ (set : ℕ) (m : ℕ) (small : m ≤ 64) where
           contends = c;
           asks = t;
           shown = h.shown;
-          waited = omega arith;
+          waited = inl (omega arith);
         };
       })
         where
@@ -529,27 +575,27 @@ module _ (set : ℕ) (m : ℕ) (small : m ≤ 64) where
       how (inr h) = inr (record {
         ends = s.ends;
         holds = s.holds;
-        is = record { here = s.is.here; there = s.is.there; contends = c; asks = t; long = h.long; waited = omega arith };
+        is = record { here = s.is.here; there = s.is.there; contends = c; asks = t; long = h.long; waited = inl (omega arith) };
       })
 
       go :
-          AreRivals w.delay s.ends.near.state a.port (wire_of w a).signals s.ends.other.state b.port (wire_of w b).signals →
-          At w set a b (OneAhead 0 a.port b.port m)
-          ⊎ At w set a b (OneWaits w.delay 0 a.port b.port m)
+          AreRivals w.delay s.ends.near.state s.ends.near.clock a.port (wire_of w a).signals s.ends.other.state s.ends.other.clock b.port (wire_of w b).signals →
+          At w set a b (OneAhead most slack 0 a.port b.port m)
+          ⊎ At w set a b (OneWaits w.delay most slack 0 a.port b.port m)
       go (inl h) = absurd (no-contend s.ends.near.state.view.phase h.here c)
       go (inr (inl h)) = absurd (contend-shake s.ends.other.state.view.phase h.there t)
       go (inr (inr (inl h))) = how h.how
       go (inr (inr (inr h))) = absurd (contend-shake s.ends.other.state.view.phase h.here t)
 
   pub round :
-      (hs : HoldSchedule) (a b : End) (w : CableWorld) → Grown w set →
+      (hs : HoldSchedule) (a b : End) (w : CableWorld) → Grown w set → Bounds most slack w →
       At w set a b (AreUp a.port b.port m) →
-      Ends hs a b (w.longest.long + 2 * w.delay) (w.longest.long + (w.longest.long + 2 * w.delay)) w
-  round hs a b w g s = go s.is.first s.is.second
+      Ends hs a b (most + 2 * (w.delay + slack)) (most + (most + 2 * (w.delay + slack))) w
+  round hs a b w g f s = go s.is.first s.is.second
     where
       here :
-          (up root : ℕ) → Ends hs a b up root w → up ≤ w.longest.long + 2 * w.delay → root ≤ w.longest.long + (w.longest.long + 2 * w.delay) →
-          Ends hs a b (w.longest.long + 2 * w.delay) (w.longest.long + (w.longest.long + 2 * w.delay)) w
+          (up root : ℕ) → Ends hs a b up root w → up ≤ most + 2 * (w.delay + slack) → root ≤ most + (most + 2 * (w.delay + slack)) →
+          Ends hs a b (most + 2 * (w.delay + slack)) (most + (most + 2 * (w.delay + slack))) w
       here up root (inl t) h l = inl (t.0, omega (arith, t.1, h), t.2)
       here up root (inr t) h l = inr (t.0, omega (arith, t.1, l), t.2)
 
@@ -561,19 +607,19 @@ module _ (set : ℕ) (m : ℕ) (small : m ≤ 64) where
           ⊎ (s.ends.near.state.view.phase ≡ phase.Contend) →
           (s.ends.other.state.view.phase ≡ phase.ParentShake)
           ⊎ (s.ends.other.state.view.phase ≡ phase.Contend) →
-          Ends hs a b (w.longest.long + 2 * w.delay) (w.longest.long + (w.longest.long + 2 * w.delay))
+          Ends hs a b (most + 2 * (w.delay + slack)) (most + (most + 2 * (w.delay + slack)))
           w
-      go (inl x) (inl y) = here (2 * w.delay) (w.longest.long + 2 * w.delay) (from-asking hs a b w g (record { ends = s.ends; holds = s.holds; is = record { here = s.is.here; there = s.is.there; asks = x; asks_too = y } })) (omega arith) (omega arith)
-      go (inr x) (inr y) = from-waiting hs a b w g (inl (record {
+      go (inl x) (inl y) = here (2 * (w.delay + slack)) (most + 2 * (w.delay + slack)) (from-asking hs a b w g f (record { ends = s.ends; holds = s.holds; is = record { here = s.is.here; there = s.is.there; asks = x; asks_too = y } })) (omega arith) (omega arith)
+      go (inr x) (inr y) = from-waiting hs a b w g f (inl (record {
         ends = s.ends;
         holds = s.holds;
-        is = record { here = s.is.here; there = s.is.there; contends = x; contends_too = y; waited = omega arith; waited_too = omega arith };
+        is = record { here = s.is.here; there = s.is.there; contends = x; contends_too = y; waited = inl (omega arith); waited_too = inl (omega arith) };
       }))
       go (inr x) (inl y) = elim (one-of a b w g s x y) [
-        | inl t ↦ here w.delay (w.longest.long + w.delay) (from-ahead hs a b w g t) (omega arith) (omega arith)
-        | inr t ↦ from-waiting hs a b w g (inr (inl t))
+        | inl t ↦ here (w.delay + slack) (most + (w.delay + slack)) (from-ahead hs a b w g f t) (omega arith) (omega arith)
+        | inr t ↦ from-waiting hs a b w g f (inr (inl t))
       ]
       go (inl x) (inr y) = elim (one-of b a w g back y x) [
-        | inl t ↦ here w.delay (w.longest.long + w.delay) (ends-round-two hs a b w g w.delay (w.longest.long + w.delay) (from-ahead hs b a w g t)) (omega arith) (omega arith)
-        | inr t ↦ from-waiting hs a b w g (inr (inr t))
+        | inl t ↦ here (w.delay + slack) (most + (w.delay + slack)) (ends-round-two hs a b w g (w.delay + slack) (most + (w.delay + slack)) (from-ahead hs b a w g f t)) (omega arith) (omega arith)
+        | inr t ↦ from-waiting hs a b w g f (inr (inr t))
       ]

@@ -3,17 +3,15 @@
 use Rattle.std.proofs.Common.{◌≡◌, ◌⊎◌, inl, inr, ℕ, zero, suc, ◌+◌, ◌*◌, ◌<◌, ◌≤◌, Bool, true, false, if◌then◌else◌, List, Some, slice_get, refl, sym, ◌∙◌, ap, subst, arith}
 use Rattle.std.specs.Prelude.{min, nat_lt, bit_or, ◌^◌}
 use Rattle.std.proofs.lemmas.Bool.{cases_lt}
-use Rattle.port_state.specs.declared.timing.Timing.{Timing}
-use Rattle.cable_world.proofs.Lemmas.{after-longest}
-use Rattle.convergence.proofs.Common.{End, Wiring, far, IsCore, NodeState, coin, draws_with, tick, PortNode, CableWorld, wire_of, turn_at, turn, node-after, cabling-after, after-delay, some-of, some-at, some-same, no-quiet, quiet-then, PlacedHold, HoldSchedule, holds_after, with_holds, quiet_after, AddsDraw, DrewTogether, AreRivals, end_at}
+use Rattle.convergence.proofs.Common.{End, Wiring, far, IsCore, NodeState, beat, draws_with, on_beat, PortNode, CableWorld, wire_of, turn_at, turn, node-after, cabling-after, after-delay, some-of, some-at, some-same, no-quiet, quiet-then, PlacedHold, HoldSchedule, holds_after, with_holds, quiet_after, AddsDraw, DrewTogether, AreRivals, end_at}
 use Rattle.cable_world.specs.Outcome.{AtView, HasNoLoop, DrewAlike}
 use Rattle.convergence.specs.Milestones.{HasContention}
 use Rattle.convergence.proofs.turns.CalmTurns.{Calmly, heard_by}
 use Rattle.convergence.proofs.rounds.Grown.{Grown, calm-turn, grown-after}
-use Rattle.convergence.proofs.turns.Moves.{Drew, DrewNone, tick-draws}
+use Rattle.convergence.proofs.turns.Moves.{Drew, DrewNone, beat-draws, coin_of}
 use Rattle.convergence.proofs.rounds.Rooted.{HasRoot}
 use Rattle.convergence.proofs.rounds.RivalSteps.{AreUp}
-use Rattle.convergence.proofs.rounds.Rounds.{At, at-held, up-round, round}
+use Rattle.convergence.proofs.rounds.Rounds.{At, at-held, up-round, Bounds, bounds-after, round}
 
 -- ---- many draws
 
@@ -47,7 +45,7 @@ module _
   same-first = go ((g.contested.cables a b s.ends.near s.ends.other s.ends.joined s.ends.near_at s.ends.other_at).rivals s.is.here.up s.is.there.up)
     where
       go :
-          AreRivals w.delay s.ends.near.state a.port (wire_of w a).signals s.ends.other.state b.port (wire_of w b).signals →
+          AreRivals w.delay s.ends.near.state s.ends.near.clock a.port (wire_of w a).signals s.ends.other.state s.ends.other.clock b.port (wire_of w b).signals →
           s.ends.near.state.view.first_draws ≡ s.ends.other.state.view.first_draws
       go (inl h) = h.drew.first_draws
       go (inr (inl h)) = together s.ends.near.state s.ends.other.state h.drew s.is.here.draws s.is.there.draws
@@ -104,7 +102,7 @@ module _ (w : CableWorld) (set : ℕ) (g : Grown w set) where
   many-on :
       (k : ℕ) (x : PortNode) → slice_get w.nodes k ≡ Some x → 32 ≤ x.state.view.draws →
       ManyDraws x.state (turn_at w k x).node.state
-  many-on k x at many = subst (λ (n : NodeState). ManyDraws x.state n) (sym c.is) (go (tick-draws (coin c.node.coins) (heard_by w k c.node)))
+  many-on k x at many = subst (λ (n : NodeState). ManyDraws x.state n) (sym c.is) (go (beat-draws (beat c.node) (heard_by w k c.node)))
     where
       c : Calmly w k (turn_at w k x).node.state
       c = calm-turn w set g k (turn_at w k x).node (node-after w k x g.lawful.well_formed.count at)
@@ -122,13 +120,13 @@ module _ (w : CableWorld) (set : ℕ) (g : Grown w set) where
       most n k m e f h = omega (arith, e, f, h)
 
       go :
-          Drew (coin c.node.coins) (heard_by w k c.node)
-          (tick (coin c.node.coins) (heard_by w k c.node)).state ⊎ DrewNone (heard_by w k c.node)
-          (tick (coin c.node.coins) (heard_by w k c.node)).state →
-          ManyDraws x.state (tick (coin c.node.coins) (heard_by w k c.node)).state
+          Drew (coin_of (beat c.node)) (heard_by w k c.node)
+          (on_beat (beat c.node) (heard_by w k c.node)).state ⊎ DrewNone (heard_by w k c.node)
+          (on_beat (beat c.node) (heard_by w k c.node)).state →
+          ManyDraws x.state (on_beat (beat c.node) (heard_by w k c.node)).state
       go (inl n) = record {
-        many = most (heard_by w k c.node).view.draws (tick (coin c.node.coins) (heard_by w k c.node)).state.view.draws x.state.view.draws n.draws draws many;
-        first = n.first_draws ∙ kept-first (coin c.node.coins) (heard_by w k c.node).view.draws (heard_by w k c.node).view.first_draws (omega (arith, draws, many)) ∙ first;
+        many = most (heard_by w k c.node).view.draws (on_beat (beat c.node) (heard_by w k c.node)).state.view.draws x.state.view.draws n.draws draws many;
+        first = n.first_draws ∙ kept-first (coin_of (beat c.node)) (heard_by w k c.node).view.draws (heard_by w k c.node).view.first_draws (omega (arith, draws, many)) ∙ first;
       }
       go (inr n) = record { many = omega (arith, n.draws, draws, many); first = n.first_draws ∙ first }
 
@@ -190,16 +188,16 @@ contention-after hs v set g (suc i) r =
 
 -- ---- rounds
 
-module _ (set : ℕ) (a b : End) where
+module _ (set most slack : ℕ) (a b : End) where
   -- after n rounds both drew n times more, or one is root
   pub rounds :
       (hs : HoldSchedule) (n m : ℕ) → m + n ≤ 64 → (w : CableWorld) → Grown w set →
-      At w set a b (AreUp a.port b.port m)
+      Bounds most slack w → At w set a b (AreUp a.port b.port m)
       →
-      ((j : ℕ) × (j ≤ n * (w.longest.long + 2 * w.delay))
+      ((j : ℕ) × (j ≤ n * (most + 2 * (w.delay + slack)))
       × At (quiet_after hs j w) set a b (AreUp a.port b.port (m + n)))
-      ⊎ ((j : ℕ) × (j ≤ n * (w.longest.long + 2 * w.delay) + (w.longest.long + (w.longest.long + 2 * w.delay))) × HasRoot (quiet_after hs j w) set)
-  rounds hs zero m small w g s =
+      ⊎ ((j : ℕ) × (j ≤ n * (most + 2 * (w.delay + slack)) + (most + (most + 2 * (w.delay + slack)))) × HasRoot (quiet_after hs j w) set)
+  rounds hs zero m small w g f s =
       let z : m + 0 ≡ m = omega arith in
       inl (
         0,
@@ -207,18 +205,18 @@ module _ (set : ℕ) (a b : End) where
         subst (λ (u : CableWorld). At u set a b (AreUp a.port b.port (m + 0))) (sym (no-quiet hs w))
             (at-held set a b (AreUp a.port b.port (m + 0)) (hs 0) w (subst (λ k. At w set a b (AreUp a.port b.port k)) (sym z) s)),
       )
-  rounds hs (suc n) m small w g s = elim (round set m (omega (arith, small)) hs a b w g s) [
+  rounds hs (suc n) m small w g f s = elim (round set most slack m (omega (arith, small)) hs a b w g f s) [
     | inr t ↦ inr (t.0, omega (arith, t.1), t.2)
     | inl t ↦
         let v : CableWorld = quiet_after hs t.0 w in
         let gv : Grown v set = grown-after hs w set g t.0 in
-        let same : v.longest.long + 2 * v.delay ≡ w.longest.long + 2 * w.delay = omega (arith, after-delay hs w g.lawful t.0, ap (λ (t : Timing). t.long) (after-longest hs w g.lawful t.0)) in
+        let same : most + 2 * (v.delay + slack) ≡ most + 2 * (w.delay + slack) = omega (arith, after-delay hs w g.lawful t.0) in
         let rest : HoldSchedule = holds_after t.0 hs in
-        elim (rounds rest n (m + 1) (omega (arith, small)) v gv t.2) [
+        elim (rounds rest n (m + 1) (omega (arith, small)) v gv (bounds-after hs w set g most slack f t.0) t.2) [
           | inl u ↦
               let z : m + 1 + n ≡ m + suc n = omega arith in
-              inl (t.0 + u.0, up-none n (v.longest.long + 2 * v.delay) (w.longest.long + 2 * w.delay) t.0 u.0 same t.1 u.1, subst (λ (q : CableWorld). At q set a b (AreUp a.port b.port (m + suc n))) (sym (quiet-then hs t.0 u.0 w)) (subst (λ k. At (quiet_after rest u.0 v) set a b (AreUp a.port b.port k)) z u.2))
-          | inr u ↦ inr (t.0 + u.0, up-to n (v.longest.long + 2 * v.delay) (w.longest.long + 2 * w.delay) t.0 u.0 v.longest.long w.longest.long (ap (λ (t : Timing). t.long) (after-longest hs w g.lawful t.0)) same t.1 u.1, subst (λ (q : CableWorld). HasRoot q set) (sym (quiet-then hs t.0 u.0 w)) u.2)
+              inl (t.0 + u.0, up-none n (most + 2 * (v.delay + slack)) (most + 2 * (w.delay + slack)) t.0 u.0 same t.1 u.1, subst (λ (q : CableWorld). At q set a b (AreUp a.port b.port (m + suc n))) (sym (quiet-then hs t.0 u.0 w)) (subst (λ k. At (quiet_after rest u.0 v) set a b (AreUp a.port b.port k)) z u.2))
+          | inr u ↦ inr (t.0 + u.0, up-to n (most + 2 * (v.delay + slack)) (most + 2 * (w.delay + slack)) t.0 u.0 most most refl same t.1 u.1, subst (λ (q : CableWorld). HasRoot q set) (sym (quiet-then hs t.0 u.0 w)) u.2)
         ]
   ]
     where

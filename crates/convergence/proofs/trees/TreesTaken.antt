@@ -14,10 +14,13 @@ use Rattle.cabling.specs.NodeSet.{IsWithin, IsEmpty}
 use Rattle.cabling.specs.Looped.{LeadsInto}
 use Rattle.cabling.proofs.Lemmas.{below, weak_or_all, plugged}
 use Rattle.convergence.proofs.turns.CalmTurns.{heard_by}
-use Rattle.convergence.proofs.turns.BeforeTree.{Left, TwoLeft, undecided-two}
+use Rattle.convergence.proofs.turns.BeforeTree.{Left, TwoLeft, StaysInStart, undecided-two}
 use Rattle.convergence.proofs.turns.Flush.{Tells, Shown, flush}
 use Rattle.convergence.proofs.sets.Gathered.{Gathered, gathered, count, count-most, count-le, count-less, count-some, count-found}
 use Rattle.convergence.proofs.trees.TreeStart.{IsEarly, Started, started, only-start, start-early, early-was, early-at-first, start-timer, done-at}
+use Rattle.convergence.specs.Turns.{slack}
+use Rattle.convergence.proofs.turns.TwoTurns.{Misses, not-missed}
+use Rattle.port_state.specs.Clock.{misses}
 
 -- ---- what neighbours that know their tree tell
 
@@ -78,15 +81,12 @@ pub record TwoSilent (y : NodeState) : Type 0 where
   pub high_silent : Silent y high
 
 module _ (hs : HoldSchedule) (v : CableWorld) (l : IsLawful v) (done : ResetsAreDone v) where
-  -- after the longest force time two ports keep it there
-  stays-by-two :
+  ticked-by-two :
       (i k : ℕ) → v.longest.force ≤ i → (n : IsEarly (quiet_after hs (i + 1) v) k) →
-      TwoSilent n.node.state
-  stays-by-two i k old n = record { low = two.low; high = two.high; apart = two.apart; low_silent = silent two.low two.low_left; high_silent = silent two.high two.high_left }
+      (s : Started hs v l done i k n.node) →
+      StaysInStart (heard_by (quiet_after hs i v) k s.calm.node) n.node.state → TwoSilent n.node.state
+  ticked-by-two i k old n s kept = record { low = two.low; high = two.high; apart = two.apart; low_silent = silent two.low two.low_left; high_silent = silent two.high two.high_left }
     where
-      s : Started hs v l done i k n.node.state
-      s = started hs v l done i k n.node n.at n.early
-
       now : NodeState
       now = heard_by (quiet_after hs i v) k s.calm.node
 
@@ -96,15 +96,15 @@ module _ (hs : HoldSchedule) (v : CableWorld) (l : IsLawful v) (done : ResetsAre
           let same : (quiet_after hs i v).longest.force ≡ v.longest.force = ap (λ (t : Timing). t.force) (after-longest hs v l i) in
           let few : v.longest.force ≤ 65535 = omega (arith, same, fits.counted.force) in
           let needed : now.timing.force ≤ v.longest.force = omega (arith, ap (λ (t : Timing). t.force) s.calm.hears.timing, fits.force_most, same) in
-          let timer : v.longest.force ≤ s.calm.node.state.view.timer =
-          start-timer hs v l done i (v.longest.force) k old few (record { node = s.calm.node; at = s.calm.at; early = start-early s.calm.node.state.view.phase s.start }) in
-          enough now.timing.force now.view.timer (omega (arith, needed, timer, s.calm.heard.timer)) (omega (arith, needed, few))
+          let timer : s.calm.node.state.timing.force ≤ s.calm.node.state.view.timer =
+          start-timer hs v l done i k old (record { node = s.calm.node; at = s.calm.at; early = start-early s.calm.node.state.view.phase s.start }) in
+          enough now.timing.force now.view.timer (omega (arith, ap (λ (t : Timing). t.force) s.calm.hears.timing, timer, s.calm.heard.timer)) (omega (arith, needed, few))
         where
           enough : (f t : ℕ) → f ≤ t → f ≤ 65535 → f ≤ min (t + 1) 65535
           enough f t h m = omega (arith, h, m)
 
       two : TwoLeft now.view.ports
-      two = undecided-two (raise_timer now) s.kept.undecided force
+      two = undecided-two (raise_timer now) kept.undecided force
 
       silent : (p : ℕ) → Left now.view.ports p → Silent n.node.state p
       silent p h = record {
@@ -117,6 +117,12 @@ module _ (hs : HoldSchedule) (v : CableWorld) (l : IsLawful v) (done : ResetsAre
               passes (λ q. is_parent q.shown) o ≡ false → is_parent (shown_or_idle o) ≡ false
           go None on e = refl
           go (Some q) on e = e
+
+  -- after the longest force time two ports keep it there, unless its clock misses the turn
+  stays-by-two :
+      (i k : ℕ) → v.longest.force ≤ i → (n : IsEarly (quiet_after hs (i + 1) v) k) →
+      (s : Started hs v l done i k n.node) → (misses s.calm.node.clock ≡ true) ⊎ TwoSilent n.node.state
+  stays-by-two i k old n s = elim s.kept [ inl m ↦ inl m.0 | inr t ↦ inr (ticked-by-two i k old n s t) ]
 
 -- ---- the nodes in T0 of a component without loop
 
@@ -171,14 +177,14 @@ module _
 
     -- a port that shows no Parent leads to another of them
     leads :
-        (u : ℕ) → Holds set u → (n : IsEarly (quiet_after hs (t + v.delay) v) u) → (q : ℕ) →
+        (j u : ℕ) → v.delay ≤ j → Holds set u → (n : IsEarly (quiet_after hs (t + j) v) u) → (q : ℕ) →
         Silent n.node.state q → LeadsInto v.cabling g.set (end_at u q)
-    leads u in_set n q s = go (far v.cabling (end_at u q)) refl
+    leads j u enough in_set n q s = go (far v.cabling (end_at u q)) refl
       where
         cable :
             (o : Option End) → far v.cabling (end_at u q) ≡ o →
-            far (quiet_after hs (t + v.delay) v).cabling (end_at u q) ≡ o
-        cable o e = ap (λ (c : Wiring). far c (end_at u q)) (after-cabling hs (t + v.delay) v) ∙ e
+            far (quiet_after hs (t + j) v).cabling (end_at u q) ≡ o
+        cable o e = ap (λ (c : Wiring). far c (end_at u q)) (after-cabling hs (t + j) v) ∙ e
 
         to :
             (a : End) → far v.cabling (end_at u q) ≡ Some a → (b : Bool) → member t a.node ≡ b →
@@ -190,55 +196,81 @@ module _
             let w : CableWorld = quiet_after hs t v in
             let late : IsEarly w a.node → ⊥ = λ y. contrary (member-from t a.node (closed (end_at u q) a e in_set) y) m in
             let e_then : far w.cabling (end_at u q) ≡ Some a = ap (λ (c : Wiring). far c (end_at u q)) (after-cabling hs t v) ∙ e in
-            let n_then : IsEarly (quiet_after (holds_after t hs) v.delay w) u = subst (λ z. IsEarly z u) (quiet-then hs t v.delay v) n in
-            let at_then : slice_get (quiet_after (holds_after t hs) v.delay w).nodes u ≡ Some n.node = ap (λ (z : CableWorld). slice_get z.nodes u) (sym (quiet-then hs t v.delay v)) ∙ n.at in
+            let n_then : IsEarly (quiet_after (holds_after t hs) j w) u = subst (λ z. IsEarly z u) (quiet-then hs t j v) n in
+            let at_then : slice_get (quiet_after (holds_after t hs) j w).nodes u ≡ Some n.node = ap (λ (z : CableWorld). slice_get z.nodes u) (sym (quiet-then hs t j v)) ∙ n.at in
             let same : w.delay ≤ v.delay = omega (arith, after-delay hs v l t) in
-            contrary (shown-parent (holds_after t hs) w (quiet-lawful hs t v l) (done-at hs v l done t) u q a e_then late v.delay same n_then n.node at_then) s.silent
+            contrary (shown-parent (holds_after t hs) w (quiet-lawful hs t v l) (done-at hs v l done t) u q a e_then late j (omega (arith, same, enough)) n_then n.node at_then) s.silent
 
         go :
             (o : Option End) → far v.cabling (end_at u q) ≡ o →
             LeadsInto v.cabling g.set (end_at u q)
-        go None e = contrary s.on (((quiet-lawful hs (t + v.delay) v l).well_formed.nodes u n.node n.at).connected q ∙ ap is_some (cable None e))
+        go None e = contrary s.on (((quiet-lawful hs (t + j) v l).well_formed.nodes u n.node n.at).connected q ∙ ap is_some (cable None e))
         go (Some a) e = (a, e, to a e (member t a.node) refl)
 
-    -- one of them is gone d turns later
+    leads-two :
+        (j u : ℕ) → v.delay ≤ j → Holds set u → (n : IsEarly (quiet_after hs (t + j) v) u) →
+        TwoSilent n.node.state → HasTwo v.cabling g.set u
+    leads-two j u enough in_set n two = record {
+      low = two.low;
+      high = two.high;
+      apart = two.apart;
+      low_leads = leads j u enough in_set n two.low two.low_silent;
+      high_leads = leads j u enough in_set n two.high two.high_silent;
+    }
+
+    -- the same node after so many turns
+    abbrev moved :
+        (i j u : ℕ) → i ≡ j → (n : IsEarly (quiet_after hs i v) u) → IsEarly (quiet_after hs j v) u
+    moved i j u z n = record { node = n.node; at = ap (λ m. slice_get (quiet_after hs m v).nodes u) (sym z) ∙ n.at; early = n.early }
+
+    -- if one of them with one cable into the part is still there d turns later, its clock missed the turn
+    gone-missed :
+        (u j : ℕ) → Holds g.set u → (HasTwo v.cabling g.set u → ⊥) → v.delay ≤ j + 1 → Holds set u →
+        IsEarly (quiet_after hs (t + j + 1) v) u → Misses hs v (t + j) u
+    gone-missed u j h leaf late in_set n =
+        let s : Started hs v l done (t + j) u n.node = started hs v l done (t + j) u n.node n.at n.early in
+        let z : t + j + 1 ≡ t + (j + 1) = omega arith in
+        elim (stays-by-two hs v l done (t + j) u (omega (arith, old)) n s) [
+          | inl missed ↦ record { node = s.calm.node; at = s.calm.at; missed = missed }
+          | inr two ↦ absurd (leaf (leads-two (j + 1) u late in_set (moved (t + j + 1) (t + (j + 1)) u z n) two))
+        ]
+
+    -- one of them is gone d turns later, and one more where a clock may miss that
     gone :
-        (u : ℕ) → Holds g.set u → (HasTwo v.cabling g.set u → ⊥) → (b : Bool) → member (t + v.delay)
-        u ≡ b → b ≡ false
+        (u : ℕ) → Holds g.set u → (HasTwo v.cabling g.set u → ⊥) → (b : Bool) →
+        member (t + (v.delay + slack v)) u ≡ b → b ≡ false
     gone u h leaf false m = refl
     gone u h leaf true m =
-        let p = member-parts (t + v.delay) u m in
-        let z : t + v.delay ≡ t + (v.delay - 1) + 1 = omega (arith, l.well_formed.some_delay) in
-        let n : IsEarly (quiet_after hs (t + (v.delay - 1) + 1) v) u = subst (λ j. IsEarly (quiet_after hs j v) u) z p.1 in
-        let two : TwoSilent n.node.state = stays-by-two hs v l done (t + (v.delay - 1)) u (omega (arith, old)) n in
-        let now : IsEarly (quiet_after hs (t + v.delay) v) u = record { node = n.node; at = ap (λ j. slice_get (quiet_after hs j v).nodes u) z ∙ n.at; early = n.early } in
-        absurd (leaf (record {
-          low = two.low;
-          high = two.high;
-          apart = two.apart;
-          low_leads = leads u p.0 now two.low two.low_silent;
-          high_leads = leads u p.0 now two.high two.high_silent;
-        }))
+        let p = member-parts (t + (v.delay + slack v)) u m in
+        let j : ℕ = v.delay - 1 in
+        let y : t + (v.delay + slack v) ≡ t + (j + slack v) + 1 = omega (arith, l.well_formed.some_delay) in
+        let z : t + (j + slack v) ≡ t + j + slack v = omega arith in
+        let n : IsEarly (quiet_after hs (t + (j + slack v) + 1) v) u = moved (t + (v.delay + slack v)) (t + (j + slack v) + 1) u y p.1 in
+        absurd (not-missed hs v l (t + j) u
+        (subst (λ i. Misses hs v i u) z (gone-missed u (j + slack v) h leaf (omega (arith, l.well_formed.some_delay)) p.0 n))
+        (λ one.
+        let x : t + (j + slack v) ≡ t + j + 1 = omega (arith, one) in
+        gone-missed u j h leaf (omega (arith, l.well_formed.some_delay)) p.0 (moved (t + (j + slack v)) (t + j + 1) u x (early-was hs v l done (t + (j + slack v)) u n))))
 
     falls :
-        (k : ℕ) → member t k ≡ true → count (member (t + v.delay)) (length v.nodes)
+        (k : ℕ) → member t k ≡ true → count (member (t + (v.delay + slack v))) (length v.nodes)
         + 1 ≤ count (member t) (length v.nodes)
     falls k m =
         let e = (member-parts t k m).1 in
         let inside : k < length v.nodes = omega (arith, slice_get_within (quiet_after hs t v).nodes k e.node e.at, after-length hs v l t) in
         let found = leaf v.cabling set core g.set k is empty g.small (λ j h. (member-parts t j ((g.is j).0 h).1).0) ((g.is k).1 (inside, m)) in
         let u = (g.is found.0).0 found.1 in
-        count-less (member (t + v.delay)) (member t) (λ j. member-was t v.delay j) (length v.nodes) found.0 u.0 (gone found.0 found.1 found.2 (member (t + v.delay) found.0) refl) u.1
+        count-less (member (t + (v.delay + slack v))) (member t) (λ j. member-was t (v.delay + slack v) j) (length v.nodes) found.0 u.0 (gone found.0 found.1 found.2 (member (t + (v.delay + slack v)) found.0) refl) u.1
 
   abbrev time : ℕ → ℕ
   time zero = v.longest.force
-  time (suc c) = time c + v.delay
+  time (suc c) = time c + (v.delay + slack v)
 
-  time-is : (c : ℕ) → time c ≡ v.longest.force + c * v.delay
+  time-is : (c : ℕ) → time c ≡ v.longest.force + c * (v.delay + slack v)
   time-is zero = omega arith
-  time-is (suc c) = let z : suc c * v.delay ≡ c * v.delay + v.delay = grind arith in omega (arith, z, time-is c)
+  time-is (suc c) = let z : suc c * (v.delay + slack v) ≡ c * (v.delay + slack v) + (v.delay + slack v) = grind arith in omega (arith, z, time-is c)
 
-  -- after so many times d turns so many are gone, or all
+  -- after so many times d + slack turns so many are gone, or all
   fewer :
       (c : ℕ) → (count (member (time c)) (length v.nodes) + c ≤ length v.nodes)
       ⊎ (count (member (time c)) (length v.nodes) ≡ 0)
@@ -246,16 +278,16 @@ module _
   fewer (suc c) = go (fewer c) (count-found (member (time c)) (length v.nodes))
     where
       less :
-          count (member (time c + v.delay)) (length v.nodes) ≤ count (member (time c))
+          count (member (time c + (v.delay + slack v))) (length v.nodes) ≤ count (member (time c))
           (length v.nodes)
-      less = count-le (member (time c + v.delay)) (member (time c)) (λ j. member-was (time c) v.delay j) (length v.nodes)
+      less = count-le (member (time c + (v.delay + slack v))) (member (time c)) (λ j. member-was (time c) (v.delay + slack v) j) (length v.nodes)
 
       go :
           (count (member (time c)) (length v.nodes) + c ≤ length v.nodes)
           ⊎ (count (member (time c)) (length v.nodes) ≡ 0) →
           (count (member (time c)) (length v.nodes) ≡ 0) ⊎ ((k : ℕ) × (member (time c) k ≡ true)) →
-          (count (member (time c + v.delay)) (length v.nodes) + suc c ≤ length v.nodes)
-          ⊎ (count (member (time c + v.delay)) (length v.nodes) ≡ 0)
+          (count (member (time c + (v.delay + slack v))) (length v.nodes) + suc c ≤ length v.nodes)
+          ⊎ (count (member (time c + (v.delay + slack v))) (length v.nodes) ≡ 0)
       go f (inl none) = inr (omega (arith, less, none))
       go (inr none) k = inr (omega (arith, less, none))
       go (inl f) (inr k) = inl (omega (arith, f, falls (time c) (omega (arith, time-is c)) k.0 k.1))
@@ -265,7 +297,7 @@ module _
 
   -- so in the end each node knows its tree
   pub all-taken :
-      (i : ℕ) → v.longest.force + length v.nodes * v.delay ≤ i → (k : ℕ) (x : PortNode) →
+      (i : ℕ) → v.longest.force + length v.nodes * (v.delay + slack v) ≤ i → (k : ℕ) (x : PortNode) →
       Holds set k → slice_get (quiet_after hs i v).nodes k ≡ Some x →
       is_before_tree x.state.view.phase ≡ false
   all-taken i late k x h at = false_from_ne_true _ (λ e.

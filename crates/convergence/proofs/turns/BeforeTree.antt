@@ -1,10 +1,10 @@
 -- Nodes in R1 and T0 in a turn in which no Reset comes: how they come there, and what keeps them
 -- there.
-use Rattle.std.proofs.Common.{◌≡◌, ◌⊎◌, inl, inr, ℕ, suc, ◌+◌, ◌<◌, ◌≤◌, Bool, true, false, not, ◌&&◌, ◌||◌, ◌==◌, cond, List, [], ◌∷◌, count_by, nat_le, if◌then◌else◌, refl, sym, ap, arith, true≢false}
+use Rattle.std.proofs.Common.{None, Some, Option, ◌≡◌, ◌⊎◌, inl, inr, ℕ, suc, ◌+◌, ◌<◌, ◌≤◌, Bool, true, false, not, ◌&&◌, ◌||◌, ◌==◌, cond, List, [], ◌∷◌, count_by, nat_le, if◌then◌else◌, refl, sym, ap, arith, true≢false}
 use Rattle.std.proofs.lemmas.Bool.{leb-false, and_from}
 use Rattle.std.proofs.lemmas.Bool.Decides.{nat_tests}
 use Rattle.std.proofs.lemmas.List.Sums.{sum_by-cons}
-use Rattle.convergence.proofs.Common.{Phase, PortView, NodeState, is_parent, every, port_is, is_connected, Row, raise_timer, row_of, does, next_row, tick, is_before_tree, is_in_bus_reset, risen, Chosen, chosen}
+use Rattle.convergence.proofs.Common.{on_beat, Phase, PortView, NodeState, is_parent, every, port_is, is_connected, Row, raise_timer, row_of, does, next_row, tick, is_before_tree, is_in_bus_reset, risen, Chosen, chosen}
 use Rattle.port_state.specs.declared.signal.Phase.TheVariants as phase
 use Rattle.port_state.specs.Ports.{asks, connected_count}
 use Rattle.port_state.specs.Resetting.{is_calm}
@@ -33,27 +33,39 @@ row-early coin (row.asks_child p) x c h = h
 row-early coin r x c h = absurd (true≢false (sym h))
 
 -- in R0 or R1 after a tick: so before
-pub was-waiting :
+tick-was-waiting :
     (coin : Bool) (x : NodeState) → is_in_bus_reset (tick coin x).state.view.phase ≡ true →
     is_in_bus_reset x.view.phase ≡ true
 unfolding tick
-was-waiting coin x h = row-waiting coin (next_row x) (raise_timer x) (chosen x.view.phase (raise_timer x) refl) h
+tick-was-waiting coin x h = row-waiting coin (next_row x) (raise_timer x) (chosen x.view.phase (raise_timer x) refl) h
 
-pub was-early :
+pub was-waiting :
+    (b : Option Bool) (x : NodeState) → is_in_bus_reset (on_beat b x).state.view.phase ≡ true →
+    is_in_bus_reset x.view.phase ≡ true
+was-waiting None x h = h
+was-waiting (Some coin) x h = tick-was-waiting coin x h
+
+tick-was-early :
     (coin : Bool) (x : NodeState) → is_before_tree (tick coin x).state.view.phase ≡ true →
     is_before_tree x.view.phase ≡ true
 unfolding tick
-was-early coin x h = row-early coin (next_row x) (raise_timer x) (chosen x.view.phase (raise_timer x) refl) h
+tick-was-early coin x h = row-early coin (next_row x) (raise_timer x) (chosen x.view.phase (raise_timer x) refl) h
+
+pub was-early :
+    (b : Option Bool) (x : NodeState) → is_before_tree (on_beat b x).state.view.phase ≡ true →
+    is_before_tree x.view.phase ≡ true
+was-early None x h = h
+was-early (Some coin) x h = tick-was-early coin x h
 
 -- ---- what keeps it there
 
 -- in R1: some port isn't calm
-pub waits-for :
+tick-waits-for :
     (coin : Bool) (x : NodeState) → x.view.phase ≡ phase.ResetWait →
     is_in_bus_reset (tick coin x).state.view.phase ≡ true → every (λ p. is_calm p.shown)
     x.view.ports ≡ false
 unfolding tick
-waits-for coin x e h = kept x.view.phase (raise_timer x) e h
+tick-waits-for coin x e h = kept x.view.phase (raise_timer x) e h
   where
     kept :
         (p : Phase) (y : NodeState) → p ≡ phase.ResetWait →
@@ -69,6 +81,14 @@ waits-for coin x e h = kept x.view.phase (raise_timer x) e h
         go false e h = refl
         go true e h = absurd (true≢false (sym h))
     kept p y e h = absurd cc
+
+-- or the turn is missed
+pub waits-for :
+    (b : Option Bool) (x : NodeState) → x.view.phase ≡ phase.ResetWait →
+    is_in_bus_reset (on_beat b x).state.view.phase ≡ true →
+    (b ≡ None) ⊎ (every (λ p. is_calm p.shown) x.view.ports ≡ false)
+waits-for None x e h = inl refl
+waits-for (Some coin) x e h = inr (tick-waits-for coin x e h)
 
 -- in T0: its roles aren't decided, the timer rose, and after a while the node reports a time out
 pub record StaysInStart (x y : NodeState) : Type 0 where
@@ -108,6 +128,14 @@ stays-in-start coin x e h = kept x.view.phase e h
         go true d h = absurd cc
         go false d h = late d (nat_le x.timing.timeout (raise_timer x).view.timer) refl
     kept p e h = absurd cc
+
+-- or the turn is missed
+pub start-on :
+    (b : Option Bool) (x : NodeState) → x.view.phase ≡ phase.TreeStart →
+    (on_beat b x).state.view.phase ≡ phase.TreeStart →
+    ((b ≡ None) × ((on_beat b x).state ≡ x)) ⊎ StaysInStart x (on_beat b x).state
+start-on None x e h = inl (refl, refl)
+start-on (Some coin) x e h = inr (stays-in-start coin x e h)
 
 -- ---- ports
 

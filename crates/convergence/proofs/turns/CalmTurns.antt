@@ -1,7 +1,7 @@
 -- A turn of a world without a node in R0: no node enters a reset, and each comes from where it was.
 use Rattle.std.proofs.Common.{◌≡◌, inl, inr, ℕ, true, false, List, Some, slice_get, sym, ◌∙◌, ap, arith}
 use Rattle.std.proofs.lemmas.Bool.{false_from_ne_true}
-use Rattle.convergence.proofs.Common.{Signal, Phase, NodeState, coin, is_resetting, tick, PortNode, ports_of, CableWorld, inbox, turn, hear_all, is_before_tree, is_in_bus_reset, IsLawful, before, hears, ticks, NoEntry, HearsWell, TicksWell, turn-state, NoneIn, ResetsAreDone, contrary}
+use Rattle.convergence.proofs.Common.{Signal, Phase, NodeState, beat, is_resetting, on_beat, PortNode, ports_of, CableWorld, inbox, turn, hear_all, is_before_tree, is_in_bus_reset, IsLawful, before, hears, ticks, NoEntry, HearsWell, TicksWell, turn-state, NoneIn, ResetsAreDone, contrary}
 use Rattle.cable_world.proofs.Lemmas.{Recent, comes-from, hear-came}
 use Rattle.convergence.proofs.turns.BeforeTree.{was-waiting, was-early}
 
@@ -17,9 +17,9 @@ pub record Calmly (w : CableWorld) (k : ℕ) (y : NodeState) : Type 0 where
   pub node : PortNode
   pub at : slice_get w.nodes k ≡ Some node
   pub hears : HearsWell (signals w k) node.state
-  pub ticks : TicksWell (coin node.coins) (heard_by w k node)
+  pub ticks : TicksWell (beat node) (heard_by w k node)
   pub heard : NoEntry node.state (hear_all (signals w k) node.state)
-  pub is : y ≡ (tick (coin node.coins) (heard_by w k node)).state
+  pub is : y ≡ (on_beat (beat node) (heard_by w k node)).state
 
 pub calmly :
     (w : CableWorld) → IsLawful w → NoneIn is_resetting w → (k : ℕ) (y : PortNode) →
@@ -45,12 +45,12 @@ calmly w l calm k y at_y =
 pub waiting-before :
     (w : CableWorld) (k : ℕ) (y : NodeState) → (c : Calmly w k y) →
     is_in_bus_reset y.view.phase ≡ true → is_in_bus_reset c.node.state.view.phase ≡ true
-waiting-before w k y c h = sym (ap is_in_bus_reset c.heard.phase) ∙ was-waiting (coin c.node.coins) (heard_by w k c.node) (sym (ap (λ (s : NodeState). is_in_bus_reset s.view.phase) c.is) ∙ h)
+waiting-before w k y c h = sym (ap is_in_bus_reset c.heard.phase) ∙ was-waiting (beat c.node) (heard_by w k c.node) (sym (ap (λ (s : NodeState). is_in_bus_reset s.view.phase) c.is) ∙ h)
 
 pub early-before :
     (w : CableWorld) (k : ℕ) (y : NodeState) → (c : Calmly w k y) →
     is_before_tree y.view.phase ≡ true → is_before_tree c.node.state.view.phase ≡ true
-early-before w k y c h = sym (ap is_before_tree c.heard.phase) ∙ was-early (coin c.node.coins) (heard_by w k c.node) (sym (ap (λ (s : NodeState). is_before_tree s.view.phase) c.is) ∙ h)
+early-before w k y c h = sym (ap is_before_tree c.heard.phase) ∙ was-early (beat c.node) (heard_by w k c.node) (sym (ap (λ (s : NodeState). is_before_tree s.view.phase) c.is) ∙ h)
 
 pub not-waiting : (p : Phase) → is_in_bus_reset p ≡ false → is_resetting p ≡ false
 not-waiting p h = grind arith

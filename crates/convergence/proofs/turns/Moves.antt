@@ -2,7 +2,7 @@
 use Rattle.std.proofs.Common.{◌≡◌, ◌⊎◌, inl, inr, ℕ, zero, suc, ◌+◌, ◌<◌, ◌≤◌, Bool, true, false, List, [], ◌∷◌, Option, Some, None, slice_get, refl, sym, ap, subst, arith, true≢false, if◌then◌else◌}
 use Rattle.std.specs.Prelude.{min, IsSome, nat_le}
 use Rattle.std.proofs.lemmas.Bool.{leb-true, and_parts}
-use Rattle.convergence.proofs.Common.{Level, Signal, PortView, NodeState, is_idle, is_parent, is_child, every, passes, port_is, is_connected, draws_with, Row, raise_timer, row_of, does, next_row, tick, FitsPhase, IsValid, is_before_tree, is_shaking, shown_or_idle, level_shown, Chosen, chosen, contrary}
+use Rattle.convergence.proofs.Common.{Level, Signal, PortView, NodeState, is_idle, is_parent, is_child, every, passes, port_is, is_connected, draws_with, Row, raise_timer, row_of, does, next_row, tick, on_beat, FitsPhase, IsValid, is_before_tree, is_shaking, shown_or_idle, level_shown, Chosen, chosen, contrary}
 use Rattle.port_state.specs.declared.signal.Level.TheVariants as level
 use Rattle.port_state.specs.declared.signal.Phase.TheVariants as phase
 use Rattle.port_state.specs.Contention.{contend_at}
@@ -282,6 +282,70 @@ pub tick-shaking-from :
 unfolding tick
 tick-shaking-from coin x h = shaking-from coin (next_row x) (raise_timer x) (chosen x.view.phase (raise_timer x) refl) h
 
+-- ---- of a turn of the clock, which may be missed
+
+abbrev pub coin_of : Option Bool → Bool
+coin_of None = false
+coin_of (Some c) = c
+
+pub beat-contending :
+    (b : Option Bool) (x : NodeState) → (on_beat b x).state.view.phase ≡ phase.Contend →
+    (x.view.phase ≡ phase.Contend) ⊎ Drew (coin_of b) x (on_beat b x).state
+beat-contending None x h = inl h
+beat-contending (Some c) x h = tick-contending c x h
+
+pub beat-draws :
+    (b : Option Bool) (x : NodeState) →
+    Drew (coin_of b) x (on_beat b x).state ⊎ DrewNone x (on_beat b x).state
+beat-draws None x = inr (record { draws = refl; first_draws = refl; wait = refl })
+beat-draws (Some c) x = tick-draws c x
+
+pub beat-shaken :
+    (b : Option Bool) (x : NodeState) → is_shaking x.view.phase ≡ true →
+    Shaken (coin_of b) x (on_beat b x).state (on_beat b x).sends
+beat-shaken None x h = inl (record { phase = h; parent = refl; sends_none = refl })
+beat-shaken (Some c) x h = tick-shaken c x h
+
+-- the wait goes on
+pub record Waits (b : Option Bool) (x y : NodeState) (sends : List (ℕ × Signal)) : Type 0 where
+  pub phase : y.view.phase ≡ phase.Contend
+  pub parent : y.view.parent ≡ x.view.parent
+  pub timer : ((b ≡ None) × (y.view.timer ≡ x.view.timer)) ⊎ (y.view.timer ≡ min (x.view.timer + 1) 65535)
+  pub not_yet : y.view.timer < x.view.wait
+  pub sends_none : sends ≡ []
+
+abbrev pub Fights : Option Bool → NodeState → NodeState → List (ℕ × Signal) → Type 0
+Fights b x y sends = Waits b x y sends ⊎ (TookRival (raise_timer x) y ⊎ AskedAgain (raise_timer x) y)
+
+pub beat-fought :
+    (b : Option Bool) (x : NodeState) → IsValid x → x.view.phase ≡ phase.Contend →
+    x.view.timer < x.view.wait → Fights b x (on_beat b x).state (on_beat b x).sends
+beat-fought None x v c t = inl (record { phase = c; parent = refl; timer = inl (refl, refl); not_yet = t; sends_none = refl })
+beat-fought (Some k) x v c t = elim (tick-fought k x v c) [
+  | inl w ↦ inl (record { phase = w.phase; parent = w.parent; timer = inr w.timer; not_yet = omega (arith, w.timer, w.not_yet); sends_none = w.sends_none })
+  | inr o ↦ inr o
+]
+
+pub beat-late :
+    (b : Option Bool) (x : NodeState) → is_before_tree x.view.phase ≡ false →
+    is_before_tree (on_beat b x).state.view.phase ≡ false
+beat-late None x h = h
+beat-late (Some c) x h = tick-late c x h
+
+pub beat-late-was :
+    (b : Option Bool) (x : NodeState) → is_before_tree (on_beat b x).state.view.phase ≡ false →
+    (is_before_tree x.view.phase ≡ false)
+    ⊎ ((x.view.phase ≡ phase.TreeStart) × ((on_beat b x).state.view.phase ≡ phase.ChildShake))
+beat-late-was None x h = inl h
+beat-late-was (Some c) x h = tick-late-was c x h
+
+pub beat-shaking-from :
+    (b : Option Bool) (x : NodeState) → is_shaking (on_beat b x).state.view.phase ≡ true →
+    (is_shaking x.view.phase ≡ true)
+    ⊎ ((x.view.phase ≡ phase.TreeStart) ⊎ (x.view.phase ≡ phase.Contend))
+beat-shaking-from None x h = inl h
+beat-shaking-from (Some c) x h = tick-shaking-from c x h
+
 -- ---- T1
 
 -- all child ports show Idle
@@ -323,3 +387,11 @@ pub child-idle :
     (x : NodeState) (k : ℕ) → all_idle x ≡ true → port_is (λ p. p.child) x.view.ports k ≡ true →
     is_connected x.view.ports k ≡ true → is_idle (level_shown x k) ≡ true
 child-idle x k e c on = idle-at x.view.ports k e c on
+
+-- T1 goes on, or ends where all child ports are idle
+pub beat-child-shake :
+    (b : Option Bool) (x : NodeState) → x.view.phase ≡ phase.ChildShake →
+    ((all_idle x ≡ true) × ((on_beat b x).state.view.phase ≡ phase.ParentShake))
+    ⊎ ((on_beat b x).state.view.phase ≡ phase.ChildShake)
+beat-child-shake None x c = inr c
+beat-child-shake (Some k) x c = elim (tick-child-shake k x c) [ inl a ↦ inl a | inr e ↦ inr e.1 ]

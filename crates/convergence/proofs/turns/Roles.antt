@@ -2,7 +2,7 @@
 use Rattle.std.proofs.Common.{◌≡◌, ◌⊎◌, inl, inr, ℕ, ◌≤◌, Bool, true, false, not, ◌&&◌, ◌||◌, List, Option, Some, None, is_some, refl, sym, ◌∙◌, ap, subst, true≢false}
 use Rattle.std.proofs.lemmas.Bool.{eqb-true, eq-eqb, or_left, or_right, or_cases, and_from, and_parts, false_from_ne_true}
 use Rattle.port_state.specs.declared.signal.Level.TheVariants as level
-use Rattle.convergence.proofs.Common.{Phase, Signal, NodeState, is_connected, is_port, Row, raise_timer, next_row, does, tick, FitsPhase, IsValid, is_before_tree, level_shown, leads_down, child-if, late-roles, not-both, HearsWell, TicksWell, risen, Chosen, chosen, hear_all, contrary}
+use Rattle.convergence.proofs.Common.{Phase, Signal, NodeState, is_connected, is_port, Row, raise_timer, next_row, does, tick, on_beat, FitsPhase, IsValid, is_before_tree, level_shown, leads_down, child-if, late-roles, not-both, HearsWell, TicksWell, risen, Chosen, chosen, hear_all, contrary}
 use Rattle.port_state.specs.declared.signal.Phase.TheVariants as phase
 use Rattle.port_state.specs.Row as row
 use Rattle.cable_world.specs.Phases.{is_contending}
@@ -48,11 +48,17 @@ parent-by coin row.takes_roles x k c h = inr c.0
 parent-by coin (row.takes_rival p) x k c h = absurd (true≢false (sym h))
 parent-by coin r x k c h = inl h
 
-pub parent-was :
+tick-parent-was :
     (coin : Bool) (x : NodeState) (k : ℕ) → is_port (tick coin x).state.view.parent k ≡ true →
     (is_port x.view.parent k ≡ true) ⊎ (x.view.phase ≡ phase.TreeStart)
 unfolding tick
-parent-was coin x k h = parent-by coin (next_row x) (raise_timer x) k (chosen x.view.phase (raise_timer x) refl) h
+tick-parent-was coin x k h = parent-by coin (next_row x) (raise_timer x) k (chosen x.view.phase (raise_timer x) refl) h
+
+pub parent-was :
+    (b : Option Bool) (x : NodeState) (k : ℕ) → is_port (on_beat b x).state.view.parent k ≡ true →
+    (is_port x.view.parent k ≡ true) ⊎ (x.view.phase ≡ phase.TreeStart)
+parent-was None x k h = inl h
+parent-was (Some coin) x k h = tick-parent-was coin x k h
 
 -- ---- a turn
 
@@ -94,13 +100,13 @@ takes-start x y k t p = elim (or_cases (in_start && not (is_before_tree y.view.p
     none (Some j) e = absurd (true≢false (sym e))
 
 module _
-    (signals : List (ℕ × Signal)) (coin : Bool) (x : NodeState) (h : HearsWell signals x)
-    (t : TicksWell coin (hear_all signals x).state) where
+    (signals : List (ℕ × Signal)) (b : Option Bool) (x : NodeState) (h : HearsWell signals x)
+    (t : TicksWell b (hear_all signals x).state) where
   abbrev heard : NodeState
   heard = (hear_all signals x).state
 
   abbrev after : NodeState
-  after = (tick coin (hear_all signals x).state).state
+  after = (on_beat b (hear_all signals x).state).state
 
   begun-early : EntersReset x (hear_all signals x) → is_before_tree heard.view.phase ≡ true
   begun-early c = ap is_before_tree c.phase
@@ -113,12 +119,12 @@ module _
       (k : ℕ) → is_port after.view.parent k ≡ true → takes x after ≡ false →
       is_port x.view.parent k ≡ true
   parent-before k p none = elim h.cases [
-    | inl s ↦ elim (parent-was coin heard k p) [
+    | inl s ↦ elim (parent-was b heard k p) [
       | inl was ↦ sym (ap (λ o. is_port o k) s.parent) ∙ was
       | inr start ↦ absurd (true≢false
           (sym (takes-tree x after (sym s.phase ∙ start) (parent-late after t.valid k p)) ∙ none))
     ]
-    | inr c ↦ elim (parent-was coin heard k p) [
+    | inr c ↦ elim (parent-was b heard k p) [
       | inl was ↦ contrary was (ap (λ o. is_port o k) (early-parentless heard h.valid (begun-early c)))
       | inr start ↦ absurd (other-phase heard.view.phase c.phase start)
     ]
@@ -150,7 +156,7 @@ module _
       go None e = refl
       go (Some j) e =
           let p : is_port after.view.parent j ≡ true = ap (λ o. is_port o j) e ∙ eq-eqb j j refl in
-          absurd (elim (parent-was coin heard j p) [
+          absurd (elim (parent-was b heard j p) [
             | inl was ↦
                 let same : k ≡ j = eqb-true k j (sym (ap (λ o. is_port o j) parent) ∙ was) in
                 not-here (subst (λ i. is_port after.view.parent i ≡ true) (sym same) p)
@@ -168,7 +174,7 @@ module _
         | inr a ↦ inr (takes-flip x after (sym s.phase ∙ a.0) (flipped k on c a.0 a.1), inr (sym s.phase ∙ a.0))
       ]
     ]
-    | inr b ↦ absurd (begun b (t.child k (h.cables k ∙ on) c))
+    | inr e ↦ absurd (begun e (t.child k (h.cables k ∙ on) c))
   ]
     where
       phases : (p : Phase) → p ≡ phase.ResetStart → p ≡ phase.Contend → ⊥

@@ -2,12 +2,12 @@
 -- lighter where it leaves T1.
 use Rattle.std.proofs.Common.{◌≡◌, ◌⊎◌, inl, inr, ℕ, zero, suc, ◌+◌, ◌*◌, ◌<◌, ◌≤◌, Bool, true, false, ◌&&◌, cond, List, [], ◌∷◌, Option, Some, None, is_some, slice_get, refl, sym, ◌∙◌, ap, subst, arith, true≢false, if◌then◌else◌}
 use Rattle.std.proofs.lemmas.Bool.{cases_eq}
-use Rattle.convergence.proofs.Common.{Level, Phase, PortView, NodeState, hears_packets, is_idle, is_parent, is_child, passes, port_is, every, is_connected, is_port, Row, raise_timer, row_of, does, next_row, tick, is_before_tree, shown_or_idle, level_shown, leads_down, Chosen, chosen, contrary}
+use Rattle.convergence.proofs.Common.{on_beat, Level, Phase, PortView, NodeState, hears_packets, is_idle, is_parent, is_child, passes, port_is, every, is_connected, is_port, Row, raise_timer, row_of, does, next_row, tick, is_before_tree, shown_or_idle, level_shown, leads_down, Chosen, chosen, contrary}
 use Rattle.port_state.specs.declared.signal.Phase.TheVariants as phase
 use Rattle.port_state.specs.TreeIdentify.{parent_shake_at}
 use Rattle.port_state.specs.Row as row
 use Rattle.cable_world.proofs.Lemmas.{elsewhere, port-is}
-use Rattle.convergence.proofs.turns.Moves.{all_idle}
+use Rattle.convergence.proofs.turns.Moves.{all_idle, tick-child-shake}
 
 -- ---- weights
 
@@ -69,6 +69,12 @@ pub tick-weight :
 unfolding tick
 tick-weight coin x l = row-weight coin (next_row x) (raise_timer x) (chosen x.view.phase (raise_timer x) refl) l
 
+pub beat-weight :
+    (b : Option Bool) (x : NodeState) → is_before_tree x.view.phase ≡ false →
+    weight (on_beat b x).state ≤ weight x
+beat-weight None x l = omega arith
+beat-weight (Some coin) x l = tick-weight coin x l
+
 -- ---- where T1 and T2 come from
 
 child-shake-by :
@@ -106,6 +112,20 @@ pub tick-parent-shake-by :
     ⊎ ((x.view.phase ≡ phase.ChildShake) ⊎ (x.view.phase ≡ phase.Contend))
 unfolding tick
 tick-parent-shake-by coin x h = parent-shake-by coin (next_row x) (raise_timer x) (chosen x.view.phase (raise_timer x) refl) h
+
+pub beat-child-shake-by :
+    (b : Option Bool) (x : NodeState) → (on_beat b x).state.view.phase ≡ phase.ChildShake →
+    (x.view.phase ≡ phase.ChildShake)
+    ⊎ ((x.view.phase ≡ phase.TreeStart) ⊎ (x.view.phase ≡ phase.Contend))
+beat-child-shake-by None x h = inl h
+beat-child-shake-by (Some coin) x h = tick-child-shake-by coin x h
+
+pub beat-parent-shake-by :
+    (b : Option Bool) (x : NodeState) → (on_beat b x).state.view.phase ≡ phase.ParentShake →
+    (x.view.phase ≡ phase.ParentShake)
+    ⊎ ((x.view.phase ≡ phase.ChildShake) ⊎ (x.view.phase ≡ phase.Contend))
+beat-parent-shake-by None x h = inl h
+beat-parent-shake-by (Some coin) x h = tick-parent-shake-by coin x h
 
 -- ---- T2
 
@@ -219,6 +239,12 @@ pub tick-identifying :
 unfolding tick
 tick-identifying coin x h = identifying-on coin (next_row x) (raise_timer x) (chosen x.view.phase (raise_timer x) refl) h
 
+pub beat-identifying :
+    (b : Option Bool) (x : NodeState) → hears_packets x.view.phase ≡ true →
+    hears_packets (on_beat b x).state.view.phase ≡ true
+beat-identifying None x h = h
+beat-identifying (Some coin) x h = tick-identifying coin x h
+
 -- a node in T2 with no parent port becomes root
 pub tick-root :
     (coin : Bool) (x : NodeState) → x.view.phase ≡ phase.ParentShake → x.view.parent ≡ None →
@@ -249,3 +275,33 @@ tick-begins coin x k c u on s =
         o ≡ false
     not-child None h = refl
     not-child (Some q) h = clash q.shown h
+
+-- ---- or the clock misses the turn
+
+pub beat-accepted :
+    (b : Option Bool) (x : NodeState) (k : ℕ) → x.view.phase ≡ phase.ParentShake →
+    is_port x.view.parent k ≡ true → is_connected x.view.ports k ≡ true → is_child (level_shown x k)
+    ≡ true → (b ≡ None) ⊎ ((on_beat b x).state.view.phase ≡ phase.SelfIdent)
+beat-accepted None x k c u on s = inl refl
+beat-accepted (Some coin) x k c u on s = inr (tick-accepted coin x k c u on s)
+
+pub beat-root :
+    (b : Option Bool) (x : NodeState) → x.view.phase ≡ phase.ParentShake → x.view.parent ≡ None →
+    (b ≡ None) ⊎ ((on_beat b x).state.view.phase ≡ phase.SelfIdent)
+beat-root None x c e = inl refl
+beat-root (Some coin) x c e = inr (tick-root coin x c e)
+
+pub beat-begins :
+    (b : Option Bool) (x : NodeState) (k : ℕ) → x.view.phase ≡ phase.ParentShake →
+    is_port x.view.parent k ≡ true → is_connected x.view.ports k ≡ true →
+    is_parent (level_shown x k) ≡ true →
+    (b ≡ None) ⊎ ((on_beat b x).state.view.phase ≡ phase.Contend)
+beat-begins None x k c u on s = inl refl
+beat-begins (Some coin) x k c u on s = inr (tick-begins coin x k c u on s)
+
+pub beat-goes-on :
+    (b : Option Bool) (x : NodeState) → x.view.phase ≡ phase.ChildShake →
+    (b ≡ None)
+    ⊎ ((all_idle x ≡ false) ⊎ ((on_beat b x).state.view.phase ≡ phase.ParentShake))
+beat-goes-on None x c = inl refl
+beat-goes-on (Some coin) x c = inr (elim (tick-child-shake coin x c) [ inl a ↦ inr a.1 | inr a ↦ inl a.0 ])

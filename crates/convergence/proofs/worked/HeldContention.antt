@@ -1,7 +1,8 @@
 -- Two nodes that contend while the wire that leaves the first is held again and again, so that the
 -- second does each step a turn later, or hears a step later. The first draws 0 and 0, the second 0
 -- and 1.
-use Rattle.std.proofs.Common.{◌≡◌, List, map, ℕ, false, [], ◌∷◌, refl, arith}
+use Rattle.port_state.specs.Clock.{even}
+use Rattle.std.proofs.Common.{inl, ◌≡◌, List, map, ℕ, false, [], ◌∷◌, refl, arith}
 use Rattle.port_state.specs.declared.signal.Phase.TheVariants.{Contend}
 use Rattle.convergence.proofs.Common.{NodeState, enter, on_signal, tick, PortNode, CableWorld, world_of_nodes, hold, turn, turns_after, plain_node, at, after_plug, last_coin, AddsDraw, DrewTogether, DrawsAgree, IsAhead, HaveMet, AreMutual, AreUnequal, WinsOver}
 use Rattle.port_state.specs.Coins.{coins_of_bits}
@@ -10,7 +11,7 @@ use Rattle.convergence.proofs.worked.TwoNodes.{node_in}
 
 abbrev pub start : CableWorld
 start =
-    let second : PortNode = record (plain_node 0) { coins = coins_of_bits 2 2 } in
+    let second : PortNode = record (plain_node 0) { coins = coins_of_bits 2 2; clock = even } in
     after_plug (at 0 0) (at 1 0) (world_of_nodes 4 (plain_node 0 ∷ second ∷ []))
 
 -- the wire is held for so many turns from now, and so many turns are done
@@ -97,13 +98,13 @@ met-drew = record {
   there = drew-0 (node_in met 1).state 0 0 refl refl refl refl refl;
 }
 
-met-is : HaveMet 4 (node_in met 0).state (node_in met 1).state
+met-is : HaveMet 4 (node_in met 0).state even (node_in met 1).state even
 met-is = record {
   here = met-phases.0;
   there = met-phases.1;
   drew = met-drew;
-  near = omega (arith, met-timers.0, met-timers.1);
-  far = omega (arith, met-timers.0, met-timers.1);
+  near = inl (omega (arith, met-timers.0, met-timers.1));
+  far = inl (omega (arith, met-timers.0, met-timers.1));
 }
 
 -- ---- equal draws but for the last

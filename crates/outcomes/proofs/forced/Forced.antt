@@ -1,6 +1,6 @@
 -- Whether a node waits to become root: what it takes over at its entry to R0 it keeps until the
 -- next.
-use Rattle.std.proofs.Common.{◌≡◌, ℕ, zero, suc, ◌+◌, ◌<◌, ◌≤◌, Bool, true, false, not, ◌&&◌, ◌||◌, ◌==◌, cond, List, [], ◌∷◌, count_by, nat_le, Some, None, if◌then◌else◌, refl, sym, ◌∙◌, ap, arith, true≢false}
+use Rattle.std.proofs.Common.{◌≡◌, ℕ, zero, suc, ◌+◌, ◌<◌, ◌≤◌, Bool, true, false, not, ◌&&◌, ◌||◌, ◌==◌, cond, List, [], ◌∷◌, count_by, nat_le, Some, None, if◌then◌else◌, refl, sym, ◌∙◌, ap, arith, true≢false, Option}
 use Rattle.std.specs.List.{position_from}
 use Rattle.std.proofs.lemmas.Bool.Decides.{nat_tests}
 use Rattle.outcomes.proofs.Common.{contrary, Signal, PortView, NodeState, is_parent, asks, is_remaining, lowest, silent_step, enter, is_resetting, with_level, is_heard, hears, on_signal, is_decided, Row, raise_timer, does, next_row, tick, is_before_tree, hear-stays, Chosen, chosen, hear_all, waits_due, gap_due}
@@ -10,6 +10,7 @@ use Rattle.port_state.specs.declared.signal.Signal.TheVariants as signal
 use Rattle.port_state.specs.Ports.{connected_count}
 use Rattle.port_state.specs.Row as row
 use Rattle.convergence.proofs.Lemmas.{Left, TwoLeft, one-left, two-left, asks-few, count-cons}
+use Rattle.port_state.specs.Machine.{on_beat}
 
 -- ---- hearing
 
@@ -132,6 +133,10 @@ pub tick-holds : (coin : Bool) (x : NodeState) → KeepsDue x (tick coin x).stat
 unfolding tick
 tick-holds coin x = row-holds coin (next_row x) (raise_timer x)
 
+pub beat-tick-holds : (b : Option Bool) (x : NodeState) → KeepsDue x (on_beat b x).state
+beat-tick-holds None x = (refl, refl, refl, refl)
+beat-tick-holds (Some coin) x = tick-holds coin x
+
 -- how a node comes past T0
 pub record Takes (x y : NodeState) : Type 0 where
   pub start : x.view.phase ≡ phase.TreeStart
@@ -164,6 +169,12 @@ unfolding tick
 tick-takes coin x b h =
     let t = row-takes coin (next_row x) (raise_timer x) (chosen x.view.phase (raise_timer x) refl) b h in
     record { start = t.0; decided = t.1; parent = t.2 }
+
+pub beat-tick-takes :
+    (b : Option Bool) (x : NodeState) → is_before_tree x.view.phase ≡ true →
+    is_before_tree (on_beat b x).state.view.phase ≡ false → Takes x (on_beat b x).state
+beat-tick-takes None x e h = contrary e h
+beat-tick-takes (Some coin) x e h = tick-takes coin x e h
 
 -- ---- ports
 

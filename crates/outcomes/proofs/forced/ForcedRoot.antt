@@ -2,6 +2,7 @@
 -- root.
 use Rattle.std.proofs.Common.{◌≡◌, ◌≢◌, inl, inr, ℕ, zero, suc, ◌+◌, ◌-◌, ◌*◌, ◌^◌, ◌<◌, ◌≤◌, false, length, Option, Some, None, slice_get, refl, sym, ◌∙◌, ap, subst, arith}
 use Rattle.std.specs.Prelude.{IsSome}
+use Rattle.std.proofs.Math.Nat.{mul-le-mul_left}
 use Rattle.std.proofs.lemmas.Option.{slice_get_within, slice_get_cases}
 use Rattle.outcomes.proofs.Common.{Tree, PortNode, Holds, IsEmpty, IsClosed, IsComponent, IsCore, WaysUp, shared, CableWorld, is_before_tree, IsLawful, IsFresh, after-delay, after-length, some-of, quiet-then, quiet-lawful, after-cabling, HoldSchedule, holds_after, quiet_after, quiet-acyclic, Calmly, done-over, IsAcyclic, WaitsAlone, ResetsAreDone, ResetsAreOver, IsRoot, RootWalk}
 use Rattle.cabling.proofs.Lemmas.{loopless}
@@ -10,7 +11,9 @@ use Rattle.convergence.proofs.Lemmas.{one-root, resets-done, done-at}
 use Rattle.outcomes.proofs.forced.FreeTrees.{all-late}
 use Rattle.outcomes.proofs.roots.RootWalk.{root-walk}
 use Rattle.outcomes.specs.Forced.{CanBeForcedAt}
-use Rattle.outcomes.proofs.forced.Waits.{steadily, late-parentless, spread-most, forces, waiting}
+use Rattle.outcomes.proofs.forced.Waits.{steadily, late-parentless, seen-most, spread-most, forces, waiting}
+use Rattle.convergence.specs.Turns.{seen_turns}
+use Rattle.convergence.proofs.Lemmas.{slack-later}
 
 node-at :
     (v : CableWorld) (k : ℕ) → k < length v.nodes → (x : PortNode) × (slice_get v.nodes k ≡ Some x)
@@ -31,7 +34,7 @@ module _
 
   -- resets are done
   abbrev first : ℕ
-  first = spread + (w.longest.hold + w.delay)
+  first = spread + (w.longest.hold + seen_turns w)
 
   abbrev start : CableWorld
   start = later first
@@ -44,7 +47,7 @@ module _
   start-lawful = quiet-lawful hs first w l
 
   start-done : ResetsAreDone start
-  start-done = let low : (w.longest.hold + w.delay) ≤ (w.longest.hold + w.delay) = omega arith in resets-done hs w l ((w.longest.hold + w.delay)) low
+  start-done = let low : w.longest.hold + seen_turns w ≤ w.longest.hold + seen_turns w = omega arith in resets-done hs w l (w.longest.hold + seen_turns w) low
 
   there : f < length w.nodes
   there = let y = some-of (slice_get w.nodes f) _ alone.waits in slice_get_within w.nodes f y.0 y.1
@@ -56,12 +59,12 @@ module _
       (i k : ℕ) (x : PortNode) → Holds set k → k ≢ f →
       slice_get (quiet_after rest i start).nodes k ≡ Some x → x.state.view.force ≡ false
   free i k x h other at =
-      let z : spread + (w.longest.hold + w.delay + i) ≡ first + i = omega arith in
-      let is : quiet_after rest i start ≡ later (spread + (w.longest.hold + w.delay + i)) = sym (ap (λ n. later n) z ∙ quiet-then hs first i w) in
-      forces hs w l node set comp fresh (w.longest.hold + w.delay + i) k false x h (alone.others k h other) (ap (λ (u : CableWorld). slice_get u.nodes k) (sym is) ∙ at)
+      let z : spread + (w.longest.hold + seen_turns w + i) ≡ first + i = omega arith in
+      let is : quiet_after rest i start ≡ later (spread + (w.longest.hold + seen_turns w + i)) = sym (ap (λ n. later n) z ∙ quiet-then hs first i w) in
+      forces hs w l node set comp fresh (w.longest.hold + seen_turns w + i) k false x h (alone.others k h other) (ap (λ (u : CableWorld). slice_get u.nodes k) (sym is) ∙ at)
 
   start-late :
-      (i : ℕ) → length start.nodes * start.delay ≤ i → (k : ℕ) (x : PortNode) → Holds set k →
+      (i : ℕ) → length start.nodes * seen_turns start ≤ i → (k : ℕ) (x : PortNode) → Holds set k →
       slice_get (quiet_after rest i start).nodes k ≡ Some x →
       is_before_tree x.state.view.phase ≡ false
   start-late =
@@ -70,9 +73,9 @@ module _
       let ways_then : WaysUp start.cabling set f up.0 = subst (λ c. WaysUp c set f up.0) (sym (after-cabling hs first w)) up.1 in
       all-late rest start start-lawful start-done set f closed alone.holds (omega (arith, there, same)) up.0 ways_then free
 
-  -- 2 n d turns, the longest hold and d
+  -- and then roles are taken, one after the other
   abbrev pub enough : ℕ
-  enough = first + spread
+  enough = first + length w.nodes * seen_turns w
 
   -- all know their tree
   pub late :
@@ -81,18 +84,20 @@ module _
   late k h j x has at =
       let z : k ≡ first + (k - first) = omega (arith, h) in
       let same : length start.nodes ≡ length w.nodes = after-length hs w l first in
-      let room : length w.nodes * w.delay ≤ k - first = omega (arith, h) in
+      let room : length w.nodes * seen_turns w ≤ k - first = omega (arith, h) in
+      let few : seen_turns start ≤ seen_turns w = omega (arith, after-delay hs w l first, slack-later hs w l first) in
+      let most : length w.nodes * seen_turns start ≤ length w.nodes * seen_turns w = mul-le-mul_left (length w.nodes) few in
       let is : later k ≡ quiet_after rest (k - first) start = ap (λ n. later n) z ∙ quiet-then hs first (k - first) w in
-      start-late (k - first) (rw (same, after-delay hs w l first) room) j x has (ap (λ (u : CableWorld). slice_get u.nodes j) (sym is) ∙ at)
+      start-late (k - first) (rw same (omega (arith, most, room))) j x has (ap (λ (u : CableWorld). slice_get u.nodes j) (sym is) ∙ at)
 
   pub parentless :
       (i : ℕ) (x : PortNode) → slice_get (later (enough + i)).nodes f ≡ Some x →
       x.state.view.parent ≡ None
   parentless zero x at =
-      let z : enough + 0 ≡ spread + (w.longest.hold + w.delay + spread) = omega arith in
-      let soon : spread + (w.longest.hold + w.delay + spread) ≤ w.longest.hold + 127 * w.delay = omega (arith, spread-most hs w l node set comp fresh, l.well_formed.some_delay) in
+      let z : enough + 0 ≡ spread + (w.longest.hold + seen_turns w + length w.nodes * seen_turns w) = omega arith in
+      let soon : spread + (w.longest.hold + seen_turns w + length w.nodes * seen_turns w) ≤ w.longest.hold + 127 * seen_turns w = omega (arith, spread-most hs w l node set comp fresh, seen-most hs w l node set comp fresh) in
       let n : enough ≤ enough + 0 = omega arith in
-      (waiting hs w l node set comp fresh (w.longest.hold + w.delay + spread) f x can soon alone.holds alone.waits (subst (λ n. slice_get (later n).nodes f ≡ Some x) z at)).late (late (enough + 0) n f x alone.holds at)
+      (waiting hs w l node set comp fresh (w.longest.hold + seen_turns w + length w.nodes * seen_turns w) f x can soon alone.holds alone.waits (subst (λ n. slice_get (later n).nodes f ≡ Some x) z at)).late (late (enough + 0) n f x alone.holds at)
   parentless (suc i) x at =
       let z : enough + suc i ≡ enough + i + 1 = omega arith in
       let past : spread ≤ enough + i = omega arith in

@@ -6,12 +6,13 @@ use Rattle.std.proofs.Common.{◌≡◌, ◌⊎◌, inl, inr, ℕ, zero, suc, �
 use Rattle.std.specs.Int.{bit_at}
 use Rattle.std.proofs.lemmas.Bool.{eqb-true, eq-eqb, and_from, and_parts, cases_lt, true_from_ne_false, false_from_ne_true}
 use Rattle.std.proofs.lemmas.Option.{slice_get_within}
-use Rattle.outcomes.proofs.Common.{contrary, Level, Phase, Signal, NodeState, Timing, coin, is_resetting, tick, PortNode, End, Wiring, far, Holds, IsComponent, plugged, shared, CableWorld, wire_of, turn_at, turn, level_sent, level_shown, leads_down, level_after, is_in_bus_reset, signals_of, has_reset, IsLawful, IsFresh, node-after, before, in-turn, after-delay, cable-connected, some-of, some-same, turn-state, one-quiet, no-quiet, quiet-lawful, after-cabling, turn-lawful, joined-of, signals, heard_by, in-component, PlacedHold, HoldSchedule, with_holds, quiet_after}
+use Rattle.outcomes.proofs.Common.{contrary, Level, Phase, Signal, NodeState, Timing, is_resetting, PortNode, End, Wiring, far, Holds, IsComponent, plugged, shared, CableWorld, wire_of, turn_at, turn, level_sent, level_shown, leads_down, level_after, is_in_bus_reset, signals_of, has_reset, IsLawful, IsFresh, node-after, before, in-turn, after-delay, cable-connected, some-of, some-same, turn-state, one-quiet, no-quiet, quiet-lawful, after-cabling, turn-lawful, joined-of, signals, heard_by, in-component, PlacedHold, HoldSchedule, with_holds, quiet_after}
 use Rattle.port_state.specs.declared.signal.Level.TheVariants as level
 use Rattle.port_state.specs.declared.signal.Phase.TheVariants as phase
 use Rattle.port_state.specs.declared.signal.Signal.TheVariants as signal
 use Rattle.cable_world.proofs.Lemmas.{hears, ticks, HearsWell, TicksWell, holds-signals}
 use Rattle.convergence.proofs.Lemmas.{was-waiting, count, count-most, count-less, count-some, OldReset, some-old, none-older, old-after}
+use Rattle.port_state.specs.Machine.{beat, on_beat}
 
 -- ---- one turn
 
@@ -40,8 +41,8 @@ pub record Turned (w : CableWorld) (k : ℕ) (y : PortNode) : Type 0 where
   pub node : PortNode
   pub at : slice_get w.nodes k ≡ Some node
   pub hears : HearsWell (signals w k) node.state
-  pub ticks : TicksWell (coin node.coins) (heard_by w k node)
-  pub is : y.state ≡ (tick (coin node.coins) (heard_by w k node)).state
+  pub ticks : TicksWell (beat node) (heard_by w k node)
+  pub is : y.state ≡ (on_beat (beat node) (heard_by w k node)).state
 
 pub turned :
     (w : CableWorld) → IsLawful w → (k : ℕ) (y : PortNode) → slice_get (turn w).nodes k ≡ Some y →
@@ -138,7 +139,7 @@ module _
       ]
         where
           before-tick : is_in_bus_reset (heard_by v k t.node).view.phase ≡ true
-          before-tick = was-waiting (coin t.node.coins) (heard_by v k t.node) (sym (ap (λ (z : NodeState). is_in_bus_reset z.view.phase) t.is) ∙ there)
+          before-tick = was-waiting (beat t.node) (heard_by v k t.node) (sym (ap (λ (z : NodeState). is_in_bus_reset z.view.phase) t.is) ∙ there)
 
           hold-least : 64 * v.delay ≤ (heard_by v k t.node).timing.hold
           hold-least = omega (arith, ap (λ (z : Timing). z.hold) t.hears.timing, (l.well_formed.nodes k t.node t.at).timing.hold_least)

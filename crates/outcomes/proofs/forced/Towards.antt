@@ -2,10 +2,11 @@
 -- port. So no two
 -- nodes ask each other, and nobody contends.
 use Rattle.std.proofs.Common.{◌≡◌, ◌≢◌, inl, inr, ℕ, zero, suc, ◌+◌, ◌-◌, ◌*◌, ◌^◌, ◌<◌, ◌≤◌, Bool, true, false, not, ◌&&◌, ◌||◌, [], length, Option, Some, None, slice_get, if◌then◌else◌, refl, sym, ◌∙◌, ap, subst, arith, true≢false}
-use Rattle.std.specs.Prelude.{nat_lt}
-use Rattle.std.proofs.lemmas.Bool.{cases_eq, cases_lt}
+use Rattle.std.specs.Prelude.{◌⊎◌, ◌/◌, nat_lt}
+use Rattle.std.proofs.Math.Nat.{div-eq_of_lt}
+use Rattle.std.proofs.lemmas.Bool.{cases_eq, cases_lt, true_from_ne_false}
 use Rattle.std.proofs.lemmas.Bool.Decides.{nat_tests}
-use Rattle.outcomes.proofs.Common.{contrary, Level, Phase, PortView, NodeState, coin, is_parent, is_remaining, lowest, passes, port_is, is_connected, is_port, is_resetting, is_decided, Row, raise_timer, does, next_row, tick, PortNode, End, Wiring, far, Holds, IsEmpty, IsComponent, IsCore, LeadsUp, end_at, age_wire, gives, CableWorld, wire_of, turn, level_sent, shown_or_idle, level_shown, leads_down, level_after, is_before_tree, is_after_hold, signals_of, has_reset, IsLawful, IsFresh, in-turn, after-delay, child-if, cable-connected, some-same, late-roles, Chosen, chosen, comes, port-is, start-before_tree, one-quiet, quiet-lawful, after-cabling, joined-of, Calmly, signals, heard_by, port-is-not, WaitsAlone, HoldSchedule, with_holds, quiet_after}
+use Rattle.outcomes.proofs.Common.{contrary, Level, Phase, PortView, NodeState, Timing, coin, is_parent, is_remaining, lowest, passes, port_is, is_connected, is_port, is_resetting, is_decided, Row, raise_timer, does, next_row, tick, PortNode, End, Wiring, far, Holds, IsEmpty, IsComponent, IsCore, LeadsUp, end_at, age_wire, gives, CableWorld, wire_of, turn, level_sent, shown_or_idle, level_shown, leads_down, level_after, is_before_tree, is_after_hold, signals_of, has_reset, IsLawful, IsFresh, after-delay, child-if, cable-connected, some-same, late-roles, Chosen, chosen, comes, port-is, start-before_tree, one-quiet, quiet-lawful, after-cabling, joined-of, Calmly, signals, heard_by, port-is-not, WaitsAlone, HoldSchedule, with_holds, quiet_after}
 use Rattle.port_state.specs.Row as row
 use Rattle.port_state.proofs.Lemmas.{decided_few, left_is}
 use Rattle.cable_world.specs.Agreement.{level_sent_at}
@@ -14,11 +15,19 @@ use Rattle.cable_world.specs.Signals.{shows_no_notice}
 use Rattle.cable_world.specs.Coupling.{is_reset_known, Coupling}
 use Rattle.cable_world.proofs.Lemmas.{hears, steady, between-known}
 use Rattle.convergence.proofs.Lemmas.{late-start}
-use Rattle.outcomes.proofs.forced.Forced.{kept-heard, Takes, tick-takes}
+use Rattle.outcomes.proofs.forced.Forced.{kept-heard, Takes, beat-tick-takes}
 use Rattle.outcomes.proofs.forced.ForcedRoot.{up, late, parentless, enough}
-use Rattle.outcomes.proofs.forced.Spread.{Turned, turned, all-reset, some-nodes}
+use Rattle.outcomes.proofs.forced.Spread.{Turned, turned, spreads, all-reset, some-nodes}
 use Rattle.outcomes.specs.Forced.{CanBeForcedAt}
-use Rattle.outcomes.proofs.forced.Waits.{outside, steadily, spread-most, waiting}
+use Rattle.outcomes.proofs.forced.Waits.{outside, steadily, seen-most, spread-most, waiting}
+use Rattle.port_state.specs.Machine.{beat, on_beat}
+use Rattle.convergence.proofs.Lemmas.{coin_of}
+use Rattle.port_state.specs.Clock.{misses, clock_after}
+use Rattle.cable_world.specs.Times.{Suits, KeepsTime}
+use Rattle.cable_world.specs.Turn.{turn_at}
+use Rattle.cable_world.proofs.Lemmas.{after-longest, beat-misses, in-turn-rises, node-after}
+use Rattle.convergence.specs.Turns.{slack, seen_turns}
+use Rattle.convergence.proofs.Lemmas.{HasRun, run-on, run-over, some-slack}
 
 -- ---- ticks
 
@@ -58,6 +67,12 @@ unfolding tick
 tick-calms coin x o h u =
     let c = row-calms coin (next_row x) (raise_timer x) o (chosen x.view.phase (raise_timer x) refl) h u in
     record { calm = c.calm; draws = c.draws; parent = c.parent }
+
+beat-tick-calms :
+    (b : Option Bool) (x : NodeState) (o : Option ℕ) → is_contending x.view.phase ≡ false →
+    Unasked o x → Calms (coin_of b) x (on_beat b x).state
+beat-tick-calms None x o h u = record { calm = h; draws = refl; parent = λ g. refl }
+beat-tick-calms (Some coin) x o h u = tick-calms coin x o h u
 
 -- the one port that is left becomes the parent port
 left-parent :
@@ -119,13 +134,110 @@ module _
 
   -- ---- nodes in R0
 
+  -- its timer tells so many turns, or its clock missed some
+  abbrev HasTicked : ℕ → PortNode → Type 0
+  HasTicked n x = (n ≤ x.state.view.timer) ⊎ ((slack w ≡ 1) × HasRun w.longest n x)
+
+  -- one turn more
+  ticked :
+      (n : ℕ) (x y : PortNode) → 1 ≤ x.state.timing.long → KeepsTime w.longest x.state.timing x.clock →
+      y.state.timing ≡ x.state.timing → y.clock ≡ clock_after x.clock →
+      (misses x.clock ≡ true → slack w ≡ 1) →
+      ((misses x.clock ≡ true) × (y.state.view.timer ≡ x.state.view.timer))
+      ⊎ (y.state.view.timer ≡ x.state.view.timer + 1) →
+      HasTicked n x → HasTicked (n + 1) y
+  ticked n x y some keeps same clock one (inr t) (inl a) = inl (omega (arith, t, a))
+  ticked n x y some keeps same clock one (inl m) (inl a) = inr (one m.0, run-on w.longest n x y some keeps same clock (inl m) (inl a))
+  ticked n x y some keeps same clock one r (inr h) = inr (h.0, run-on w.longest n x y some keeps same clock r h.1)
+
+  some-long :
+      (i k : ℕ) (x : PortNode) → slice_get (quiet_after hs i w).nodes k ≡ Some x →
+      (2 * w.delay < x.state.timing.short) × (x.state.timing.short + 2 * w.delay ≤ x.state.timing.long)
+  some-long i k x at =
+      let fits : Suits (quiet_after hs i w).delay (quiet_after hs i w).longest x.state.timing = ((quiet-lawful hs i w l).well_formed.nodes k x at).timing in
+      (omega (arith, fits.short_least, after-delay hs w l i), omega (arith, fits.long_least, fits.short_most, after-delay hs w l i))
+
+  keeps :
+      (i k : ℕ) (x : PortNode) → slice_get (quiet_after hs i w).nodes k ≡ Some x →
+      KeepsTime w.longest x.state.timing x.clock
+  keeps i k x at = subst (λ (t : Timing). KeepsTime t x.state.timing x.clock) (after-longest hs w l i) ((quiet-lawful hs i w l).paced k x at)
+
+  -- after so many turns the timer is past d
+  past :
+      (i n k : ℕ) (x : PortNode) → slice_get (quiet_after hs i w).nodes k ≡ Some x → w.delay + 2 ≤ n →
+      HasTicked n x → w.delay < x.state.view.timer
+  past i n k x at late (inl a) = omega (arith, late, a)
+  past i n k x at late (inr h) =
+      let long = some-long i k x at in
+      let none : (w.delay + 1) / x.state.timing.long ≡ 0 = div-eq_of_lt (omega (arith, long.0, long.1, l.well_formed.some_delay)) in
+      let over : w.delay + 1 ≤ x.state.view.timer =
+      run-over w.longest n x (w.delay + 1) (w.delay + 2) (omega (arith, long.0, long.1)) (omega arith) (λ s. omega (arith, none)) late h.1 in
+      omega (arith, over)
+
+  -- the turn in which a node comes to R0 may be its first tick there
+  module _ (i : ℕ) (soon : i + 1 < 64 * w.delay) (k : ℕ) (y : PortNode) (h : Holds set k)
+      (at : slice_get (turn (quiet_after hs i w)).nodes k ≡ Some y) (r : is_resetting y.state.view.phase ≡ true) where
+    come : Turned (quiet_after hs i w) k y
+    come = turned (quiet_after hs i w) (quiet-lawful hs i w l) k y at
+
+    abbrev heard : NodeState
+    heard = heard_by (quiet_after hs i w) k come.node
+
+    fits : Suits (quiet_after hs i w).delay (quiet_after hs i w).longest come.node.state.timing
+    fits = ((quiet-lawful hs i w l).well_formed.nodes k come.node come.at).timing
+
+    resets : is_resetting heard.view.phase ≡ true
+    resets = true_from_ne_false _ (λ e. true≢false (sym r ∙ ap (λ (z : NodeState). is_resetting z.view.phase) come.is ∙ come.ticks.out e))
+
+    timer : heard.view.timer ≤ i
+    timer = elim come.hears.cases [
+      | inl s ↦ omega (arith, s.timer, (spreads hs w l node set comp fresh i (omega (arith, soon))).timers k come.node h come.at (sym (ap is_resetting s.phase) ∙ resets))
+      | inr s ↦ omega (arith, s.timer)
+    ]
+
+    rises : (beat come.node ≡ None) ⊎ ((on_beat (beat come.node) heard).state.view.timer ≡ heard.view.timer + 1)
+    rises = come.ticks.rises resets
+        (omega (arith, timer, soon, ap (λ (z : Timing). z.hold) come.hears.timing, fits.hold_least, after-delay hs w l i))
+        (omega (arith, ap (λ (z : Timing). z.hold) come.hears.timing, fits.hold_most, fits.counted.hold))
+
+    clock-is : y.clock ≡ clock_after come.node.clock
+    clock-is = ap (λ (z : PortNode). z.clock) (sym (some-same (turn_at (quiet_after hs i w) k come.node).node y (sym (node-after (quiet_after hs i w) k come.node (quiet-lawful hs i w l).well_formed.count come.at) ∙ at)))
+
+    same-times : y.state.timing ≡ heard.timing
+    same-times = ap (λ (z : NodeState). z.timing) come.is ∙ come.ticks.timing
+
+    -- it counts as a node that has heard, and ticks
+    abbrev first : PortNode
+    first = record { state = heard; coins = come.node.coins; clock = come.node.clock }
+
+    stood : beat come.node ≡ None → y.state.view.timer ≡ heard.view.timer
+    stood none = ap (λ (z : NodeState). z.view.timer) come.is ∙ ap (λ b. (on_beat b heard).state.view.timer) none
+
+    began : HasTicked 1 y
+    began = ticked 0 first y
+        (omega (arith, ap (λ (z : Timing). z.long) come.hears.timing, (some-long i k come.node come.at).0, (some-long i k come.node come.at).1))
+        (subst (λ (z : Timing). KeepsTime w.longest z come.node.clock) (sym come.hears.timing) (keeps i k come.node come.at))
+        same-times clock-is
+        (λ missed. some-slack hs w l i k (record { node = come.node; at = come.at; missed = missed }))
+        (elim rises [
+          | inl none ↦ inl (beat-misses come.node none, stood none)
+          | inr one ↦ inr (ap (λ (z : NodeState). z.view.timer) come.is ∙ one)
+        ])
+        (inl (omega arith))
+
   -- whoever is in R0 has been there since all were
   risen :
+      (b : ℕ) →
+      ((k : ℕ) (x : PortNode) → Holds set k → slice_get (quiet_after hs reached w).nodes k ≡ Some x →
+      is_resetting x.state.view.phase ≡ true → HasTicked b x) →
       (j k : ℕ) (x : PortNode) → Holds set k →
       slice_get (quiet_after hs (reached + j) w).nodes k ≡ Some x →
-      is_resetting x.state.view.phase ≡ true → j ≤ x.state.view.timer
-  risen zero k x h at r = omega arith
-  risen (suc j) k y h at r = go (risen j k)
+      is_resetting x.state.view.phase ≡ true → HasTicked (b + j) x
+  risen b base zero k x h at r =
+      let z : b + 0 ≡ b = omega arith in
+      let y : reached + 0 ≡ reached = omega arith in
+      subst (λ n. HasTicked n x) (sym z) (base k x h (subst (λ n. slice_get (quiet_after hs n w).nodes k ≡ Some x) y at) r)
+  risen b base (suc j) k y h at r = go (risen b base j k)
     where
       v : CableWorld
       v = quiet_after hs (reached + j) w
@@ -152,11 +264,39 @@ module _
       go :
           ((x : PortNode) → Holds set k →
           slice_get (quiet_after hs (reached + j) w).nodes k ≡ Some x →
-          is_resetting x.state.view.phase ≡ true → j ≤ x.state.view.timer)
-          → suc j ≤ y.state.view.timer
+          is_resetting x.state.view.phase ≡ true → HasTicked (b + j) x)
+          → HasTicked (b + suc j) y
       go before =
           let there : is_resetting t.node.state.view.phase ≡ true = was (is_resetting t.node.state.view.phase) refl in
-          omega (arith, (in-turn (quiet_after hs (reached + j) w) (quiet-lawful hs (reached + j) w l) k t.node y t.at at-turn).rises there r, before t.node h t.at there)
+          let rises = in-turn-rises (quiet_after hs (reached + j) w) (quiet-lawful hs (reached + j) w l) k t.node y t.at at-turn there r in
+          let long = some-long (reached + j) k t.node t.at in
+          let z : b + j + 1 ≡ b + suc j = omega arith in
+          subst (λ n. HasTicked n y) z
+          (ticked (b + j) t.node y (omega (arith, long.0, long.1)) (keeps (reached + j) k t.node t.at)
+          (ap (λ (z : NodeState). z.timing) t.is ∙ t.ticks.timing ∙ t.hears.timing) rises.1
+          (λ missed. some-slack hs w l (reached + j) k (record { node = t.node; at = t.at; missed = missed }))
+          (elim rises.0 [ inl m ↦ inl m | inr u ↦ inr u.0 ])
+          (before t.node h t.at there))
+
+  -- from 64 d turns on the timers of all that are in R0 are past d
+  all-past :
+      (i : ℕ) → 64 * w.delay ≤ i → (k : ℕ) (x : PortNode) → Holds set k →
+      slice_get (quiet_after hs i w).nodes k ≡ Some x → is_resetting x.state.view.phase ≡ true →
+      w.delay < x.state.view.timer
+  all-past i old k x h at r = elim (cases_lt 0 reached) [
+    | inl some ↦
+        let z : reached + (i - reached) ≡ i = omega (arith, reached-is, old) in
+        let one : reached ≡ reached - 1 + 1 = omega (arith, some) in
+        past i (1 + (i - reached)) k x at (omega (arith, reached-is, old, l.well_formed.some_delay))
+        (risen 1 (λ j y has there in-reset.
+        began (reached - 1) (omega (arith, one, reached-is, l.well_formed.some_delay)) j y has
+        (ap (λ (u : CableWorld). slice_get u.nodes j) (sym (one-quiet hs (reached - 1) w)) ∙ subst (λ n. slice_get (quiet_after hs n w).nodes j ≡ Some y) one there) in-reset)
+        (i - reached) k x h (subst (λ n. slice_get (quiet_after hs n w).nodes k ≡ Some x) (sym z) at) r)
+    | inr none ↦
+        let z : reached + (i - reached) ≡ i = omega (arith, reached-is, old) in
+        past i (0 + (i - reached)) k x at (omega (arith, none, old, l.well_formed.some_delay))
+        (risen 0 (λ j y has there in-reset. inl (omega arith)) (i - reached) k x h (subst (λ n. slice_get (quiet_after hs n w).nodes k ≡ Some x) (sym z) at) r)
+  ]
 
   -- once a node has left R0, those in R0 or before the tree have known of the reset for long
   known :
@@ -188,9 +328,7 @@ module _
           is_reset_known (quiet_after hs i w).delay y.state ≡ true
       go false e = between-known (quiet_after hs i w).delay y.state (outside y.state.view.phase early e)
       go true e =
-          let z : i ≡ reached + (i - reached) = omega (arith, before) in
-          let timer : i - reached ≤ y.state.view.timer = risen (i - reached) j y has (subst (λ n. slice_get (quiet_after hs n w).nodes j ≡ Some y) z at_y) e in
-          start-known y.state.view.phase (quiet_after hs i w).delay y.state.view.timer e (omega (arith, timer, old, reached-is, after-delay hs w l i, l.well_formed.some_delay))
+          start-known y.state.view.phase (quiet_after hs i w).delay y.state.view.timer e (omega (arith, all-past i old j y has at_y e, after-delay hs w l i))
 
   -- ---- one turn
 
@@ -315,12 +453,12 @@ module _
   alone-parentless :
       (i : ℕ) (y : PortNode) → spread ≤ i → slice_get (quiet_after hs i w).nodes f ≡ Some y →
       is_before_tree y.state.view.phase ≡ false → y.state.view.parent ≡ None
-  alone-parentless i y past at g = elim (cases_lt i (w.longest.hold + 127 * w.delay + 1)) [
+  alone-parentless i y past at g = elim (cases_lt i (w.longest.hold + 127 * seen_turns w + 1)) [
     | inl soon ↦
         let z : i ≡ spread + (i - spread) = omega (arith, past) in
         (waiting hs w l node set comp fresh (i - spread) f y can (omega (arith, soon, past)) alone.holds alone.waits (subst (λ n. slice_get (quiet_after hs n w).nodes f ≡ Some y) z at)).late g
     | inr later ↦
-        let most : enough hs w l node set core comp is_core empty small fresh f alone can ≤ i = omega (arith, later, spread-most hs w l node set comp fresh) in
+        let most : enough hs w l node set core comp is_core empty small fresh f alone can ≤ i = omega (arith, later, spread-most hs w l node set comp fresh, seen-most hs w l node set comp fresh) in
         let z : i ≡ enough hs w l node set core comp is_core empty small fresh f alone can + (i - enough hs w l node set core comp is_core empty small fresh f alone can) = omega (arith, most) in
         parentless hs w l node set core comp is_core empty small fresh f alone can (i - enough hs w l node set core comp is_core empty small fresh f alone can) y (subst (λ n. slice_get (quiet_after hs n w).nodes f ≡ Some y) z at)
   ]
@@ -343,15 +481,15 @@ module _
       (λ p e. let b = way-leads k p h e in unasked-at now p (heard-unasked i past all k c.node h c.at (out-of g) p b.0 b.1 b.2)),
     )
 
-    calms : Calms (coin c.node.coins) now (tick (coin c.node.coins) now).state
-    calms = tick-calms (coin c.node.coins) now (way k) (ap is_contending c.heard.phase ∙ (all k c.node h c.at).calm) unasked
+    calms : Calms (coin_of (beat c.node)) now (on_beat (beat c.node) now).state
+    calms = beat-tick-calms (beat c.node) now (way k) (ap is_contending c.heard.phase ∙ (all k c.node h c.at).calm) unasked
 
     faces-next : is_before_tree y.state.view.phase ≡ false → y.state.view.parent ≡ way k
     faces-next g = go (is_before_tree now.view.phase) refl
       where
         taken : is_before_tree now.view.phase ≡ true → k ≢ f → y.state.view.parent ≡ way k
         taken e other =
-            let takes : Takes now (tick (coin c.node.coins) now).state = tick-takes (coin c.node.coins) now e (sym (ap (λ (z : NodeState). is_before_tree z.view.phase) c.is) ∙ g) in
+            let takes : Takes now (on_beat (beat c.node) now).state = beat-tick-takes (beat c.node) now e (sym (ap (λ (z : NodeState). is_before_tree z.view.phase) c.is) ∙ g) in
             let u : LeadsUp w.cabling way k = (up hs w l node set core comp is_core empty small fresh f alone can).1.ups.others k h other in
             let out_x : is_resetting c.node.state.view.phase ≡ false = ap is_resetting (sym c.heard.phase ∙ takes.start) in
             let quiet : is_parent (level_shown now u.port) ≡ false = heard-unasked i past all k c.node h c.at out_x u.port u.end u.joined u.child in

@@ -4,16 +4,19 @@
 use Rattle.std.proofs.Math.Nat.{mul-le-mul_left}
 use Rattle.std.proofs.Common.{◌≡◌, inl, inr, ℕ, zero, suc, ◌+◌, ◌-◌, ◌*◌, ◌<◌, ◌≤◌, Bool, true, false, Option, Some, None, length, min, slice_get, if◌then◌else◌, refl, sym, ◌∙◌, ap, subst, arith, true≢false}
 use Rattle.std.proofs.lemmas.Bool.{eq-eqb}
-use Rattle.outcomes.proofs.Common.{contrary, Phase, NodeState, Timing, coin, is_port, is_resetting, raise_timer, tick, PortNode, Holds, IsComponent, CableWorld, turn, is_before_tree, is_after_hold, IsLawful, IsFresh, AtView, in-turn, after-delay, some-of, some-same, risen, one-quiet, quiet-lawful, HoldSchedule, quiet_after, waits_due, gap_due, Calmly, signals, heard_by, parent-was}
+use Rattle.outcomes.proofs.Common.{contrary, Phase, NodeState, Timing, is_port, is_resetting, raise_timer, PortNode, Holds, IsComponent, CableWorld, turn, is_before_tree, is_after_hold, IsLawful, IsFresh, AtView, in-turn, after-delay, some-of, some-same, risen, one-quiet, quiet-lawful, HoldSchedule, quiet_after, waits_due, gap_due, Calmly, signals, heard_by, parent-was}
 use Rattle.port_state.specs.declared.signal.Phase.TheVariants as phase
 use Rattle.cable_world.specs.Times.{Suits, CanBeForced}
 use Rattle.outcomes.specs.Forced.{CanBeForcedAt}
 use Rattle.port_state.specs.declared.view.View.{View}
 use Rattle.cable_world.specs.Phases.{is_timed}
-use Rattle.cable_world.proofs.Lemmas.{quiet-timed, steady}
-use Rattle.convergence.proofs.Lemmas.{late-start}
-use Rattle.outcomes.proofs.forced.Forced.{SameDue, due-heard, kept-heard, tick-holds, Takes, tick-takes, waits-parentless}
+use Rattle.cable_world.specs.Run.{IsReached}
+use Rattle.convergence.specs.Turns.{seen_turns}
+use Rattle.cable_world.proofs.Lemmas.{quiet-timed, reached-runs, steady}
+use Rattle.convergence.proofs.Lemmas.{late-start, reached-slack}
+use Rattle.outcomes.proofs.forced.Forced.{SameDue, due-heard, kept-heard, beat-tick-holds, Takes, beat-tick-takes, waits-parentless}
 use Rattle.outcomes.proofs.forced.Spread.{Turned, turned, spreads, all-reset}
+use Rattle.port_state.specs.Machine.{beat, on_beat}
 
 -- a phase is up to T0 or past it; up to T0 it is R0, or R1 or T0
 pub outside :
@@ -28,6 +31,12 @@ tree-between p h = rw h refl
 
 tree-timed : (p : Phase) → p ≡ phase.TreeStart → is_timed p ≡ true
 tree-timed p h = rw h refl
+
+-- a world that runs gives each node time enough to be forced
+pub reached-enough : (w : CableWorld) (k : ℕ) → IsReached w → CanBeForcedAt w k
+reached-enough w k r x at =
+    let e : w.delay ≡ seen_turns w = omega (arith, reached-slack w r) in
+    subst (λ d. CanBeForced d w.longest x.state.timing) e ((reached-runs w r).forced k x at)
 
 -- ---- turns after the last entry
 
@@ -80,7 +89,7 @@ module _
       (y.state.view.force ≡ steadily.node.state.view.force)
       × (y.state.view.gap ≡ steadily.node.state.view.gap)
   force-stays =
-      let t = tick-holds (coin steadily.node.coins) (heard_by u k steadily.node) in
+      let t = beat-tick-holds (beat steadily.node) (heard_by u k steadily.node) in
       let h = kept-heard (signals u k) steadily.node.state (ap is_resetting steadily.heard.phase) in
       (ap (λ (z : NodeState). z.view.force) steadily.is ∙ t.0 ∙ h.0, ap (λ (z : NodeState). z.view.gap) steadily.is ∙ t.2 ∙ h.2)
 
@@ -114,12 +123,12 @@ module _
   pub late-parentless :
       is_before_tree c.node.state.view.phase ≡ false → c.node.state.view.parent ≡ None →
       y.state.view.parent ≡ None
-  late-parentless past none = no-port y.state.view.parent (λ p h. elim (parent-was (coin c.node.coins) now p (sym (ap (λ (z : NodeState). is_port z.view.parent p) c.is) ∙ h)) [
+  late-parentless past none = no-port y.state.view.parent (λ p h. elim (parent-was (beat c.node) now p (sym (ap (λ (z : NodeState). is_port z.view.parent p) c.is) ∙ h)) [
     | inl was ↦ contrary was (ap (λ o. is_port o p) (c.heard.parent ∙ none))
     | inr start ↦ contrary (ap is_before_tree (sym c.heard.phase ∙ start)) past
   ])
 
-  module _ (q : Waiting i c.node.state) (can : CanBeForcedAt w k) (soon : i + 1 ≤ w.longest.hold + 127 * w.delay) where
+  module _ (q : Waiting i c.node.state) (can : CanBeForcedAt w k) (soon : i + 1 ≤ w.longest.hold + 127 * seen_turns w) where
     same-hold : y.state.timing.hold ≡ c.node.state.timing.hold
     same-hold = ap (λ (z : NodeState). z.timing.hold) c.is ∙ ap (λ (z : Timing). z.hold) (c.ticks.timing ∙ c.hears.timing)
 
@@ -142,7 +151,7 @@ module _
       | inr none ↦ omega (arith, ap (λ (z : NodeState). z.view.timer) c.is, none, between-next (tree-between y.state.view.phase h))
     ]
       where
-        up : (a b c e i : ℕ) → a ≤ risen b → b ≡ c → c + e ≤ i → a + e ≤ i + 1
+        up : (a b c e i : ℕ) → a ≤ b + 1 → b ≡ c → c + e ≤ i → a + e ≤ i + 1
         up a b c e i h g f = omega (arith, h, g, f)
 
     late-next : is_before_tree y.state.view.phase ≡ false → y.state.view.parent ≡ None
@@ -151,14 +160,14 @@ module _
         go : (b : Bool) → is_before_tree c.node.state.view.phase ≡ b → y.state.view.parent ≡ None
         go false e = late-parentless e (q.late e)
         go true e =
-            let takes : Takes now (tick (coin c.node.coins) now).state = tick-takes (coin c.node.coins) now (ap is_before_tree c.heard.phase ∙ e) (sym (ap (λ (z : NodeState). is_before_tree z.view.phase) c.is) ∙ h) in
+            let takes : Takes now (on_beat (beat c.node) now).state = beat-tick-takes (beat c.node) now (ap is_before_tree c.heard.phase ∙ e) (sym (ap (λ (z : NodeState). is_before_tree z.view.phase) c.is) ∙ h) in
             let timer : c.node.state.view.timer + c.node.state.timing.hold ≤ i = q.tree (sym c.heard.phase ∙ takes.start) in
-            let time : CanBeForced w.delay w.longest c.node.state.timing =
-            quiet-timed (λ j t. j ≡ k → CanBeForced w.delay w.longest t) hs i w l (λ j x at_j same. can x (subst (λ n. slice_get w.nodes n ≡ Some x) same at_j)) k c.node c.at refl in
-            let force : w.longest.hold + 127 * w.delay < c.node.state.timing.hold + now.timing.force = omega (arith, time.enough, ap (λ (z : Timing). z.force) c.hears.timing) in
+            let time : CanBeForced (seen_turns w) w.longest c.node.state.timing =
+            quiet-timed (λ j t c. j ≡ k → CanBeForced (seen_turns w) w.longest t) hs i w (λ j t c p. p) l (λ j x at_j same. can x (subst (λ n. slice_get w.nodes n ≡ Some x) same at_j)) k c.node c.at refl in
+            let force : w.longest.hold + 127 * seen_turns w < c.node.state.timing.hold + now.timing.force = omega (arith, time.enough, ap (λ (z : Timing). z.force) c.hears.timing) in
             let waits : now.view.force ≡ true = (kept-heard (signals v k) c.node.state (ap is_resetting c.heard.phase)).0 ∙ q.waits in
             ap (λ (z : NodeState). z.view.parent) c.is ∙ takes.parent
-            ∙ waits-parentless (raise_timer now) takes.decided waits (low now.view.timer c.node.state.view.timer c.node.state.timing.hold i now.timing.force (w.longest.hold + 127 * w.delay) c.heard.timer timer force soon)
+            ∙ waits-parentless (raise_timer now) takes.decided waits (low now.view.timer c.node.state.view.timer c.node.state.timing.hold i now.timing.force (w.longest.hold + 127 * seen_turns w) c.heard.timer timer force soon)
           where
             low :
                 (a b c i f n : ℕ) → a ≡ b → b + c ≤ i → n < c + f → i + 1 ≤ n →
@@ -198,10 +207,10 @@ module _
       (i k : ℕ) (s : PortNode) → i + 1 < 64 * w.delay → Holds set k → Due (later i) k s →
       Due (turn (later i)) k s
   due-turn i k s soon h due y at =
-      let f = tick-holds (coin t.node.coins) x in
+      let f = beat-tick-holds (beat t.node) x in
       let heard = due-heard (signals (later i) k) t.node.state in
       let was = due t.node t.at in
-      let same = same-due x.view (tick (coin t.node.coins) x).state.view (stays (is_resetting x.view.phase) refl) f.0 f.1 f.2 f.3 in (
+      let same = same-due x.view (on_beat (beat t.node) x).state.view (stays (is_resetting x.view.phase) refl) f.0 f.1 f.2 f.3 in (
         ap (λ (z : NodeState). waits_due z.view) t.is ∙ same.0 ∙ heard.0 ∙ was.0,
         ap (λ (z : NodeState). gap_due z.view) t.is ∙ same.1 ∙ heard.1 ∙ was.1,
       )
@@ -222,7 +231,7 @@ module _
 
       stays :
           (c : Bool) → is_resetting (heard_by (later i) k t.node).view.phase ≡ c →
-          is_resetting (tick (coin t.node.coins) (heard_by (later i) k t.node)).state.view.phase
+          is_resetting (on_beat (beat t.node) (heard_by (later i) k t.node)).state.view.phase
           ≡ c
       stays false e = t.ticks.out e
       stays true e = (t.ticks.holds e (omega (arith, timer e, hold-least, soon)) hold-most).0
@@ -264,6 +273,13 @@ module _
 
   pub spread-most : spread ≤ 63 * w.delay
   spread-most = room (length w.nodes) w.delay (mul-le-mul_left w.delay few)
+    where
+      room : (n d : ℕ) → d * n ≤ d * 63 → n * d ≤ 63 * d
+      room n d h = grind (arith, h)
+
+  -- and so is what is seen by one node after the other
+  pub seen-most : length w.nodes * seen_turns w ≤ 63 * seen_turns w
+  seen-most = room (length w.nodes) (seen_turns w) (mul-le-mul_left (seen_turns w) few)
     where
       room : (n d : ℕ) → d * n ≤ d * 63 → n * d ≤ 63 * d
       room n d h = grind (arith, h)
@@ -325,7 +341,7 @@ module _
 
   -- so a node that waits takes no parent port in these turns
   pub waiting :
-      (j k : ℕ) (x : PortNode) → CanBeForcedAt w k → spread + j ≤ w.longest.hold + 127 * w.delay → Holds set k →
+      (j k : ℕ) (x : PortNode) → CanBeForcedAt w k → spread + j ≤ w.longest.hold + 127 * seen_turns w → Holds set k →
       AtView w k (λ v. waits_due v ≡ true) → slice_get (later (spread + j)).nodes k ≡ Some x →
       Waiting (spread + j) x.state
   waiting zero k x can soon h due at = record {

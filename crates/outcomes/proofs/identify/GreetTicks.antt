@@ -12,6 +12,7 @@ use Rattle.port_state.specs.Sends.{packets_on_every, on_port}
 use Rattle.port_state.specs.TreeIdentify.{adopt, parent_shake_at}
 use Rattle.port_state.specs.Contention.{contend_at}
 use Rattle.port_state.specs.Row as row
+use Rattle.port_state.specs.Machine.{on_beat}
 use Rattle.port_state.proofs.Lemmas.{notices-port, packets-port, map-port}
 use Rattle.cable_world.specs.Signals.{has_no_takeback}
 use Rattle.cable_world.proofs.Lemmas.{choose, elsewhere}
@@ -305,3 +306,50 @@ asks-on coin x k h s = go (next_row x) (chosen x.view.phase (raise_timer x) refl
     go (row.asks_again p) c = absurd (elsewhere is_shaking c.0 refl both.0)
     go (row.asks_child p) c = absurd (elsewhere is_shaking c refl both.0)
     go row.names_itself c = absurd (elsewhere is_shaking c refl both.0)
+
+-- ---- or the clock misses the turn
+
+pub beat-ticks-child :
+    (b : Option Bool) (x : NodeState) (k : ℕ) → leads_down x.view.ports k ≡ true →
+    leads_down (on_beat b x).state.view.ports k ≡ true
+beat-ticks-child None x k h = h
+beat-ticks-child (Some coin) x k h = ticks-child coin x k h
+
+pub beat-becomes-child :
+    (b : Option Bool) (x : NodeState) (k : ℕ) → leads_down (on_beat b x).state.view.ports k ≡ true →
+    (leads_down x.view.ports k ≡ true) ⊎ ((on_beat b x).state.view.phase ≡ ChildShake)
+beat-becomes-child None x k h = inl h
+beat-becomes-child (Some coin) x k h = becomes-child coin x k h
+
+pub beat-leaves-shake :
+    (b : Option Bool) (x : NodeState) (k : ℕ) → x.view.phase ≡ ChildShake →
+    is_connected x.view.ports k ≡ true → leads_down x.view.ports k ≡ true →
+    ((on_beat b x).state.view.phase ≡ ChildShake) ⊎ (level_shown x k ≡ level.Idle)
+beat-leaves-shake None x k e c d = inl e
+beat-leaves-shake (Some coin) x k e c d = leaves-shake coin x k e c d
+
+pub beat-says-child :
+    (b : Option Bool) (x : NodeState) (k : ℕ) → is_connected x.view.ports k ≡ true →
+    any_child (sent_on k (on_beat b x).sends) ≡ true →
+    leads_down (on_beat b x).state.view.ports k ≡ true
+beat-says-child None x k c h = absurd (true≢false (sym h))
+beat-says-child (Some coin) x k c h = says-child coin x k c h
+
+pub beat-asked-before :
+    (b : Option Bool) (x : NodeState) (k : ℕ) → is_asking (on_beat b x).state k ≡ true → Asked x k
+beat-asked-before None x k h = inl h
+beat-asked-before (Some coin) x k h = asked-before coin x k h
+
+pub beat-asking-sends :
+    (b : Option Bool) (x : NodeState) (k : ℕ) → IsValid (on_beat b x).state →
+    is_connected (on_beat b x).state.view.ports k ≡ true → is_asking (on_beat b x).state k ≡ true →
+    has_no_takeback (sent_on k (on_beat b x).sends) ≡ true
+beat-asking-sends None x k v c h = refl
+beat-asking-sends (Some coin) x k v c h = asking-sends coin x k v c h
+
+pub beat-asks-on :
+    (b : Option Bool) (x : NodeState) (k : ℕ) → is_asking x k ≡ true → is_parent (level_shown x k)
+    ≡ false → (is_asking (on_beat b x).state k ≡ true)
+    ⊎ (hears_packets (on_beat b x).state.view.phase ≡ true)
+beat-asks-on None x k h s = inl h
+beat-asks-on (Some coin) x k h s = asks-on coin x k h s

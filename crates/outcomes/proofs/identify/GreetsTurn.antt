@@ -13,8 +13,8 @@ use Rattle.cable_world.specs.Coupling.{NoneTakesBack}
 use Rattle.cable_world.proofs.Lemmas.{NoEntry, signals-older, has_reset-append, has_no_takeback-append, parent-stays, early-childless, parent-asks, tree_start-known, risen-most, heard_connected, contend_empty, turned-round, heard_shown, heard_low, heard_no_parent, came, other_heard, near_heard, no_reset_before, taken, heard_idle}
 use Rattle.outcomes.specs.Identify.{is_child_signal}
 use Rattle.convergence.proofs.Lemmas.{parent-late}
-use Rattle.outcomes.proofs.identify.LinedTicks.{ticks-on, arrives}
-use Rattle.outcomes.proofs.identify.GreetTicks.{ticks-child, becomes-child, leaves-shake, says-child, Asked, asked-before, asking-sends, asks-on}
+use Rattle.outcomes.proofs.identify.LinedTicks.{beat-ticks-on, beat-arrives}
+use Rattle.outcomes.proofs.identify.GreetTicks.{beat-ticks-child, beat-becomes-child, beat-leaves-shake, beat-says-child, Asked, beat-asked-before, beat-asking-sends, beat-asks-on}
 
 -- ---- signals
 
@@ -103,7 +103,7 @@ module _
 
     other-asked :
         is_asking (ticking y).state y.port ≡ true → NoEntry y.node (hearing y) → Asked y.node y.port
-    other-asked a h = elim (asked-before y.coin (hearing y).state y.port a) [
+    other-asked a h = elim (beat-asked-before y.beat (hearing y).state y.port a) [
       | inl was ↦
           inl (ap (λ (p : Phase). is_shaking p && is_port y.node.view.parent y.port) (sym h.phase)
           ∙ ap (λ o. is_shaking (hearing y).state.view.phase && is_port o y.port) (sym h.parent)
@@ -162,7 +162,7 @@ module _
         (departures y) ∙ and_from _ _ (kept-parent a s r)
         (has_no_takeback-append (sent_on y.port (hearing y).sends)
         (sent_on y.port (ticking y).sends) ∙ and_from _ _ (j.other.hears.takes_none_back y.port)
-        (asking-sends y.coin (hearing y).state y.port j.other.ticks.valid
+        (beat-asking-sends y.beat (hearing y).state y.port j.other.ticks.valid
         (j.other.ticks.cables y.port ∙ heard_connected d y j.other) a))
 
     -- ---- children
@@ -179,7 +179,7 @@ module _
         let still : is_asking (hearing y).state y.port ≡ true =
         ap (λ (p : Phase). is_shaking p && is_port (hearing y).state.view.parent y.port) h.phase
         ∙ ap (λ o. is_shaking y.node.view.phase && is_port o y.port) h.parent ∙ a in
-        elim (asks-on y.coin (hearing y).state y.port still n) [
+        elim (beat-asks-on y.beat (hearing y).state y.port still n) [
           | inl b ↦ inl (b, shows ∙ s)
           | inr b ↦ inr b
         ]
@@ -187,7 +187,7 @@ module _
     hears-on :
         hears_packets y.node.view.phase ≡ true → NoEntry y.node (hearing y) →
         hears_packets (ticking y).state.view.phase ≡ true
-    hears-on h s = ticks-on y.coin (hearing y).state (ap hears_packets s.phase ∙ h)
+    hears-on h s = beat-ticks-on y.beat (hearing y).state (ap hears_packets s.phase ∙ h)
 
     late : leads_down x.node.view.ports x.port ≡ true → is_resetting x.node.view.phase ≡ false
     late z =
@@ -312,7 +312,7 @@ module _
         leads_down (ticking x).state.view.ports x.port ≡ true → NoReset →
         ((ticking x).state.view.phase ≡ phase.ChildShake)
         ⊎ (hears_packets (ticking y).state.view.phase ≡ true)
-    both-after c r = elim (becomes-child x.coin (hearing x).state x.port c) [
+    both-after c r = elim (beat-becomes-child x.beat (hearing x).state x.port c) [
       | inl z ↦ old (sym (h.child x.port) ∙ z) z
       | inr z ↦ inl z
     ]
@@ -335,7 +335,7 @@ module _
             let calm = no-reset z h r in
             elim (g.both z calm) [
               | inl s ↦
-                  elim (leaves-shake x.coin (hearing x).state x.port (h.phase ∙ s)
+                  elim (beat-leaves-shake x.beat (hearing x).state x.port (h.phase ∙ s)
                   (heard_connected d x j.near) zh) [
                     | inl stays ↦ inl stays
                     | inr idle ↦ elim (g.greeted z calm) [
@@ -353,7 +353,7 @@ module _
     child-on :
         leads_down y.node.view.ports y.port ≡ true → NoEntry y.node (hearing y) →
         leads_down (ticking y).state.view.ports y.port ≡ true
-    child-on e h = ticks-child y.coin (hearing y).state y.port (h.child y.port ∙ e)
+    child-on e h = beat-ticks-child y.beat (hearing y).state y.port (h.child y.port ∙ e)
 
     out-child : (h : Phase) (b : Bool) → level_sent h b ≡ level.Child → b ≡ true
     out-child h b e = grind arith
@@ -393,7 +393,7 @@ module _
                 | inl b ↦
                     absurd (no_fall-no_child (sent_on y.port (hearing y).sends)
                     (j.other.hears.takes_none_back y.port) b)
-                | inr b ↦ says-child y.coin (hearing y).state y.port (heard_connected d y j.other) b
+                | inr b ↦ beat-says-child y.beat (hearing y).state y.port (heard_connected d y j.other) b
               ]
         ]
       where
@@ -435,14 +435,14 @@ module _
         go :
             NoEntry x.node (hearing x) → (b : Bool) → hears_packets x.node.view.phase ≡ b →
             leads_down (ticking y).state.view.ports y.port ≡ true
-        go h true e = elim (parent-was x.coin (hearing x).state x.port p) [
+        go h true e = elim (parent-was x.beat (hearing x).state x.port p) [
           | inl was ↦
               child-on (g.accepted e (sym (ap (λ o. is_port o x.port) h.parent) ∙ was)
               (no_reset_before d x y j (out-of x.node.view.phase e) h r)) (other_heard d x y j r)
           | inr s ↦ absurd (start (hearing x).state.view.phase s (ap hears_packets h.phase ∙ e))
         ]
         go h false e =
-            let a = arrives x.coin (hearing x).state (ap hears_packets h.phase ∙ e) n in
+            let a = beat-arrives x.beat (hearing x).state (ap hears_packets h.phase ∙ e) n in
             let was : is_port (hearing x).state.view.parent x.port ≡ true =
             sym (ap (λ o. is_port o x.port) a.parent) ∙ p in
             elim a.how [

@@ -11,10 +11,10 @@ use Rattle.outcomes.proofs.identify.Messages.{silent-append, silent-quads, silen
 use Rattle.outcomes.proofs.identify.Lines.{begins}
 use Rattle.convergence.proofs.Lemmas.{early-parentless, parent-late, start-mute}
 use Rattle.outcomes.proofs.identify.Ports.{child-role}
-use Rattle.outcomes.proofs.identify.MarksKept.{hears-late, none-asked, tick-marked}
+use Rattle.outcomes.proofs.identify.MarksKept.{hears-late, none-asked, beat-tick-marked}
 use Rattle.outcomes.proofs.identify.LinedHears.{Waiting}
-use Rattle.outcomes.proofs.identify.LinedTicks.{ticks-on, ticks-parent, arrives, tick-silent}
-use Rattle.outcomes.proofs.identify.GreetTicks.{ticks-child, becomes-child}
+use Rattle.outcomes.proofs.identify.LinedTicks.{beat-ticks-on, beat-ticks-parent, beat-arrives, beat-tick-silent}
+use Rattle.outcomes.proofs.identify.GreetTicks.{beat-ticks-child, beat-becomes-child}
 use Rattle.outcomes.proofs.identify.HearAll.{MayCome, HasRoom, hear-silent, hear-marked}
 use Rattle.outcomes.proofs.identify.LinedTurn.{Able, Taken, Comes, comes-adds, waits-turn, front-turn, split, lined-turn, above-front, below-front}
 
@@ -50,7 +50,7 @@ early-silent :
     ≡ true
 early-silent d s r h =
     silent-append (sent_on s.port (hearing s).sends) (sent_on s.port (ticking s).sends) (hear-silent s.inbox s.node s.port h)
-    (tick-silent s.coin (hearing s).state s.port (elim r.hears.cases [ inl t ↦ ap hears_packets t.phase ∙ h | inr c ↦ ap hears_packets c.phase ]))
+    (beat-tick-silent s.beat (hearing s).state s.port (elim r.hears.cases [ inl t ↦ ap hears_packets t.phase ∙ h | inr c ↦ ap hears_packets c.phase ]))
 
 -- what is known of a node and of all that comes to it
 pub record Known (s : Side) : Type 0 where
@@ -62,7 +62,7 @@ heard-marked : (d : ℕ) (s : Side) → Ready d s → Known s → IsMarked (hear
 heard-marked d s r k = hear-marked s.inbox s.node r.valid k.marked k.comes
 
 after-marked : (d : ℕ) (s : Side) → Ready d s → Known s → IsMarked (ticking s).state
-after-marked d s r k = tick-marked s.coin (hearing s).state r.hears.valid (heard-marked d s r k)
+after-marked d s r k = beat-tick-marked s.beat (hearing s).state r.hears.valid (heard-marked d s r k)
 
 able : (d : ℕ) (s : Side) → Ready d s → Known s → hears_packets s.node.view.phase ≡ true → Able s
 able d s r k h = record { valid = r.valid; heard_valid = r.hears.valid; marked = k.marked; hears = h; comes = k.comes h; room = k.room h }
@@ -165,7 +165,7 @@ module _ (d : ℕ) (x y : Side) (t : Told d x y) where
       go :
           (b : Bool) → nat_lt ((hearing x).state.view.timer + 1) (hearing x).state.timing.hold ≡ b →
           64 * d ≤ x.node.view.timer + 1
-      go true e = absurd (true≢false (sym (j.near.ticks.holds (ap is_resetting h.phase ∙ r) (ltb-true ((hearing x).state.view.timer + 1) (hearing x).state.timing.hold e) (hold_fits d x j.some_delay j.short_delay j.near)).0 ∙ out))
+      go true e = absurd (true≢false (sym (j.near.ticks.holds (ap is_resetting h.phase ∙ r) (ltb-true ((hearing x).state.view.timer + 1) (hearing x).state.timing.hold e) (hold_fits d x j.some_delay j.near)).0 ∙ out))
       go false e = omega (arith, ltb-false ((hearing x).state.view.timer + 1) (hearing x).state.timing.hold e, h.timer, (heard_timing d x j.near).hold_least)
 
   nothing-under-way :
@@ -194,7 +194,7 @@ module _ (d : ℕ) (x y : Side) (t : Told d x y) where
       go false e = inl refl
       go true e = elim (or_cases (is_resetting x.node.view.phase) (hears_packets x.node.view.phase) e) [
         | inl r ↦ inr r
-        | inr s ↦ contrary (ticks-on x.coin (hearing x).state (ap hears_packets h.phase ∙ s)) (mute (ticking x).state.view.phase m)
+        | inr s ↦ contrary (beat-ticks-on x.beat (hearing x).state (ap hears_packets h.phase ∙ s)) (mute (ticking x).state.view.phase m)
       ]
 
   mute-heard : may_speak (ticking x).state.view.phase ≡ false → NoEntry x.node (hearing x)
@@ -302,7 +302,7 @@ module _ (d : ℕ) (x y : Side) (t : Told d x y) where
           (ticking x).state.list.items (signals_of (wire_after y))
       go false e c f =
           let early : hears_packets (hearing x).state.view.phase ≡ false = ap hears_packets h.phase ∙ e in
-          let a = arrives x.coin (hearing x).state early n in
+          let a = beat-arrives x.beat (hearing x).state early n in
           let s : may_speak x.node.view.phase ≡ false = ap may_speak (sym h.phase ∙ a.shakes) in
           let none : silent (signals_of (wire_after y)) ≡ true = ap silent (after_signals y) ∙ silent-append (signals_of (leftovers y)) (departures y) (kept_or_gone y (λ ss. silent ss ≡ true) refl (t.identifies.hushed s)) (none-sent s) in
           (silent-fits (mode (ticking x).state x.port) (signals_of (wire_after y)) none, omega (arith, ap length (a.list ∙ (heard-marked d x j.near t.near).unheard early), ap length (silent-quads (signals_of (wire_after y)) none)))
@@ -314,11 +314,11 @@ module _ (d : ℕ) (x y : Side) (t : Told d x y) where
       go true e true f = elim (above (hears-out x.node.view.phase e) f) [
         | inl child ↦
             let p : is_port x.node.view.parent x.port ≡ true = (j.coupled_back.child child (calm (hears-out x.node.view.phase e))).0 in
-            let q : is_port (ticking x).state.view.parent x.port ≡ true = ap (λ o. is_port o x.port) (ticks-parent x.coin (hearing x).state (ap hears_packets h.phase ∙ e) ∙ h.parent) ∙ p in
+            let q : is_port (ticking x).state.view.parent x.port ≡ true = ap (λ o. is_port o x.port) (beat-ticks-parent x.beat (hearing x).state (ap hears_packets h.phase ∙ e) ∙ h.parent) ∙ p in
             mode-below (is_port (ticking x).state.view.parent x.port) (parent_mode (is_ready (ticking x).state.view.phase) (ticking x).state.view.granted) (child_mode (is_asked (ticking x).state x.port) (is_named (ticking x).state x.port)) (ticking x).state.list.items (signals_of (wire_after y)) q
             (below-front d y x (turned-round d x y j) (able d y j.other t.other f) (able d x j.near t.near e) child p (t.identifies_back.line child p f) (stays-out h (hears-out x.node.view.phase e)))
         | inr p ↦
-            let child : leads_down (ticking x).state.view.ports x.port ≡ true = ticks-child x.coin (hearing x).state x.port (h.child x.port ∙ p.1) in
+            let child : leads_down (ticking x).state.view.ports x.port ≡ true = beat-ticks-child x.beat (hearing x).state x.port (h.child x.port ∙ p.1) in
             mode-above (is_port (ticking x).state.view.parent x.port) (is_ready (ticking x).state.view.phase) (ticking x).state.view.granted (child_mode (is_asked (ticking x).state x.port) (is_named (ticking x).state x.port)) (ticking x).state.list.items (signals_of (wire_after y))
             (child-role (ticking x).state x.port j.near.ticks.valid (hears-late (ticking x).state.view.phase n) child).0
             (above-front d x y j (able d x j.near t.near e) (able d y j.other t.other f) p.1 p.0 (t.identifies.line p.1 p.0 e) (stays-out h (hears-out x.node.view.phase e)))
@@ -337,7 +337,7 @@ module _ (d : ℕ) (x y : Side) (t : Told d x y) where
   parent-out :
       is_port (ticking y).state.view.parent y.port ≡ true → NoEntry y.node (hearing y) →
       is_resetting y.node.view.phase ≡ false
-  parent-out p h = elim (parent-was y.coin (hearing y).state y.port p) [
+  parent-out p h = elim (parent-was y.beat (hearing y).state y.port p) [
     | inl was ↦ late (is_resetting y.node.view.phase) refl (parent-late y.node j.other.valid y.port (sym (ap (λ o. is_port o y.port) h.parent) ∙ was))
     | inr s ↦ ap is_resetting (sym h.phase ∙ s)
   ]
@@ -381,7 +381,7 @@ module _ (d : ℕ) (x y : Side) (t : Told d x y) where
       none z m e = false_from_ne_true _ (λ g. contrary (m.granted g) e)
 
       not-hearing : (b : Bool) → hears_packets x.node.view.phase ≡ b → b ≡ false
-      not-hearing true e = contrary (ticks-on x.coin (hearing x).state (ap hears_packets h.phase ∙ e)) n
+      not-hearing true e = contrary (beat-ticks-on x.beat (hearing x).state (ap hears_packets h.phase ∙ e)) n
       not-hearing false e = refl
 
       neither : (h : Phase) → is_resetting h ≡ false → hears_packets h ≡ false → may_speak h ≡ false
@@ -395,7 +395,7 @@ module _ (d : ℕ) (x y : Side) (t : Told d x y) where
       go true e false f =
           let m : IsMarked (hearing y).state = heard-marked d y j.other t.other in
           let early : hears_packets (hearing y).state.view.phase ≡ false = ap hears_packets k.phase ∙ f in
-          let r = arrives y.coin (hearing y).state early e in
+          let r = beat-arrives y.beat (hearing y).state early e in
           elim r.how [
             | inl o ↦ contrary p (ap (λ q. is_port q y.port) (r.parent ∙ o))
             | inr o ↦ (o.0 ∙ none (hearing y).state m early, r.list ∙ m.unheard early)
@@ -420,7 +420,7 @@ module _ (d : ℕ) (x y : Side) (t : Told d x y) where
       k = parent-heard p
 
       was : leads_down x.node.view.ports x.port ≡ true
-      was = elim (becomes-child x.coin (hearing x).state x.port c) [
+      was = elim (beat-becomes-child x.beat (hearing x).state x.port c) [
         | inl z ↦ sym (h.child x.port) ∙ z
         | inr z ↦ contrary n (ap hears_packets z)
       ]
@@ -461,7 +461,7 @@ module _ (d : ℕ) (x y : Side) (t : Told d x y) where
           lined-turn d x y j (able d x j.near t.near e) (able d y j.other t.other f) was parent (t.identifies.line was parent e) (stays-out h (hears-out x.node.view.phase e)) (ap is_resetting k.phase ∙ hears-out y.node.view.phase f)
       go false e =
           let early : hears_packets (hearing x).state.view.phase ≡ false = ap hears_packets h.phase ∙ e in
-          let a = arrives x.coin (hearing x).state early n in
+          let a = beat-arrives x.beat (hearing x).state early n in
           let shakes : x.node.view.phase ≡ phase.ParentShake = sym h.phase ∙ a.shakes in
           let s : may_speak x.node.view.phase ≡ false = ap may_speak shakes in
           let f : hears_packets y.node.view.phase ≡ true = hears-other (phases x.node.view.phase shakes) in

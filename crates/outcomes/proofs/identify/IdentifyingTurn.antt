@@ -1,12 +1,13 @@
 -- A turn of a lawful world keeps what is so of self identify.
 use Rattle.std.proofs.Common.{◌≡◌, ℕ, ◌+◌, ◌≤◌, length, Bool, true, false, List, [], Option, Some, None, slice_get, if◌then◌else◌, refl, sym, ◌∙◌, ap, subst, arith}
-use Rattle.outcomes.proofs.Common.{Signal, coin, sent_on, hears_packets, PortNode, End, Wiring, far, ports_of, age_wire, gives, CableWorld, wire_of, inbox, turn_at, turn, signals_of, IsLawful, cabling-after, side, side-wire, before, turn-state, comes, joined-of, quads_in, Mode, mode, fits, Greets, Identifies, IsIdentifying, end_at}
+use Rattle.outcomes.proofs.Common.{Signal, sent_on, hears_packets, PortNode, End, Wiring, far, ports_of, age_wire, gives, CableWorld, wire_of, inbox, turn_at, turn, signals_of, IsLawful, cabling-after, side, side-wire, before, turn-state, comes, joined-of, quads_in, Mode, mode, fits, Greets, Identifies, IsIdentifying, end_at}
 use Rattle.cable_world.specs.Turn.{signals_from}
 use Rattle.cable_world.proofs.Lemmas.{delay-after, side-node, hears, ready, inbox-at}
-use Rattle.outcomes.proofs.identify.MarksKept.{tick-marked}
+use Rattle.outcomes.proofs.identify.MarksKept.{beat-tick-marked}
 use Rattle.outcomes.proofs.identify.HearAll.{MayCome, HasRoom, hear-marked}
 use Rattle.outcomes.proofs.identify.GreetsTurn.{greets-turn}
 use Rattle.outcomes.proofs.identify.IdentifiesTurn.{Told, identifies-turn}
+use Rattle.port_state.specs.Machine.{beat}
 
 module _ (w : CableWorld) (l : IsLawful w) (i : IsIdentifying w) where
   -- all that comes to a node may come
@@ -68,7 +69,6 @@ module _ (w : CableWorld) (l : IsLawful w) (i : IsIdentifying w) where
       record {
         pair = record {
           some_delay = l.well_formed.some_delay;
-          short_delay = l.well_formed.short_delay;
           near = ready w a b x l.well_formed l.coupled e at_x;
           other = ready w b a y l.well_formed l.coupled back at_y;
           comes = comes w b a e;
@@ -111,7 +111,7 @@ module _ (w : CableWorld) (l : IsLawful w) (i : IsIdentifying w) where
     nodes = λ k y e.
         let x = before w k y l.well_formed e in
         let h = hears w k x.0 l.well_formed x.1 in
-        rw (x.2, turn-state (inbox w 0 (ports_of w.cabling k)) x.0) (tick-marked (coin x.0.coins) _ h.valid (hear-marked (inbox w 0 (ports_of w.cabling k)) x.0.state (l.well_formed.nodes k x.0 x.1).valid (i.nodes k x.0 x.1) (may-come k x.0 x.1)));
+        rw (x.2, turn-state (inbox w 0 (ports_of w.cabling k)) x.0) (beat-tick-marked (beat x.0) _ h.valid (hear-marked (inbox w 0 (ports_of w.cabling k)) x.0.state (l.well_formed.nodes k x.0 x.1).valid (i.nodes k x.0 x.1) (may-come k x.0 x.1)));
     greets = λ a b y z e at_y at_z.
         let x = before w a.node y l.well_formed at_y in
         let u = before w b.node z l.well_formed at_z in

@@ -8,6 +8,7 @@ use Rattle.port_state.specs.declared.signal.Signal.TheVariants as signal
 use Rattle.port_state.specs.Ports.{is_child}
 use Rattle.port_state.specs.Sends.{packets_on_every, on_port}
 use Rattle.port_state.specs.Row as row
+use Rattle.port_state.specs.Machine.{on_beat}
 use Rattle.port_state.proofs.Lemmas.{sound-tick, notices-port, packets-port}
 use Rattle.cable_world.proofs.Lemmas.{turned}
 use Rattle.outcomes.specs.Messages as mode
@@ -467,3 +468,68 @@ tick-silent coin x k h = go (next_row x) (chosen x.view.phase (raise_timer x) re
     go (row.asks_child p) c = absurd (on c refl)
     go row.names_itself c = absurd (on c refl)
     go r c = refl
+
+-- ---- or the clock misses the turn
+
+pub beat-above-ticks :
+    (b : Option Bool) (x : NodeState) (p : ℕ) (there : List Signal) (y : NodeState) (back : List Signal)
+    → IsValid x → hears_packets x.view.phase ≡ true → leads_down x.view.ports p ≡ true →
+    Lined x p there y back →
+    Lined (on_beat b x).state p (there ++ sent_on p (on_beat b x).sends) y back
+beat-above-ticks None x p there y back v h d l = subst (λ ss. Lined x p ss y back) (sym (append-nil there)) l
+beat-above-ticks (Some coin) x p there y back v h d l = above-ticks coin x p there y back v h d l
+
+pub beat-below-ticks :
+    (b : Option Bool) (y : NodeState) (q : ℕ) (back : List Signal) (x : NodeState) (p : ℕ)
+    (there : List Signal) → IsValid y → hears_packets y.view.phase ≡ true →
+    is_port y.view.parent q ≡ true →
+    Lined x p there y back →
+    Lined x p there (on_beat b y).state (back ++ sent_on q (on_beat b y).sends)
+beat-below-ticks None y q back x p there v h i l = subst (λ ss. Lined x p there y ss) (sym (append-nil back)) l
+beat-below-ticks (Some coin) y q back x p there v h i l = below-ticks coin y q back x p there v h i l
+
+pub beat-waits-ticks :
+    (b : Option Bool) (y : NodeState) (q : ℕ) (back there : List Signal) →
+    hears_packets y.view.phase ≡ true → Waiting y q back there →
+    Waiting (on_beat b y).state q (back ++ sent_on q (on_beat b y).sends) there
+beat-waits-ticks None y q back there h w = subst (λ ss. Waiting y q ss there) (sym (append-nil back)) w
+beat-waits-ticks (Some coin) y q back there h w = waits-ticks coin y q back there h w
+
+pub beat-front-ticks :
+    (b : Option Bool) (x : NodeState) (j : ℕ) (ss : List Signal) → IsValid x → IsMarked x →
+    hears_packets x.view.phase ≡ true → fits (mode x j) ss ≡ true →
+    fits (mode (on_beat b x).state j) ss ≡ true
+beat-front-ticks None x j ss v m h f = f
+beat-front-ticks (Some coin) x j ss v m h f = front-ticks coin x j ss v m h f
+
+pub beat-room-ticks :
+    (b : Option Bool) (x : NodeState) (j : ℕ) (ss : List Signal) → IsValid x → IsMarked x →
+    hears_packets x.view.phase ≡ true → fits (mode x j) ss ≡ true →
+    length x.list.items + length (quads_in ss) ≤ 252 →
+    length (on_beat b x).state.list.items + length (quads_in ss) ≤ 252
+beat-room-ticks None x j ss v m h f free = free
+beat-room-ticks (Some coin) x j ss v m h f free = room-ticks coin x j ss v m h f free
+
+pub beat-ticks-on :
+    (b : Option Bool) (x : NodeState) → hears_packets x.view.phase ≡ true →
+    hears_packets (on_beat b x).state.view.phase ≡ true
+beat-ticks-on None x h = h
+beat-ticks-on (Some coin) x h = ticks-on coin x h
+
+pub beat-ticks-parent :
+    (b : Option Bool) (x : NodeState) → hears_packets x.view.phase ≡ true →
+    (on_beat b x).state.view.parent ≡ x.view.parent
+beat-ticks-parent None x h = refl
+beat-ticks-parent (Some coin) x h = ticks-parent coin x h
+
+pub beat-arrives :
+    (b : Option Bool) (x : NodeState) → hears_packets x.view.phase ≡ false →
+    hears_packets (on_beat b x).state.view.phase ≡ true → Arrives x (on_beat b x).state
+beat-arrives None x h n = contrary n h
+beat-arrives (Some coin) x h n = arrives coin x h n
+
+pub beat-tick-silent :
+    (b : Option Bool) (x : NodeState) (k : ℕ) → hears_packets x.view.phase ≡ false →
+    silent (sent_on k (on_beat b x).sends) ≡ true
+beat-tick-silent None x k h = refl
+beat-tick-silent (Some coin) x k h = tick-silent coin x k h

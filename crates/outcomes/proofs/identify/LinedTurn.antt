@@ -7,8 +7,8 @@ use Rattle.cable_world.proofs.Lemmas.{signals-older}
 use Rattle.outcomes.proofs.identify.Messages.{fits-silent, silent-append, silent-quads, quads-append}
 use Rattle.outcomes.proofs.identify.Hearing.{Stays, signal-stays}
 use Rattle.outcomes.proofs.identify.LinedHears.{above-hears, below-hears, waits-hears, front-hears, room-hears, Waiting}
-use Rattle.outcomes.proofs.identify.LinedTicks.{above-ticks, below-ticks, waits-ticks, front-ticks, room-ticks, ticks-on, tick-silent, ticks-parent}
-use Rattle.outcomes.proofs.identify.GreetTicks.{ticks-child}
+use Rattle.outcomes.proofs.identify.LinedTicks.{beat-above-ticks, beat-below-ticks, beat-waits-ticks, beat-front-ticks, beat-room-ticks, beat-ticks-on, beat-tick-silent, beat-ticks-parent}
+use Rattle.outcomes.proofs.identify.GreetTicks.{beat-ticks-child}
 use Rattle.outcomes.proofs.identify.HearAll.{MayCome, HasRoom, Keeps, hear-keeps, hear-marked}
 use Rattle.convergence.proofs.Lemmas.{start-mute}
 
@@ -44,8 +44,8 @@ takes :
     (out pend : List Signal) → Q s.node out (sent_on s.port s.inbox ++ pend) →
     Taken s (λ x o. Q x o pend) S out
 takes s a Q S keeps ticks out pend q = elim (hear-keeps s.port Q S keeps s.inbox s.node out pend a.valid a.marked a.hears a.comes a.room q) [
-  | inl h ↦ inl (ticks-on s.coin (hearing s).state h.0, subst (λ o. Q (ticking s).state o pend) (parts s out) (ticks (out ++ sent_on s.port (hearing s).sends) pend h.0 h.1))
-  | inr h ↦ inr (h.0, subst S (parts s out) (keeps.adds (out ++ sent_on s.port (hearing s).sends) (sent_on s.port (ticking s).sends) h.1 (tick-silent s.coin (hearing s).state s.port (start-mute (hearing s).state.view.phase h.0))))
+  | inl h ↦ inl (beat-ticks-on s.beat (hearing s).state h.0, subst (λ o. Q (ticking s).state o pend) (parts s out) (ticks (out ++ sent_on s.port (hearing s).sends) pend h.0 h.1))
+  | inr h ↦ inr (h.0, subst S (parts s out) (keeps.adds (out ++ sent_on s.port (hearing s).sends) (sent_on s.port (ticking s).sends) h.1 (beat-tick-silent s.beat (hearing s).state s.port (start-mute (hearing s).state.view.phase h.0))))
 ]
 
 stayed :
@@ -82,7 +82,7 @@ pub above-turn :
     Taken s (λ x o. Above s.port y x o pend)
     (Comes (parent_mode (is_ready y.view.phase) y.view.granted) y.list.items) out
 above-turn s a y = takes s a (Above s.port y) (Comes (parent_mode (is_ready y.view.phase) y.view.granted) y.list.items) (keeps-above s.port y)
-    (λ out pend n q. (ticks-child s.coin (hearing s).state s.port q.0, above-ticks s.coin (hearing s).state s.port out y pend a.heard_valid n q.0 q.1))
+    (λ out pend n q. (beat-ticks-child s.beat (hearing s).state s.port q.0, beat-above-ticks s.beat (hearing s).state s.port out y pend a.heard_valid n q.0 q.1))
 
 -- ---- below
 
@@ -104,7 +104,7 @@ pub below-turn :
     Taken s (λ y o. Below s.port x p y o pend)
     (Comes (child_mode (is_asked x p) (is_named x p)) x.list.items) out
 below-turn s a x p = takes s a (Below s.port x p) (Comes (child_mode (is_asked x p) (is_named x p)) x.list.items) (keeps-below s.port x p)
-    (λ out pend n b. (ap (λ o. is_port o s.port) (ticks-parent s.coin (hearing s).state n) ∙ b.0, below-ticks s.coin (hearing s).state s.port out x p pend a.heard_valid n b.0 b.1))
+    (λ out pend n b. (ap (λ o. is_port o s.port) (beat-ticks-parent s.beat (hearing s).state n) ∙ b.0, beat-below-ticks s.beat (hearing s).state s.port out x p pend a.heard_valid n b.0 b.1))
 
 -- ---- a child that waits for its grant
 
@@ -122,7 +122,7 @@ pub waits-turn :
     (s : Side) → Able s → (out pend : List Signal) →
     Waiting s.node s.port out (sent_on s.port s.inbox ++ pend) →
     Taken s (λ y o. Waiting y s.port o pend) (λ o. silent o ≡ true) out
-waits-turn s a = takes s a (Waiting-at s.port) (λ o. silent o ≡ true) (keeps-waits s.port) (λ out pend n w. waits-ticks s.coin (hearing s).state s.port out pend n w)
+waits-turn s a = takes s a (Waiting-at s.port) (λ o. silent o ≡ true) (keeps-waits s.port) (λ out pend n w. beat-waits-ticks s.beat (hearing s).state s.port out pend n w)
 
 -- ---- what may come to a port
 
@@ -142,7 +142,7 @@ pub front-turn :
     hears_packets (ticking s).state.view.phase ≡ true →
     is_resetting (hearing s).state.view.phase ≡ false → Comes (mode (ticking s).state s.port)
     (ticking s).state.list.items pend
-front-turn s a pend f n r = elim (takes s a (Fits-at s.port) (λ o. Unit {0}) (keeps-front s.port) (λ out pend m g. (front-ticks s.coin (hearing s).state s.port pend a.heard_valid (able-marked s a) m g.0, room-ticks s.coin (hearing s).state s.port pend a.heard_valid (able-marked s a) m g.0 g.1)) [] pend f) [
+front-turn s a pend f n r = elim (takes s a (Fits-at s.port) (λ o. Unit {0}) (keeps-front s.port) (λ out pend m g. (beat-front-ticks s.beat (hearing s).state s.port pend a.heard_valid (able-marked s a) m g.0, beat-room-ticks s.beat (hearing s).state s.port pend a.heard_valid (able-marked s a) m g.0 g.1)) [] pend f) [
   | inl t ↦ t.1
   | inr t ↦ contrary t.0 r
 ]

@@ -8,6 +8,7 @@ use Rattle.port_state.specs.declared.signal.Signal.TheVariants as signal
 use Rattle.port_state.specs.Entry.{without_marks}
 use Rattle.port_state.specs.TreeIdentify as tree
 use Rattle.port_state.specs.Row as row
+use Rattle.port_state.specs.Machine.{on_beat}
 use Rattle.port_state.proofs.Lemmas.{map-port, port_is-map}
 use Rattle.cable_world.proofs.Lemmas.{none-some}
 use Rattle.outcomes.proofs.identify.Ports.{changed-other, changed-here, changed-was, none-lowest, lowest-first, lowest-is, child-role, not-unnamed, is-unnamed}
@@ -377,3 +378,9 @@ tick-marked coin x v m = go (hears_packets x.view.phase) refl
     go : (b : Bool) → hears_packets x.view.phase ≡ b → IsMarked (tick coin x).state
     go true h = late-marked coin (next_row x) (raise_timer x) (valid-raise_timer x v) (late-row x h) (raised-marked x m)
     go false h = early-marked coin (next_row x) (raise_timer x) h (chosen x.view.phase (raise_timer x) refl) (raised-marked x m)
+
+-- or the clock misses the turn
+pub beat-tick-marked :
+    (b : Option Bool) (x : NodeState) → IsValid x → IsMarked x → IsMarked (on_beat b x).state
+beat-tick-marked None x v m = m
+beat-tick-marked (Some coin) x v m = tick-marked coin x v m

@@ -25,6 +25,7 @@ use Rattle.outcomes.proofs.numbers.NumberedTurn.{still-there, nothing-comes, hea
 use Rattle.outcomes.proofs.roots.RootWalk.{node-at}
 use Rattle.outcomes.proofs.numbers.Settling.{Up, climbs, settles-on}
 use Rattle.outcomes.proofs.identify.StaysIdentifying.{comes-identifying, quiet-identifying}
+use Rattle.port_state.specs.Machine.{beat, on_beat}
 
 -- ---- the room for a group
 
@@ -263,6 +264,12 @@ ready-list coin x r = go x.view.phase r
     go phase.Ready r = refl
     go f r = absurd cc
 
+beat-ready-list :
+    (b : Option Bool) (x : NodeState) → is_ready x.view.phase ≡ true →
+    (on_beat b x).state.list.items ≡ x.list.items
+beat-ready-list None x r = refl
+beat-ready-list (Some coin) x r = ready-list coin x r
+
 -- ---- where all nodes of a component are in A0, with one list, it is at rest
 
 pub mute-named : (g n : Bool) → n ≡ true → (g && not n) ≡ false
@@ -370,7 +377,7 @@ module _
       let o = heard-so w l i set root t s.component.closed s.walk s.all s.numbered k x.0 h x.1 in
       ap (λ (u : PortNode). u.state.list.items) x.2 ∙ ap (λ (u : NodeState). u.list.items)
       (turn-state (inbox w 0 (ports_of w.cabling k)) x.0)
-      ∙ ready-list (coin x.0.coins) y (ap is_ready o.stays.phase ∙ rest.ready k x.0 h x.1)
+      ∙ beat-ready-list (beat x.0) y (ap is_ready o.stays.phase ∙ rest.ready k x.0 h x.1)
       ∙ hears-no-list (inbox w 0 (ports_of w.cabling k)) x.0.state (s.all k x.0 h x.1)
       (still-there w l i set root t s.component.closed s.walk s.all k x.0 h x.1)
       (λ j. box-silent k j h)

@@ -13,14 +13,15 @@ use Rattle.outcomes.proofs.identify.Lines.{no-grant-up, no-done-down}
 use Rattle.outcomes.proofs.identify.OneMessage.{end-of, two-parts}
 use Rattle.outcomes.proofs.identify.IdentifiesTurn.{Told}
 use Rattle.outcomes.proofs.identify.IdentifyingTurn.{told}
-use Rattle.outcomes.proofs.identify.LinedTicks.{ticks-on, ticks-parent}
+use Rattle.outcomes.proofs.identify.LinedTicks.{beat-ticks-on, beat-ticks-parent}
 use Rattle.outcomes.proofs.identify.LateRows.{LateRow, rests, asks_next, names_now, late-row}
 use Rattle.outcomes.proofs.identify.LinedTurn.{Able, split, above-turn, below-turn}
 use Rattle.outcomes.proofs.identify.ListsFollow.{IsAbove, one-above}
 use Rattle.outcomes.proofs.identify.MarksKept.{hears-late}
 use Rattle.outcomes.proofs.identify.Ports.{child-role}
 use Rattle.outcomes.proofs.numbers.NodeMessages.{Owes, silent-more, not-then, speaks-so, mute-so, as-parent, as-child}
-use Rattle.outcomes.proofs.numbers.Turning.{Marks, Goes-on, Heard-so, goes-along, hears-all, Ticks-so, ticks-so}
+use Rattle.outcomes.proofs.numbers.Turning.{Marks, Goes-on, Heard-so, goes-along, hears-all, Ticks-so, beat-ticks-so}
+use Rattle.port_state.specs.Machine.{beat, on_beat}
 
 -- ---- signals
 
@@ -56,6 +57,19 @@ ticks-ready coin x r = go x.view.phase refl r
         is_ready (does coin (row_of f (raise_timer x)) (raise_timer x)).state.view.phase ≡ true
     go phase.Ready e r = ap is_ready e
     go f e r = absurd cc
+
+-- or the clock misses the turn
+beat-ticks-attrs :
+    (b : Option Bool) (x : NodeState) → hears_packets x.view.phase ≡ true →
+    shown_attrs (on_beat b x).state ≡ shown_attrs x
+beat-ticks-attrs None x h = refl
+beat-ticks-attrs (Some coin) x h = ticks-attrs coin x h
+
+pub beat-ticks-ready :
+    (b : Option Bool) (x : NodeState) → is_ready x.view.phase ≡ true →
+    is_ready (on_beat b x).state.view.phase ≡ true
+beat-ticks-ready None x r = r
+beat-ticks-ready (Some coin) x r = ticks-ready coin x r
 
 -- ---- the component
 
@@ -109,9 +123,9 @@ module _
 
   pub stays-on :
       (k : ℕ) (x : PortNode) → Holds set k → slice_get w.nodes k ≡ Some x →
-      hears_packets (tick (coin x.coins) (hear_all (box k) x.state).state).state.view.phase ≡ true
+      hears_packets (on_beat (beat x) (hear_all (box k) x.state).state).state.view.phase ≡ true
   stays-on k x h at =
-      ticks-on (coin x.coins) (hear_all (box k) x.state).state (still-there k x h at)
+      beat-ticks-on (beat x) (hear_all (box k) x.state).state (still-there k x h at)
 
   marks-of :
       (k : ℕ) (x : PortNode) → Holds set k → slice_get w.nodes k ≡ Some x →
@@ -151,9 +165,9 @@ module _
       Goes-on x.state.ports (emit t) (marks k) (shown_node x.state)
       x.state (λ j. sent_on j (box k) ++ pend j) →
       Goes-on x.state.ports (emit t) (marks k) (shown_node x.state)
-      (tick (coin x.coins) (hear_all (box k) x.state).state).state pend
+      (on_beat (beat x) (hear_all (box k) x.state).state).state pend
       × Ticks-so x.state.ports (emit t) (marks k) (shown_node x.state) x.state
-      (tick (coin x.coins) (hear_all (box k) x.state).state).state
+      (on_beat (beat x) (hear_all (box k) x.state).state).state
   node-so k x h at pend f g =
       let n = x.state.ports in
       let v = (l.well_formed.nodes k x at).valid in
@@ -161,7 +175,7 @@ module _
       hears-all n (emit t) (marks k) (shown_node x.state) (box k) x.state pend v (i.nodes k x at)
       (all k x h at) (marks-of k x h at) (still-there k x h at) f g in
       let r =
-      ticks-so n (emit t) (marks k) (shown_node x.state) (coin x.coins)
+      beat-ticks-so n (emit t) (marks k) (shown_node x.state) (beat x)
       (hear_all (box k) x.state).state pend o.0.valid o.0.marked (still-there k x h at) o.0.marks
       o.2 (adds k x h at) (counted k x h at) o.1 in (
         r.0,
@@ -222,7 +236,7 @@ module _
     so-far :
         (k : ℕ) (x : PortNode) → Holds set k → slice_get w.nodes k ≡ Some x →
         Ticks-so x.state.ports (emit t) (marks k) (shown_node x.state)
-        x.state (tick (coin x.coins) (hear_all (box k) x.state).state).state
+        x.state (on_beat (beat x) (hear_all (box k) x.state).state).state
     so-far k x h at =
         let g = old-so k x h at in
         let same : (j : ℕ) → old w (far w.cabling (end_at k j)) ≡ sent_on j (box k) ++ left w
@@ -449,7 +463,7 @@ module _
     after-so :
         (k : ℕ) (x : PortNode) → Holds set k → slice_get w.nodes k ≡ Some x →
         Goes-on x.state.ports (emit t) (marks k) (shown_node x.state)
-        (tick (coin x.coins) (hear_all (box k) x.state).state).state
+        (on_beat (beat x) (hear_all (box k) x.state).state).state
         (λ j. old (turn w) (far w.cabling (end_at k j)))
     after-so k x h at =
         let g = old-so k x h at in
@@ -475,7 +489,7 @@ module _
     after : (k : ℕ) (z : PortNode) → Holds set k → slice_get (turn w).nodes k ≡ Some z → After k z
     after k z h at =
         let x = before w k z l.well_formed at in
-        let same : z.state ≡ (tick (coin x.0.coins) (hear_all (box k) x.0.state).state).state =
+        let same : z.state ≡ (on_beat (beat x.0) (hear_all (box k) x.0.state).state).state =
         ap (λ (u : PortNode). u.state) x.2 ∙ turn-state (box k) x.0 in
         record {
           was = x.0;
@@ -580,7 +594,7 @@ module _
     stayed k x z h at at_z =
         let y = (hear_all (box k) x.state).state in
         let o = heard-so k x h at in
-        let same : z.state ≡ (tick (coin x.coins) y).state =
+        let same : z.state ≡ (on_beat (beat x) y).state =
         ap (λ (u : PortNode). u.state)
         (some-same z (turn_at w k x).node (sym at_z ∙ node-after w k x l.well_formed.count at))
         ∙ turn-state (box k) x in
@@ -588,12 +602,12 @@ module _
         record {
           hears = ap (λ (u : NodeState). hears_packets u.view.phase) same ∙ stays-on k x h at;
           parent =
-              ap (λ (u : NodeState). u.view.parent) same ∙ ticks-parent (coin x.coins) y here
+              ap (λ (u : NodeState). u.view.parent) same ∙ beat-ticks-parent (beat x) y here
               ∙ o.stays.parent;
           attrs =
-              ap shown_attrs same ∙ ticks-attrs (coin x.coins) y here ∙ ap (λ (n : Node). n.attrs)
+              ap shown_attrs same ∙ beat-ticks-attrs (beat x) y here ∙ ap (λ (n : Node). n.attrs)
               o.marks.shown;
           ready = λ r.
-              ap (λ (u : NodeState). is_ready u.view.phase) same ∙ ticks-ready (coin x.coins) y
+              ap (λ (u : NodeState). is_ready u.view.phase) same ∙ beat-ticks-ready (beat x) y
               (ap is_ready o.stays.phase ∙ r);
         }

@@ -9,7 +9,8 @@ use Rattle.port_state.specs.declared.signal.Phase.TheVariants as phase
 use Rattle.port_state.specs.declared.signal.Signal.TheVariants as signal
 use Rattle.port_state.specs.Row as row
 use Rattle.cable_world.specs.Lawful.{AgesFall}
-use Rattle.cable_world.proofs.Lemmas.{signals-sent}
+use Rattle.port_state.specs.Clock.{misses}
+use Rattle.cable_world.proofs.Lemmas.{signals-sent, beat-misses}
 use Rattle.outcomes.proofs.identify.Hearing.{signal-stays, reset-heard}
 use Rattle.outcomes.proofs.identify.Messages.{IsKind, has-first, has-rest}
 use Rattle.outcomes.proofs.identify.LateRows.{LateRow, rests, asks_next, names_now, late-row}
@@ -18,6 +19,7 @@ use Rattle.outcomes.proofs.identify.Ports.{changed-here, changed-other, lowest-i
 use Rattle.outcomes.proofs.identify.MarksKept.{hears-late, all-named}
 use Rattle.outcomes.proofs.numbers.AtRest.{room-for}
 use Rattle.outcomes.proofs.numbers.Turning.{Heard-so}
+use Rattle.port_state.specs.Machine.{beat, on_beat}
 
 -- ---- what a node that hears and ticks keeps
 
@@ -130,6 +132,11 @@ ticks-rise coin x h = go (next_row x) (late-row x h)
     }
     go r (names_now n) = record { asked = λ q e. e; named = λ q e. e; granted = λ e. e }
 
+beat-ticks-rise :
+    (b : Option Bool) (x : NodeState) → hears_packets x.view.phase ≡ true → Rises x (on_beat b x).state
+beat-ticks-rise None x h = same-rises x
+beat-ticks-rise (Some coin) x h = ticks-rise coin x h
+
 -- ---- a message under way
 
 -- one of this kind has been under way for so many turns
@@ -239,10 +246,26 @@ ticks-on-turn coin y e g free may = go y.view.phase e
     go phase.SelfIdent e = by-grant y.view.granted g
     go f e = absurd cc
 
+beat-ticks-on-turn :
+    (b : Option Bool) (y : NodeState) → y.view.phase ≡ phase.SelfIdent → y.view.granted ≡ true →
+    ((p : ℕ) → lowest is_unnamed y.view.ports ≡ Some p → is_asked y p ≡ false) →
+    (lowest is_unnamed y.view.ports ≡ None → may_name y ≡ true) →
+    (b ≡ None) ⊎ ((is_ready (on_beat b y).state.view.phase ≡ true)
+    ⊎ ((q : ℕ) × (is_asked y q ≡ false) × (is_asked (on_beat b y).state q ≡ true)))
+beat-ticks-on-turn None y e g free may = inl refl
+beat-ticks-on-turn (Some coin) y e g free may = inr (ticks-on-turn coin y e g free may)
+
 self-ident : (h : Phase) → hears_packets h ≡ true → is_ready h ≡ false → h ≡ phase.SelfIdent
 self-ident phase.SelfIdent e f = refl
 self-ident phase.Ready e f = absurd (true≢false f)
 self-ident h e f = absurd cc
+
+-- a node that has the turn, and whose clock missed it
+pub record StillHas (x z : PortNode) : Type 0 where
+  pub missed : misses x.clock ≡ true
+  pub identifies : z.state.view.phase ≡ phase.SelfIdent
+  pub granted : z.state.view.granted ≡ true
+  pub awaits_none : (p : ℕ) → (is_asked z.state p && not (is_named z.state p)) ≡ false
 
 -- ---- a turn of a component
 
@@ -255,14 +278,14 @@ module _
   node-rises k x z h at at_z =
       let y = (hear_all (inbox w 0 (ports_of w.cabling k)) x.state).state in
       let here = still-there w l i set root t s.component.closed s.walk s.all k x h at in
-      let same : z.state ≡ (tick (coin x.coins) y).state =
+      let same : z.state ≡ (on_beat (beat x) y).state =
       ap (λ (u : PortNode). u.state)
       (some-same z (turn_at w k x).node (sym at_z ∙ node-after w k x l.well_formed.count at))
       ∙ turn-state (inbox w 0 (ports_of w.cabling k)) x in
       subst (Rises x.state) (sym same)
-      (rises-more x.state y (tick (coin x.coins) y).state
+      (rises-more x.state y (on_beat (beat x) y).state
       (hears-rises (inbox w 0 (ports_of w.cabling k)) x.state (s.all k x h at) here)
-      (ticks-rise (coin x.coins) y here))
+      (beat-ticks-rise (beat x) y here))
 
   -- it comes, and nothing is under way behind it, or it is a turn older
   pub moves :
@@ -297,18 +320,28 @@ module _
       slice_get w.nodes k ≡ Some x → slice_get (turn w).nodes k ≡ Some z →
       x.state.view.granted ≡ true → is_ready x.state.view.phase ≡ false →
       ((p : ℕ) → (is_asked x.state p && not (is_named x.state p)) ≡ false) →
-      (is_ready z.state.view.phase ≡ true)
-      ⊎ ((q : ℕ) × (is_asked x.state q ≡ false) × (is_asked z.state q ≡ true))
+      StillHas x z ⊎ ((is_ready z.state.view.phase ≡ true)
+      ⊎ ((q : ℕ) × (is_asked x.state q ≡ false) × (is_asked z.state q ≡ true)))
   turn-used acyclic k x z h at at_z g u waits =
-      let same : z.state ≡ (tick (coin x.coins) y).state =
+      let same : z.state ≡ (on_beat (beat x) y).state =
       ap (λ (v : PortNode). v.state)
       (some-same z (turn_at w k x).node (sym at_z ∙ node-after w k x l.well_formed.count at))
       ∙ turn-state (inbox w 0 (ports_of w.cabling k)) x in
-      elim (ticks-on-turn (coin x.coins) y
+      elim (beat-ticks-on-turn (beat x) y
       (self-ident y.view.phase here (ap is_ready o.stays.phase ∙ u)) granted free may) [
-        | inl r ↦ inl (ap (λ (v : NodeState). is_ready v.view.phase) same ∙ r)
-        | inr a ↦
-            inr (a.0, sym (o.asked a.0) ∙ a.1, ap (λ (v : NodeState). is_asked v a.0) same ∙ a.2)
+        | inl m ↦
+            let still : z.state ≡ y = same ∙ ap (λ b. (on_beat b y).state) m in
+            inl (record {
+              missed = beat-misses x m;
+              identifies = ap (λ (v : NodeState). v.view.phase) still ∙ self-ident y.view.phase here (ap is_ready o.stays.phase ∙ u);
+              granted = ap (λ (v : NodeState). v.view.granted) still ∙ granted;
+              awaits_none = λ p. subst (λ (v : NodeState). (is_asked v p && not (is_named v p)) ≡ false) (sym still) (waits-on p);
+            })
+        | inr u ↦ inr (elim u [
+          | inl r ↦ inl (ap (λ (v : NodeState). is_ready v.view.phase) same ∙ r)
+          | inr a ↦
+              inr (a.0, sym (o.asked a.0) ∙ a.1, ap (λ (v : NodeState). is_asked v a.0) same ∙ a.2)
+        ])
       ]
     where
       y : NodeState
@@ -325,6 +358,19 @@ module _
 
       granted : y.view.granted ≡ true
       granted = r.granted g
+
+      waits-on : (p : ℕ) → (is_asked y p && not (is_named y p)) ≡ false
+      waits-on p = none (is_asked x.state p) (is_asked y p) (is_named x.state p) (is_named y p) (o.asked p) (r.named p) (waits p)
+        where
+          none :
+              (a b n m : Bool) → b ≡ a → (n ≡ true → m ≡ true) → (a && not n) ≡ false →
+              (b && not m) ≡ false
+          none false b n m e h f = ap (λ c. c && not m) e
+          none true b true m e h f = ap (λ c. b && not c) (h refl) ∙ off b
+            where
+              off : (c : Bool) → (c && false) ≡ false
+              off c = grind arith
+          none true b false m e h f = absurd (true≢false f)
 
       free : (p : ℕ) → lowest is_unnamed y.view.ports ≡ Some p → is_asked y p ≡ false
       free p low =

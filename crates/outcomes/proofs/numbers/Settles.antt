@@ -1,12 +1,14 @@
 -- A component that identifies itself comes to A0: of each node it is counted whether it was asked,
 -- granted, is in A0
--- and was named, and the count rises within each d turns.
+-- and was named, and the count rises within each d + slack turns.
 use Rattle.std.proofs.Common.{◌≡◌, ◌⊎◌, inl, inr, ℕ, zero, suc, ◌+◌, ◌-◌, ◌*◌, ◌<◌, ◌≤◌, Bool, true, false, not, ◌&&◌, List, length, Option, Some, None, slice_get, refl, sym, ◌∙◌, ap, subst, arith}
 use Rattle.std.proofs.lemmas.Option.{slice_get_within}
 use Rattle.outcomes.proofs.Common.{Tree, End, Wiring, far, Holds, numbers, Signal, NodeState, PortNode, Travelling, CableWorld, wire_of, ComesOfPowerOn, turn_at, turn, signals_of, IsLawful, cabling-after, node-after, some-same, after-delay, comes-lawful, turn-lawful, port-is, joined-of, IsAcyclic, is_ready, is_asked, is_named, silent, has_grant, has_done, IsIdentifying, parent_of, parent_now, place_now, IsSettling, is_port, contrary, PlacedHold, HoldSchedule, with_holds, quiet_after, end_at}
 use Rattle.cable_world.proofs.Lemmas.{holds-signals}
 use Rattle.outcomes.specs.Holders.{Holder, grant, done, node, IsHolder, HasTurn, HasOneHolder}
 use Rattle.outcomes.specs.Holders as holder
+use Rattle.convergence.specs.Turns.{slack, seen_turns}
+use Rattle.convergence.proofs.Lemmas.{Misses, some-slack, not-twice}
 use Rattle.outcomes.proofs.numbers.AtRest.{there, lawful-then, acyclic-then, identifying-then, next-turn, settles-always}
 use Rattle.outcomes.proofs.identify.Holders.{one-holder}
 use Rattle.outcomes.proofs.identify.Lines.{no-grant-up, no-done-down}
@@ -19,7 +21,7 @@ use Rattle.std.proofs.lemmas.Bool.{eq-eqb, true_from_ne_false, false_from_ne_tru
 use Rattle.outcomes.proofs.numbers.NumberedTurn.{stayed}
 use Rattle.outcomes.proofs.numbers.Progress.{node-rises, Old, old-of, none-older, moves, turn-used}
 use Rattle.outcomes.proofs.numbers.Settling.{Up, up-or-root, climbs}
-use Rattle.outcomes.proofs.numbers.Stages.{sum-over, sum-strict, sum-most, of-node, up-end, of-end, stage, stage-most, Gains, gains-more, same-gains, stage-rises, News, granting, coming, asking, naming, stage-strict}
+use Rattle.outcomes.proofs.numbers.Stages.{sum-over, sum-strict, sum-most, of-node, up-end, of-end, stage, stage-most, Gains, gains-more, same-gains, stage-rises, news-before, News, granting, coming, asking, naming, stage-strict}
 
 -- ---- in a world that settles
 
@@ -314,7 +316,7 @@ module _
 
   pub record Rising (j : ℕ) : Type 0 where
     pub turns : ℕ
-    pub within : turns ≤ w.delay
+    pub within : turns ≤ seen_turns w
     pub node : ℕ
     pub inside : Holds set node
     pub news : News (W j) (W (j + turns)) node
@@ -338,7 +340,7 @@ module _
       c.2) asked in
       record {
         turns = c.0;
-        within = c.1;
+        within = omega (arith, c.1);
         node = b.node;
         inside = h_b;
         news =
@@ -368,7 +370,7 @@ module _
       ready in
       record {
         turns = c.0;
-        within = c.1;
+        within = omega (arith, c.1);
         node = b.node;
         inside = h_b;
         news =
@@ -376,8 +378,14 @@ module _
             (link-end (W (j + c.0)) (L (j + c.0)) a b n1 is_named ∙ named);
       }
 
-  by-turn : (j q : ℕ) → Holds set q → HasTurn (W j) q → Rising j
-  by-turn j q h turn-of =
+  -- in one turn
+  record Risen (j : ℕ) : Type 0 where
+    node : ℕ
+    inside : Holds set node
+    news : News (W j) (W (j + 1)) node
+
+  in-turn : (j q : ℕ) → Holds set q → HasTurn (W j) q → Risen j ⊎ (Misses hs w (k + j) q × HasTurn (W (j + 1)) q)
+  in-turn j q h turn-of =
       let x : PortNode = turn-of.is in
       let z : PortNode = (turn_at (W j) q x).node in
       let at_z : slice_get (turn (W j)).nodes q ≡ Some z =
@@ -387,27 +395,31 @@ module _
       let at_1 : slice_get (W (j + 1)).nodes q ≡ Some z =
       sym (ap (λ (v : CableWorld). slice_get v.nodes q) world) ∙ at_z in
       let unready : is_ready x.state.view.phase ≡ false = ap is_ready turn-of.identifies in
-      let d : 1 ≤ w.delay = (comes-lawful w r).well_formed.some_delay in
       elim (turn-used (W j) (L j) (I j) set core root t (S j) (A j) q x z h turn-of.at at_z
       turn-of.granted unready turn-of.awaits_none) [
-        | inl done-so ↦
-            record {
-              turns = 1;
-              within = d;
-              node = q;
-              inside = h;
-              news =
-                  coming (ap (of-node (λ v. is_ready v.view.phase)) turn-of.at ∙ unready)
-                  (ap (of-node (λ v. is_ready v.view.phase)) at_1 ∙ done-so);
-            }
-        | inr ask ↦ asks-one x z ask.0 turn-of.at at_1 d ask.1 ask.2
+        | inl m ↦
+            inr (
+              record { node = x; at = turn-of.at; missed = m.missed },
+              record { is = z; at = at_1; identifies = m.identifies; granted = m.granted; awaits_none = m.awaits_none },
+            )
+        | inr used ↦ inl (elim used [
+          | inl done-so ↦
+              record {
+                node = q;
+                inside = h;
+                news =
+                    coming (ap (of-node (λ v. is_ready v.view.phase)) turn-of.at ∙ unready)
+                    (ap (of-node (λ v. is_ready v.view.phase)) at_1 ∙ done-so);
+              }
+          | inr ask ↦ asks-one x z ask.0 turn-of.at at_1 ask.1 ask.2
+        ])
       ]
     where
       asks-one :
           (x z : PortNode) (p : ℕ) → slice_get (W j).nodes q ≡ Some x →
-          slice_get (W (j + 1)).nodes q ≡ Some z → 1 ≤ w.delay → is_asked x.state p ≡ false →
-          is_asked z.state p ≡ true → Rising j
-      asks-one x z p at at_1 d before-it now =
+          slice_get (W (j + 1)).nodes q ≡ Some z → is_asked x.state p ≡ false →
+          is_asked z.state p ≡ true → Risen j
+      asks-one x z p at at_1 before-it now =
           let a : End = end_at q p in
           let child = ((I (j + 1)).nodes q z at_1).asked p now in
           let on =
@@ -435,8 +447,6 @@ module _
           ∙ port-is n.other.state.view.parent b.0.port u.parent) in
           let same : n0.above ≡ x = some-same n0.above x (sym n0.above_at ∙ at) in
           record {
-            turns = 1;
-            within = d;
             node = b.0.node;
             inside = h_b;
             news =
@@ -444,6 +454,31 @@ module _
                 ∙ ap (λ (v : PortNode). is_asked v.state p) same ∙ before-it)
                 (link-end (W (j + 1)) (L (j + 1)) a b.0 n1 is_asked ∙ now);
           }
+
+  -- or in two, where a clock may miss one
+  by-turn : (j q : ℕ) → Holds set q → HasTurn (W j) q → Rising j
+  by-turn j q h turn-of = elim (in-turn j q h turn-of) [
+    | inl r ↦ record { turns = 1; within = omega (arith, some); node = r.node; inside = r.inside; news = r.news }
+    | inr m ↦
+        let one : slack w ≡ 1 = some-slack hs w (comes-lawful w r) (k + j) q m.0 in
+        elim (in-turn (j + 1) q h m.1) [
+          | inl r ↦
+              let z : j + 1 + 1 ≡ j + 2 = omega arith in
+              record {
+                turns = 2;
+                within = omega (arith, some, one);
+                node = r.node;
+                inside = r.inside;
+                news = subst (λ i. News (W j) (W i) r.node) z (news-before (W j) (W (j + 1)) (W (j + 1 + 1)) r.node (gains-on j 1 r.node r.inside) r.news);
+              }
+          | inr n ↦
+              let z : k + (j + 1) ≡ k + j + 1 = omega arith in
+              absurd (not-twice hs w (comes-lawful w r) (k + j) q m.0 (subst (λ i. Misses hs w i q) z n.0))
+        ]
+  ]
+    where
+      some : 1 ≤ w.delay
+      some = (comes-lawful w r).well_formed.some_delay
 
   -- while a node isn't in A0
   pub rises-within :
@@ -531,7 +566,7 @@ module _
   pub readies :
       (n j : ℕ) → 4 * length (numbers (quiet_after hs k w).cabling root t) < sum-over (stage (W j))
       (numbers (quiet_after hs k w).cabling root t) + n →
-      (m : ℕ) × (m ≤ n * w.delay) × ReadyAt (j + m)
+      (m : ℕ) × (m ≤ n * seen_turns w) × ReadyAt (j + m)
   readies zero j h =
       absurd (omega (
         arith,
@@ -541,16 +576,16 @@ module _
       ))
   readies (suc n) j h = go (is_ready (S j).is_root.node.state.view.phase) refl (readies n)
     where
-      more : suc n * w.delay ≡ w.delay + n * w.delay
-      more = omega arith
+      more : suc n * seen_turns w ≡ seen_turns w + n * seen_turns w
+      more = grind arith
 
       go :
           (b : Bool) → is_ready (S j).is_root.node.state.view.phase ≡ b →
           ((i : ℕ) →
           4 * length (numbers (quiet_after hs k w).cabling root t) < sum-over (stage (W i))
           (numbers (quiet_after hs k w).cabling root t) + n →
-          (m : ℕ) × (m ≤ n * w.delay) × ReadyAt (i + m))
-          → (m : ℕ) × (m ≤ suc n * w.delay) × ReadyAt (j + m)
+          (m : ℕ) × (m ≤ n * seen_turns w) × ReadyAt (i + m))
+          → (m : ℕ) × (m ≤ suc n * seen_turns w) × ReadyAt (j + m)
       go true e rest =
           let z : j ≡ j + 0 = omega arith in (
             0,
@@ -565,7 +600,7 @@ module _
           (p.turns + u.0, omega (arith, more, p.within, u.1), subst ReadyAt z u.2)
 
   pub ready-soon :
-      (m : ℕ) × (m ≤ (4 * length (numbers (quiet_after hs k w).cabling root t) + 1) * w.delay)
+      (m : ℕ) × (m ≤ (4 * length (numbers (quiet_after hs k w).cabling root t) + 1) * seen_turns w)
       × ReadyAt m
   ready-soon =
       let u =

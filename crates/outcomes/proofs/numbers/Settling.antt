@@ -2,7 +2,7 @@
 use Rattle.std.proofs.Common.{◌≡◌, ◌⊎◌, inl, inr, ℕ, zero, suc, ◌-◌, ◌^◌, ◌<◌, ◌≤◌, Bool, true, false, [], Option, Some, None, slice_get, get_or, option_map, refl, sym, ◌∙◌, ap, subst, arith}
 use Rattle.std.proofs.lemmas.Bool.{eq-eqb, false_from_ne_true, true_from_ne_false}
 use Rattle.std.proofs.lemmas.Option.{slice_get-map, get_or_from_slice_get}
-use Rattle.outcomes.proofs.Common.{contrary, Attrs, Tree, End, Wiring, far, ports_of, Holds, IsComponent, IsCore, labels, mark, emit, Alike, Phase, ResetStart, ParentShake, NodeState, coin, is_port, is_resetting, hears_packets, shown_attrs, PortNode, tick, CableWorld, wire_of, inbox, turn_at, turn, hear_all, signals_of, has_reset, leads_down, IsLawful, attrs_now, cabling-after, node-after, before, some-same, turn-lawful, turn-state, no-packets, joined-of, turn-acyclic, IsAcyclic, ResetsAreOverIn, AreIdentifying, IsRoot, is_ready, is_asked, is_named, IsMarked, has_grant, has_done, IsIdentifying, RootWalk, StandsAt, IsNumbered, IsSettling, end_at}
+use Rattle.outcomes.proofs.Common.{contrary, Attrs, Tree, End, Wiring, far, ports_of, Holds, IsComponent, IsCore, labels, mark, emit, Alike, Phase, ResetStart, ParentShake, NodeState, is_port, is_resetting, hears_packets, shown_attrs, PortNode, CableWorld, wire_of, inbox, turn_at, turn, hear_all, signals_of, has_reset, leads_down, IsLawful, attrs_now, cabling-after, node-after, before, some-same, turn-lawful, turn-state, no-packets, joined-of, turn-acyclic, IsAcyclic, ResetsAreOverIn, AreIdentifying, IsRoot, is_ready, is_asked, is_named, IsMarked, has_grant, has_done, IsIdentifying, RootWalk, StandsAt, IsNumbered, IsSettling, end_at}
 use Rattle.cabling.specs.Labels.{no_attrs}
 use Rattle.cable_world.proofs.Lemmas.{hears}
 use Rattle.convergence.proofs.Lemmas.{Down, all-under, one-root}
@@ -11,13 +11,14 @@ use Rattle.outcomes.proofs.identify.OneMessage.{end-of, two-parts}
 use Rattle.outcomes.proofs.identify.Hearing.{parent-connected}
 use Rattle.outcomes.proofs.identify.HearAll.{hear-marked}
 use Rattle.outcomes.proofs.identify.IdentifyingTurn.{turn-identifying}
-use Rattle.outcomes.proofs.identify.LinedTicks.{Arrives, arrives, ticks-parent}
+use Rattle.outcomes.proofs.identify.LinedTicks.{Arrives, beat-arrives, beat-ticks-parent}
 use Rattle.outcomes.proofs.identify.ListsFollow.{IsAbove, one-above, parent-below}
 use Rattle.outcomes.proofs.identify.MarksKept.{hears-late, none-asked}
 use Rattle.outcomes.proofs.roots.Calm.{calm-in, calm-before}
 use Rattle.outcomes.proofs.roots.Named.{same-walk}
 use Rattle.outcomes.proofs.numbers.NumberedTurn.{turn-numbered, Stayed, stayed}
 use Rattle.outcomes.proofs.roots.RootWalk.{root-walk, node-at}
+use Rattle.port_state.specs.Machine.{beat, on_beat}
 
 -- ---- up a component all of whose nodes are in self identify or A0
 
@@ -209,7 +210,7 @@ module _
 
   same :
       z.state
-      ≡ (tick (coin x.coins) (hear_all (inbox w 0 (ports_of w.cabling root)) x.state).state).state
+      ≡ (on_beat (beat x) (hear_all (inbox w 0 (ports_of w.cabling root)) x.state).state).state
   same =
       ap (λ (u : PortNode). u.state)
       (some-same z (turn_at w root x).node (sym at_z ∙ node-after w root x l.well_formed.count at))
@@ -230,9 +231,9 @@ module _
 
   comes-in :
       Arrives (hear_all (inbox w 0 (ports_of w.cabling root)) x.state).state
-      (tick (coin x.coins) (hear_all (inbox w 0 (ports_of w.cabling root)) x.state).state).state
+      (on_beat (beat x) (hear_all (inbox w 0 (ports_of w.cabling root)) x.state).state).state
   comes-in =
-      arrives (coin x.coins) (hear_all (inbox w 0 (ports_of w.cabling root)) x.state).state mute
+      beat-arrives (beat x) (hear_all (inbox w 0 (ports_of w.cabling root)) x.state).state mute
       (sym (ap (λ (u : NodeState). hears_packets u.view.phase) same) ∙ here)
 
   pub comes-empty : z.state.list.items ≡ []
@@ -248,7 +249,7 @@ module _
           mute q (sym (ap (λ (u : NodeState). is_asked u q) same ∙ asked-so) ∙ e))
         where
           asked-so :
-              is_asked (tick (coin x.coins)
+              is_asked (on_beat (beat x)
               (hear_all (inbox w 0 (ports_of w.cabling root)) x.state).state).state q
               ≡ is_asked (hear_all (inbox w 0 (ports_of w.cabling root)) x.state).state q
           asked-so = rw comes-in.ports refl
@@ -437,7 +438,7 @@ module _
 
       same :
           r.node.state
-          ≡ (tick (coin was.0.coins)
+          ≡ (on_beat (beat was.0)
           (hear_all (inbox w 0 (ports_of w.cabling root)) was.0.state).state).state
       same =
           ap (λ (u : PortNode). u.state) was.2 ∙ turn-state (inbox w 0 (ports_of w.cabling root))
@@ -450,11 +451,11 @@ module _
       parent : hears_packets was.0.state.view.phase ≡ true → was.0.state.view.parent ≡ None
       parent e = elim (hears w root was.0 l.well_formed was.1).cases [
         | inl s ↦
-            sym (ap (λ (u : NodeState). u.view.parent) same ∙ ticks-parent (coin was.0.coins)
+            sym (ap (λ (u : NodeState). u.view.parent) same ∙ beat-ticks-parent (beat was.0)
             (hear_all (inbox w 0 (ports_of w.cabling root)) was.0.state).state
             (ap hears_packets s.phase ∙ e) ∙ s.parent) ∙ r.parentless
         | inr c ↦
-            absurd (off-start (arrives (coin was.0.coins)
+            absurd (off-start (beat-arrives (beat was.0)
             (hear_all (inbox w 0 (ports_of w.cabling root)) was.0.state).state
             (no-reset (hear_all (inbox w 0 (ports_of w.cabling root)) was.0.state).state.view.phase
             c.phase) (sym (ap (λ (u : NodeState). hears_packets u.view.phase) same) ∙ here)).shakes

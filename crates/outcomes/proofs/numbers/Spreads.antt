@@ -4,6 +4,8 @@ use Rattle.outcomes.proofs.Common.{Tree, emits, End, Wiring, Holds, PortNode, ne
 use Rattle.port_state.specs.declared.signal.Signal.TheVariants as signal
 use Rattle.cable_world.proofs.Lemmas.{side-node}
 use Rattle.outcomes.specs.Messages as message
+use Rattle.std.proofs.lemmas.Nat.{mul-le}
+use Rattle.convergence.specs.Turns.{seen_turns}
 use Rattle.outcomes.proofs.numbers.AtRest.{mute-named, silent-of, rests-where, stays-tree}
 use Rattle.outcomes.proofs.identify.Lines.{no-done-down}
 use Rattle.outcomes.proofs.numbers.Settling.{up-or-root}
@@ -272,7 +274,7 @@ module _
       (s j).all (emits t) rd (λ q x h at. has q h x at)
 
   pub rest-soon :
-      (m : ℕ) × (m ≤ 5 * length (numbers (quiet_after hs k w).cabling root t) * w.delay)
+      (m : ℕ) × (m ≤ 5 * length (numbers (quiet_after hs k w).cabling root t) * seen_turns w)
       × IsAtRest (V m) set
   rest-soon =
       let u = ready-soon hs w r k late set core root t s0 in
@@ -287,22 +289,24 @@ module _
       ap (λ (c : Wiring). length (numbers c root t)) same in
       let later : ℕ = (length (numbers (V u.0).cabling root t) - 1) * w.delay in (
         u.0 + later,
-        bound n (length (numbers (V u.0).cabling root t)) w.delay u.0 long
+        bound n (length (numbers (V u.0).cabling root t)) w.delay (seen_turns w) u.0 long (omega arith)
             (omega (arith, some)) u.1,
         rest-of-lists (u.0 + later) (ready-later u.0 later u.2)
             (λ q h. all-have u.0 u.2 q h),
       )
     where
-      bound : (n o d m : ℕ) → o ≡ n → 1 ≤ n → m ≤ (4 * n + 1) * d → m + (o - 1) * d ≤ 5 * n * d
-      bound zero o d m e some le = absurd (omega (arith, some))
-      bound (suc n) o d m e some le =
+      bound :
+          (n o d s m : ℕ) → o ≡ n → d ≤ s → 1 ≤ n → m ≤ (4 * n + 1) * s →
+          m + (o - 1) * d ≤ 5 * n * s
+      bound zero o d s m e less some le = absurd (omega (arith, some))
+      bound (suc n) o d s m e less some le =
           let first : o - 1 ≡ n = omega (arith, e) in
-          let split : 5 * suc n * d ≡ (4 * suc n + 1) * d + n * d = omega arith in
-          omega (arith, le, ap (λ (i : ℕ). i * d) first, split)
+          let split : 5 * suc n * s ≡ (4 * suc n + 1) * s + n * s = grind arith in
+          omega (arith, le, ap (λ (i : ℕ). i * d) first, split, mul-le n d n s (omega arith) less)
 
   -- from then on it is a tree
   pub tree-soon :
-      (j : ℕ) → 5 * length (numbers (quiet_after hs k w).cabling root t) * w.delay ≤ j →
+      (j : ℕ) → 5 * length (numbers (quiet_after hs k w).cabling root t) * seen_turns w ≤ j →
       IsTree (V j)
       set root t
   tree-soon j le =

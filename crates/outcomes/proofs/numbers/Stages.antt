@@ -2,7 +2,8 @@
 -- and sums of that over nodes.
 use Rattle.std.proofs.Common.{◌≡◌, ℕ, zero, suc, ◌+◌, ◌*◌, ◌≤◌, Bool, true, false, List, [], ◌∷◌, length, Option, Some, None, slice_get, refl, sym, ap, subst, arith}
 use Rattle.phy_packet.specs.Layout.{bit}
-use Rattle.outcomes.proofs.Common.{End, far, NodeState, PortNode, CableWorld, is_ready, is_asked, is_named, parent_now, end_at}
+use Rattle.std.proofs.lemmas.Bool.{false_from_ne_true}
+use Rattle.outcomes.proofs.Common.{contrary, End, far, NodeState, PortNode, CableWorld, is_ready, is_asked, is_named, parent_now, end_at}
 
 -- ---- counts
 
@@ -157,3 +158,10 @@ stage-strict w v k g (naming e f) =
       bit-le (was-asked w k) (was-asked v k) g.asked,
       bit-less (was-named w k) (was-named v k) e f,
     )
+
+-- what is new after a while is new from before
+pub news-before : (u w v : CableWorld) (k : ℕ) → Gains u w k → News w v k → News u v k
+news-before u w v k g (granting e f) = granting (false_from_ne_true _ (λ t. contrary (g.granted t) e)) f
+news-before u w v k g (coming e f) = coming (false_from_ne_true _ (λ t. contrary (g.ready t) e)) f
+news-before u w v k g (asking e f) = asking (false_from_ne_true _ (λ t. contrary (g.asked t) e)) f
+news-before u w v k g (naming e f) = naming (false_from_ne_true _ (λ t. contrary (g.named t) e)) f

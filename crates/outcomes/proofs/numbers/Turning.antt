@@ -1,6 +1,6 @@
 -- A node in self identify or A0 takes its turn: its list, its ID and what is under way to it go by
 -- the walk.
-use Rattle.std.proofs.Common.{◌≡◌, inl, inr, ℕ, ◌+◌, ◌<◌, ◌≤◌, Bool, true, false, ◌&&◌, ◌==◌, List, [], ◌∷◌, ◌++◌, Some, None, refl, sym, ◌∙◌, ap, subst, arith, true≢false, if◌then◌else◌}
+use Rattle.std.proofs.Common.{◌≡◌, inl, inr, ℕ, ◌+◌, ◌<◌, ◌≤◌, Bool, true, false, ◌&&◌, ◌==◌, List, [], ◌∷◌, ◌++◌, Some, None, refl, sym, ◌∙◌, ap, subst, arith, true≢false, if◌then◌else◌, Option}
 use Rattle.std.proofs.lemmas.Bool.{eq-eqb, eqb-true, and_parts, cases_lt, cases_eq, false_from_ne_true}
 use Rattle.outcomes.proofs.Common.{contrary, Node, group, node_count, Level, SelfIdent, Signal, NodeState, is_port, is_unnamed, lowest, is_connected, with_port, sent_on, silent_step, is_identifying, hears_packets, with_packet, with_level, hears, is_heard, on_signal, shown_node, own_group, Row, raise_timer, does, next_row, tick, IsValid, valid-raise_timer, sound-on_signal, port_is-changed, leads_down, hear-stays, no-packets, hear_all, is_ready, is_asked, is_named, IsMarked, is_message, silent, quads_in, has_grant, has_done, mode, allows, fits, StandsAt}
 use Rattle.port_state.specs.declared.signal.Level.TheVariants as level
@@ -15,6 +15,7 @@ use Rattle.outcomes.proofs.identify.LinedTicks.{names-silent}
 use Rattle.outcomes.proofs.identify.LinedHears.{with, unheard-level, front-hears, others-silent}
 use Rattle.outcomes.proofs.identify.LateRows.{LateRow, rests, asks_next, names_now, late-row}
 use Rattle.outcomes.proofs.numbers.NodeMessages.{shown-port, Owes, owes-still, owes-now, rest-fits, at-port, no-packet, root-packet, grant-comes}
+use Rattle.port_state.specs.Machine.{on_beat}
 
 -- ---- a node of the walk
 
@@ -574,3 +575,12 @@ module _ (n : ℕ) (em : ℕ → List ℕ) (mk : ℕ → ℕ) (c : Node) where
         last = g.last;
       }) coin (next_row x) (late-row x h) in
       (o.0, record { asks = o.1.asks; names = o.1.names })
+
+  -- or the clock misses the turn
+  pub beat-ticks-so :
+      (b : Option Bool) (x : NodeState) (pend : ℕ → List Signal) → IsValid x → IsMarked x →
+      hears_packets x.view.phase ≡ true → Marks x → ((j : ℕ) → fits (mode x j) (pend j) ≡ true) →
+      em (mk n + 1) ≡ em (mk n) ++ group c (mk n) → node_count (em (mk n)) ≡ mk n → Goes-on x pend →
+      Goes-on (on_beat b x).state pend × Ticks-so x (on_beat b x).state
+  beat-ticks-so None x pend v m h r f add count g = (g, record { asks = λ q a b. contrary b a; names = λ a b. contrary b a })
+  beat-ticks-so (Some coin) x pend v m h r f add count g = ticks-so coin x pend v m h r f add count g

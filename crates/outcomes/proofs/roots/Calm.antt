@@ -2,9 +2,10 @@
 -- in the turn before.
 use Rattle.std.proofs.Common.{◌≡◌, inl, inr, ℕ, Bool, true, false, Some, slice_get, refl, sym, ◌∙◌, ap}
 use Rattle.std.proofs.lemmas.Bool.{false_from_ne_true}
-use Rattle.outcomes.proofs.Common.{contrary, ports_of, Holds, IsClosed, Phase, ParentShake, NodeState, coin, is_resetting, hears_packets, PortNode, CableWorld, inbox, turn_at, turn, hear_all, IsLawful, node-after, turn-state, no-packets, joined-of, ResetsAreOverIn, AreIdentifying}
+use Rattle.outcomes.proofs.Common.{contrary, ports_of, Holds, IsClosed, Phase, ParentShake, NodeState, is_resetting, hears_packets, PortNode, CableWorld, inbox, turn_at, turn, hear_all, IsLawful, node-after, turn-state, no-packets, joined-of, ResetsAreOverIn, AreIdentifying}
 use Rattle.cable_world.proofs.Lemmas.{hears}
-use Rattle.outcomes.proofs.identify.LinedTicks.{arrives}
+use Rattle.outcomes.proofs.identify.LinedTicks.{beat-arrives}
+use Rattle.port_state.specs.Machine.{beat}
 
 pub calm-in :
     (w : CableWorld) → IsLawful w → (set : ℕ) → IsClosed w.cabling set → AreIdentifying w set →
@@ -39,7 +40,7 @@ module _
       go :
           (b : Bool) → hears_packets (turn_at w k x).node.state.view.phase ≡ b → b ≡ false
       go false e = refl
-      go true e = absurd (not-shaking y.view.phase resets (arrives (coin x.coins) y (mute y.view.phase resets) (sym (ap (λ (u : NodeState). hears_packets u.view.phase) (turn-state (inbox w 0 (ports_of w.cabling k)) x)) ∙ e)).shakes)
+      go true e = absurd (not-shaking y.view.phase resets (beat-arrives (beat x) y (mute y.view.phase resets) (sym (ap (λ (u : NodeState). hears_packets u.view.phase) (turn-state (inbox w 0 (ports_of w.cabling k)) x)) ∙ e)).shakes)
 
 pub calm-before :
     (w : CableWorld) → IsLawful w → (set : ℕ) → IsClosed w.cabling set →

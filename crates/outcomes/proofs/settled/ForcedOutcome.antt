@@ -9,7 +9,7 @@ use Rattle.cable_world.specs.Outcome.{HasNoLoop, Ending, IsOutcome}
 use Rattle.cable_world.proofs.Lemmas.{step-cables}
 use Rattle.convergence.proofs.Lemmas.{quiet-contested}
 use Rattle.convergence.specs.Turns.{turns_to_settle, turns_to_over}
-use Rattle.outcomes.specs.Forced.{CanBeForcedAt, IsForced, IsRooted, NamesRoot, SendsPacket}
+use Rattle.outcomes.specs.Forced.{CanBeForcedAt, IsForced, IsRooted, NamesRoot, SendsPacket, forced_turns}
 use Rattle.outcomes.proofs.forced.Configured.{names-sends, sent-fresh, sent-alone, sent-gaps}
 use Rattle.outcomes.proofs.forced.ForcedRoot as forced
 use Rattle.outcomes.proofs.forced.Spread.{all-reset}
@@ -34,7 +34,7 @@ module _
   abbrev first : ℕ
   first = turns_to_over w
 
-  late : 2 * (length w.nodes * w.delay) + (w.longest.hold + w.delay) ≤ k
+  late : forced_turns w ≤ k
   late = omega (arith, quiet, (few-nodes w f.lawful).1)
 
   rooted : IsRooted v set root

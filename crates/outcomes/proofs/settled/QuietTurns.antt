@@ -1,5 +1,5 @@
 -- After so many quiet turns every component has an outcome.
-use Rattle.std.proofs.Common.{◌≡◌, ◌⊎◌, inl, inr, ℕ, zero, suc, ◌+◌, ◌-◌, ◌*◌, ◌<◌, ◌≤◌, true, length, max, sym, ◌∙◌, ap, subst, arith, true≢false}
+use Rattle.std.proofs.Common.{refl, ◌≡◌, ◌⊎◌, inl, inr, ℕ, zero, suc, ◌+◌, ◌-◌, ◌*◌, ◌<◌, ◌≤◌, true, length, max, sym, ◌∙◌, ap, subst, arith, true≢false}
 use Rattle.std.proofs.lemmas.Option.{slice_get_cases}
 use Rattle.outcomes.proofs.Common.{Holds, IsEmpty, IsCore, HasTwo, numbers, plugged, end_at, CableWorld, ComesOfPowerOn, IsLawful, IsTree, IsSettled, loop, after-length, comes-lawful, quiet-then, quiet-lawful, after-cabling, HoldSchedule, holds_after, quiet_after, done-after, comes-contested, search-set, ResetsAreOver, ResetsAreDone, AreIdentifying, HasContention, Settles, IsNumbering}
 use Rattle.cable_world.specs.Times.{longest_in_range}
@@ -8,7 +8,8 @@ use Rattle.convergence.proofs.Lemmas.{quiet-contested, taken-reached, decided-re
 use Rattle.outcomes.proofs.settled.Numbering.{quiet-numbering}
 use Rattle.convergence.specs.Kept.{IsGrown}
 use Rattle.convergence.specs.Rivals.{IsContested}
-use Rattle.convergence.specs.Turns.{turns_to_settle, turns_to_decision}
+use Rattle.convergence.specs.Turns.{slack, seen_turns, turns_to_settle, turns_to_decision}
+use Rattle.convergence.proofs.Lemmas.{slack-most}
 use Rattle.outcomes.proofs.numbers.Spreads.{tree-soon}
 use Rattle.outcomes.proofs.settled.Beginnings.{all-or-not, not-both-ways}
 use Rattle.outcomes.proofs.settled.Numbering.{comes-numbering}
@@ -30,8 +31,8 @@ room-to-rest len d few =
 -- where times are short enough, `quiet_turns` are enough
 pub short-enough : QuietTurnsAreEnough
 short-enough w short =
-    parts (length w.nodes) w.delay w.longest.hold w.longest.force w.longest.timeout w.longest.long
-    short.tree short.loop
+    parts (length w.nodes) w.delay (slack w) w.longest.hold w.longest.force w.longest.timeout w.longest.long
+    (slack-most w) short.tree short.loop
   where
     square : (n d : ℕ) → 2 * (n * d) ≤ d * (n * n) + d
     square zero d = omega arith
@@ -40,23 +41,71 @@ short-enough w short =
         let q : suc m * d ≡ m * d + d = grind arith in
         omega (arith, p, q)
 
-    parts :
-        (n d h f t l : ℕ) → h + f + 35 * l < 1600 * d → h + t < 1600 * d →
-        max (n * d + (h + d) + (t + 1))
-        (n * d + (h + d) + (f + n * d) + (12 * (n * d) + 33 * (l + 2 * d) + (l + (l + 2 * d)) + 1)
-        + 315 * d)
+    five : (n : ℕ) → 20 * n ≤ 4 * (n * n) + 25
+    five zero = omega arith
+    five (suc zero) = omega arith
+    five (suc (suc zero)) = omega arith
+    five (suc (suc (suc m))) =
+        let p : suc (suc (suc m)) * suc (suc (suc m)) ≡ m * m + 6 * m + 9 = grind arith in
+        omega (arith, p)
+
+    -- with slack
+    slow : (n e : ℕ) → 6 * (n * (e + 1)) + 13 * n ≤ 4 * ((e + 1) * (n * n)) + 16 * (e + 1) + 15
+    slow n e =
+        let p : n * (e + 1) ≡ n * e + n = grind arith in
+        let q : (e + 1) * (n * n) ≡ e * (n * n) + n * n = grind arith in
+        omega (arith, p, q, five n, square n e)
+
+    sums : (n d h f t l : ℕ) → h + f + 35 * l < 1600 * d → h + t < 1600 * d →
+        max (n * d + (h + (d + 0)) + (t + 1 + 0))
+        (n * d + (h + (d + 0)) + (f + n * (d + 0)) + (12 * (n * (d + 0)) + 33 * (l + 2 * (d + 0)) + (l + (l + 2 * (d + 0))) + 1 + 0)
+        + 315 * (d + 0))
         ≤ d * (2000 + 4 * n * n + 8 * n)
-    parts n d h f t l few soon =
+    sums n d h f t l few soon =
         let z : d * (2000 + 4 * n * n + 8 * n) ≡ 2000 * d + 4 * (d * (n * n)) + 8 * (n * d) =
         grind arith in
-        omega (arith, z, square n d, few, soon)
+        let y : n * (d + 0) ≡ n * d = grind arith in
+        omega (arith, z, y, square n d, few, soon)
 
-pub range-short : (d : ℕ) → 1 ≤ d → AreShort d (longest_in_range d)
-range-short d some = record { tree = omega (arith, some); loop = omega (arith, some) }
+    sums-slow : (n e h f t l : ℕ) → h + f + 35 * l + 400 < 1600 * (e + 1) → h + t < 1600 * (e + 1) →
+        max (n * (e + 1) + (h + (e + 1 + 1)) + (t + 1 + 1))
+        (n * (e + 1) + (h + (e + 1 + 1)) + (f + n * (e + 1 + 1)) + (12 * (n * (e + 1 + 1)) + 33 * (l + 2 * (e + 1 + 1)) + (l + (l + 2 * (e + 1 + 1))) + 1 + 1)
+        + 315 * (e + 1 + 1))
+        ≤ (e + 1) * (2000 + 4 * n * n + 8 * n)
+    sums-slow n e h f t l few soon =
+        let z : (e + 1) * (2000 + 4 * n * n + 8 * n) ≡ 2000 * (e + 1) + 4 * ((e + 1) * (n * n)) + 8 * (n * (e + 1)) =
+        grind arith in
+        let y : n * (e + 1 + 1) ≡ n * (e + 1) + n = grind arith in
+        omega (arith, z, y, slow n e, few, soon)
+
+    parts :
+        (n d s h f t l : ℕ) → s ≤ 1 → h + f + 35 * l + 400 * s < 1600 * d → h + t < 1600 * d →
+        max (n * d + (h + (d + s)) + (t + 1 + s))
+        (n * d + (h + (d + s)) + (f + n * (d + s)) + (12 * (n * (d + s)) + 33 * (l + 2 * (d + s)) + (l + (l + 2 * (d + s))) + 1 + s)
+        + 315 * (d + s))
+        ≤ d * (2000 + 4 * n * n + 8 * n)
+    parts n d zero h f t l one few soon = sums n d h f t l (omega (arith, few)) soon
+    parts n d (suc zero) h f t l one few soon = above d refl
+      where
+        above : (c : ℕ) → d ≡ c →
+            max (n * d + (h + (d + 1)) + (t + 1 + 1))
+            (n * d + (h + (d + 1)) + (f + n * (d + 1)) + (12 * (n * (d + 1)) + 33 * (l + 2 * (d + 1)) + (l + (l + 2 * (d + 1))) + 1 + 1)
+            + 315 * (d + 1))
+            ≤ d * (2000 + 4 * n * n + 8 * n)
+        above zero e = absurd (omega (arith, e, soon))
+        above (suc c) e =
+            let z : c + 1 ≡ d = omega (arith, e) in
+            subst (λ q. max (n * q + (h + (q + 1)) + (t + 1 + 1))
+            (n * q + (h + (q + 1)) + (f + n * (q + 1)) + (12 * (n * (q + 1)) + 33 * (l + 2 * (q + 1)) + (l + (l + 2 * (q + 1))) + 1 + 1)
+            + 315 * (q + 1)) ≤ q * (2000 + 4 * n * n + 8 * n)) z (sums-slow n c h f t l (omega (arith, few, z)) (omega (arith, soon, z)))
+    parts n d (suc (suc s)) h f t l one few soon = absurd (omega (arith, one))
+
+pub range-short : (d slack : ℕ) → 1 ≤ d → slack ≤ 1 → AreShort d slack (longest_in_range d)
+range-short d slack some few = record { tree = omega (arith, some, few); loop = omega (arith, some) }
 
 pub range-enough : InRangeIsEnough
 range-enough w some is =
-    short-enough w (subst (AreShort w.delay) (sym is) (range-short w.delay some))
+    short-enough w (subst (AreShort w.delay (slack w)) (sym is) (range-short w.delay (slack w) some (slack-most w)))
 
 -- ---- the core
 
@@ -91,7 +140,7 @@ module _
   abbrev v : CableWorld
   v = quiet_after hs k w
 
-  enough : turns_to_decision w + 315 * w.delay ≤ k
+  enough : turns_to_decision w + 315 * seen_turns w ≤ k
   enough = omega (arith, quiet)
 
   v-lawful : IsLawful v
@@ -115,7 +164,7 @@ module _
       part-settles (quiet_after hs i w) (quiet-numbering hs i w lawful (comes-numbering w r)) (at i)
 
   abbrev middle : ℕ
-  middle = k - 315 * w.delay
+  middle = k - 315 * seen_turns w
 
   -- all came to self identify early enough
   tree-by : AreIdentifying (quiet_after hs middle w) p.set → IsSettled v p.set
@@ -137,7 +186,7 @@ module _
             arith,
             enough,
             room-to-rest
-                (length (numbers (quiet_after hs middle w).cabling s.root s.tree)) w.delay
+                (length (numbers (quiet_after hs middle w).cabling s.root s.tree)) (seen_turns w)
                 s.is.walk.few,
           ))
 

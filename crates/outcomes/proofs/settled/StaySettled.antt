@@ -1,17 +1,17 @@
 -- What has settled stays settled in turns and holds. A loop does, since its nodes don't leave T0
 -- and their timers rise;
 -- a tree is at rest; of a contention it is told at the end whether a tree has come of it.
-use Rattle.std.proofs.Common.{◌≡◌, inl, inr, ℕ, ◌+◌, ◌-◌, ◌^◌, ◌<◌, ◌≤◌, true, None, Some, length, slice_get, sym, ◌∙◌, ap, subst, arith}
-use Rattle.outcomes.proofs.Common.{Tree, Wiring, Holds, IsComponent, IsCore, End, NodeState, Timing, coin, PortNode, CableWorld, turn, hold, hold_fault, ComesOfPowerOn, IsLawful, loop, tree, contention, IsTree, IsSettled, is_before_tree, some-of, some-at, some-same, comes-lawful, after-length, cabling-after, risen, quiet-then, quiet-lawful, after-cabling, HoldSchedule, holds_after, quiet_after, ResetsAreDone, ResetsAreOver, HasContention, done-after, comes-contested, comes-acyclic, done-over, Calmly, heard_by, IsNumbering}
+use Rattle.std.proofs.Common.{◌⊎◌, ◌≡◌, inl, inr, ℕ, ◌+◌, ◌-◌, ◌^◌, ◌<◌, ◌≤◌, true, None, Some, length, slice_get, sym, ◌∙◌, ap, subst, arith}
+use Rattle.outcomes.proofs.Common.{Tree, Wiring, Holds, IsComponent, IsCore, End, NodeState, Timing, PortNode, CableWorld, turn, hold, hold_fault, ComesOfPowerOn, IsLawful, loop, tree, contention, IsTree, IsSettled, is_before_tree, some-of, some-at, some-same, comes-lawful, after-length, cabling-after, risen, quiet-then, quiet-lawful, after-cabling, HoldSchedule, holds_after, quiet_after, ResetsAreDone, ResetsAreOver, HasContention, done-after, comes-contested, comes-acyclic, done-over, Calmly, heard_by, IsNumbering}
 use Rattle.port_state.specs.declared.signal.Phase.TheVariants as phase
 use Rattle.cable_world.specs.Outcome.{Ending, IsLoop, IsContention, IsOutcome}
 use Rattle.cable_world.specs.Times.{Suits}
 use Rattle.cable_world.specs.Run.{Rests, still, hold_first, turn_first}
-use Rattle.cable_world.proofs.Lemmas.{after-longest, longest-after, turn-comes, hold-comes, nodes-after, quiet-comes}
+use Rattle.cable_world.proofs.Lemmas.{after-longest, turn-comes, hold-comes, nodes-after, quiet-comes}
 use Rattle.convergence.specs.Kept.{IsGrown}
 use Rattle.convergence.specs.Milestones.{TreesAreTaken}
 use Rattle.convergence.specs.Turns.{turns_to_settle, turns_to_done}
-use Rattle.convergence.proofs.Lemmas.{taken-reached, taken-turn, core-shows, Grown, grown-of, contention-turn, IsEarly, only-start, start-early, start-timer, StaysInStart, stays-in-start, calmly, early-before, done-calm, turn-done}
+use Rattle.convergence.proofs.Lemmas.{taken-reached, taken-turn, core-shows, Grown, grown-of, contention-turn, IsEarly, only-start, start-early, start-timeout, StaysInStart, start-on, calmly, early-before, done-calm, turn-done}
 use Rattle.outcomes.proofs.settled.Beginnings.{all-or-not}
 use Rattle.outcomes.proofs.settled.Numbering.{comes-numbering}
 use Rattle.outcomes.proofs.settled.Outcomes.{no-tree-yet, tree-or-none, contention-outcome, tree-outcome}
@@ -19,6 +19,7 @@ use Rattle.outcomes.proofs.settled.Components.{Part}
 use Rattle.outcomes.proofs.settled.QuietTurns.{settles-at-last}
 use Rattle.outcomes.proofs.settled.TreesStay.{turn-tree}
 use Rattle.outcomes.proofs.settled.Unnamed.{shows-unnamed}
+use Rattle.port_state.specs.Machine.{beat}
 
 -- ---- what is kept
 
@@ -26,7 +27,7 @@ use Rattle.outcomes.proofs.settled.Unnamed.{shows-unnamed}
 abbrev AreLate : CableWorld → ℕ → Type 0
 AreLate w core =
     (k : ℕ) (x : PortNode) → Holds core k → slice_get w.nodes k ≡ Some x →
-    w.longest.timeout ≤ x.state.view.timer
+    x.state.timing.timeout ≤ x.state.view.timer
 
 data Come (w : CableWorld) (set : ℕ) : Type 0 where
   looped : (core : ℕ) → IsLoop w set core → AreLate w core → Come w set
@@ -72,7 +73,7 @@ module _
   record StaysLate (y : NodeState) : Type 0 where
     start : y.view.phase ≡ phase.TreeStart
     reports : y.view.timed_out ≡ true
-    late : v.longest.timeout ≤ y.view.timer
+    late : y.timing.timeout ≤ y.view.timer
 
   module _ (core : ℕ) (h : IsLoop w set core) (late : AreLate w core) where
     core-after : IsCore v.cabling set core
@@ -82,8 +83,11 @@ module _
         StaysLate y.state
     stays-late k y inside at = record {
       start = y-start;
-      reports = kept.reports (omega (arith, risen-late, timeout));
-      late = omega (arith, risen-late, ap (λ (t : Timing). t.timeout) (longest-after w));
+      reports = elim kept [
+        | inl m ↦ ap (λ (z : NodeState). z.view.timed_out) m ∙ c.heard.timed_out ∙ reported
+        | inr s ↦ s.reports (omega (arith, risen-late, times, ap (λ (t : Timing). t.timeout) c.hears.timing))
+      ];
+      late = risen-late;
     }
       where
         early : is_before_tree y.state.view.phase ≡ true
@@ -106,23 +110,32 @@ module _
             only-start c.node.state.view.phase (early-before w k y.state c early)
             (done k c.node c.at)
 
-        kept : StaysInStart (heard_by w k c.node) y.state
-        kept =
-            subst (StaysInStart (heard_by w k c.node)) (sym c.is)
-            (stays-in-start (coin c.node.coins) (heard_by w k c.node) (c.heard.phase ∙ x-start)
-            (sym (ap (λ (z : NodeState). z.view.phase) c.is) ∙ y-start))
+        -- its clock missed the turn, or a tick left it there
+        kept : (y.state ≡ heard_by w k c.node) ⊎ StaysInStart (heard_by w k c.node) y.state
+        kept = elim (start-on (beat c.node) (heard_by w k c.node) (c.heard.phase ∙ x-start) (sym (ap (λ (z : NodeState). z.view.phase) c.is) ∙ y-start)) [
+          | inl a ↦ inl (c.is ∙ a.1)
+          | inr s ↦ inr (subst (StaysInStart (heard_by w k c.node)) (sym c.is) s)
+        ]
+
+        reported : c.node.state.view.timed_out ≡ true
+        reported =
+            let x = some-of (slice_get w.nodes k) _ (h.timed_out k inside) in
+            ap (λ (z : PortNode). z.state.view.timed_out) (some-same c.node x.0 (sym c.at ∙ x.1)) ∙ x.2.1
 
         fits : Suits w.delay w.longest c.node.state.timing
         fits = (lawful.well_formed.nodes k c.node c.at).timing
 
-        timeout : (heard_by w k c.node).timing.timeout ≤ w.longest.timeout
-        timeout = omega (arith, ap (λ (t : Timing). t.timeout) c.hears.timing, fits.timeout_most)
+        times : y.state.timing.timeout ≡ c.node.state.timing.timeout
+        times = ap (λ (z : NodeState). z.timing.timeout) c.is ∙ ap (λ (t : Timing). t.timeout) (c.ticks.timing ∙ c.hears.timing)
 
-        risen-late : w.longest.timeout ≤ y.state.view.timer
-        risen-late =
-            up w.longest.timeout c.node.state.view.timer (heard_by w k c.node).view.timer
-            y.state.view.timer (late k c.node inside c.at) c.heard.timer kept.timer
-            fits.counted.timeout
+        risen-late : y.state.timing.timeout ≤ y.state.view.timer
+        risen-late = elim kept [
+          | inl m ↦ omega (arith, times, late k c.node inside c.at, ap (λ (z : NodeState). z.view.timer) m, c.heard.timer)
+          | inr s ↦
+              up y.state.timing.timeout c.node.state.view.timer (heard_by w k c.node).view.timer
+              y.state.view.timer (omega (arith, times, late k c.node inside c.at)) c.heard.timer s.timer
+              (omega (arith, times, fits.timeout_most, fits.counted.timeout))
+        ]
           where
             up : (n a b c : ℕ) → n ≤ a → b ≡ a → c ≡ risen b → n ≤ 65535 → n ≤ c
             up n a b c h e f m = omega (arith, h, e, f, m)
@@ -310,16 +323,9 @@ module _
         at = ap (λ (z : CableWorld). slice_get z.nodes j) same ∙ at;
         early = start-early x.state.view.phase begins;
       } in
-      let same : (quiet_after hs k w).longest.timeout ≡ w.longest.timeout =
-      ap (λ (t : Timing). t.timeout) (after-longest hs w w-lawful k) in
-      let fits : Suits u.delay u.longest x.state.timing =
-      ((quiet-lawful hs k w w-lawful).well_formed.nodes j x at).timing in
-      let late : w.longest.timeout ≤ x.state.view.timer =
-      start-timer (holds_after first hs) start (quiet-lawful hs first w w-lawful)
-      (done-after hs w first w-lawful (omega arith)) (k - first) w.longest.timeout j
-      (omega (arith, begun))
-      (omega (arith, fits.counted.timeout, same)) early in
-      omega (arith, late, same)
+      start-timeout (holds_after first hs) start (quiet-lawful hs first w w-lawful)
+      (done-after hs w first w-lawful (omega arith)) (k - first) j
+      (omega (arith, begun, ap (λ (t : Timing). t.timeout) (after-longest hs w w-lawful first))) early
 
   come-of : IsSettled u p.set → Come u p.set
   come-of s = go s.0 s.1

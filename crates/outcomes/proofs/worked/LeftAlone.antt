@@ -6,6 +6,7 @@ use Rattle.outcomes.proofs.Common.{enter, PortNode, IsPowerOnWorld, turns_after,
 use Rattle.port_state.specs.Timing.{InRange, usual_timing}
 use Rattle.port_state.proofs.Lemmas.{valid-power_on}
 use Rattle.cable_world.specs.declared.act.Act.TheVariants.{Plug}
+use Rattle.cable_world.specs.Times.{KeepsTime, longest_in_range}
 use Rattle.cable_world.specs.World.{IsNodeAtPowerOn, world_of_nodes}
 use Rattle.cable_world.specs.Run.{starts, acted}
 use Rattle.cable_world.proofs.Lemmas.{plain_node}
@@ -29,8 +30,13 @@ powered zero x e = subst (λ (z : PortNode). IsNodeAtPowerOn 4 z.state) (some-sa
 powered (suc zero) x e = subst (λ (z : PortNode). IsNodeAtPowerOn 4 z.state) (some-same (plain_node 1) x e) (plain-on 1)
 powered (suc (suc k)) x e = absurd cc
 
+clocked : (k : ℕ) (x : PortNode) → slice_get pair.nodes k ≡ Some x → KeepsTime (longest_in_range 4) x.state.timing x.clock
+clocked zero x e = subst (λ (z : PortNode). KeepsTime (longest_in_range 4) z.state.timing z.clock) (some-same (plain_node 0) x e) tt
+clocked (suc zero) x e = subst (λ (z : PortNode). KeepsTime (longest_in_range 4) z.state.timing z.clock) (some-same (plain_node 1) x e) tt
+clocked (suc (suc k)) x e = absurd cc
+
 at-first : IsPowerOnWorld (world_of_nodes 4 pair.nodes)
-at-first = record { some_delay = omega arith; short_delay = omega arith; few_nodes = omega arith; nodes = λ k x e. powered-in-range 4 x.state (omega arith) (omega arith) (powered k x e); is = refl }
+at-first = record { some_delay = omega arith; few_nodes = omega arith; nodes = λ k x e. powered-in-range 4 x.state (omega arith) (omega arith) (powered k x e); clocks = clocked; is = refl }
 
 free : act_fault (Plug (at 0 0) (at 1 0)) (world_of_nodes 4 pair.nodes) ≡ None
 free = refl

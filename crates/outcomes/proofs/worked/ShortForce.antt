@@ -3,6 +3,7 @@
 -- for 80 turns, the longest hold of the bus. The inequality asks that the hold and the force time
 -- of node 2 are together more than 80 + 127 turns, which is enough for 63 nodes. Three nodes need
 -- 80 + 4, since each of the two cables is passed twice.
+use Rattle.port_state.specs.Clock.{even}
 use Rattle.std.proofs.Common.{◌≡◌, ℕ, Bool, true, false, List, [], ◌∷◌, Option, Some, None, map, refl, arith}
 use Rattle.port_state.specs.declared.timing.Timing.{Timing}
 use Rattle.port_state.specs.Timing.{usual_timing}
@@ -41,7 +42,7 @@ enough-with-144 = record { enough = omega arith }
 -- ---- the run
 
 abbrev node : ℕ → Timing → Bool → PortNode
-node ports t force = record { state = power_on ports (attrs true 2 false) force t; coins = coins_of_bits 0 1 }
+node ports t force = record { state = power_on ports (attrs true 2 false) force t; coins = coins_of_bits 0 1; clock = even }
 
 -- the end that waits has this force time; it resets the bus when it has settled
 abbrev start : ℕ → CableWorld

@@ -18,7 +18,8 @@ use Rattle.cable_world.specs.Turn.{turns_after}
 use Rattle.cable_world.specs.Run.{quiet_turns}
 use Rattle.cable_world.specs.Times.{longest_in_range}
 use Rattle.cable_world.proofs.Lemmas.{Keeps, act-keeps}
-use Rattle.convergence.specs.Turns.{turns_to_settle}
+use Rattle.convergence.specs.Turns.{slack, turns_to_settle}
+use Rattle.convergence.proofs.Lemmas.{slack-most}
 use Rattle.settle.specs.Report.{quiet_turns_of}
 use Rattle.script_made.specs.declared.made.End.{End}
 use Rattle.script_lines.specs.declared.kind.Kind.TheVariants.{TooManyTurns}
@@ -213,7 +214,9 @@ module _ (n turns : ℕ) (bus : Bus) (P : Bus → Type 0) (few : n ≤ 63) (h : 
       let same : quiet_turns (length cables) bus.world.delay ≡ quiet_turns n 4 =
       ap (λ (m : ℕ). quiet_turns m bus.world.delay) size ∙ ap (quiet_turns n) h.delay in
       let square : 4 * n * n ≤ 252 * 63 = mul-le (4 * n) n 252 63 (omega (arith, few)) few in
-      let settled : turns_to_settle bus.world ≤ 73520 = rw (h.nodes, h.delay, h.longest) (omega (arith, few)) in
+      let late : slack bus.world ≤ 1 = slack-most bus.world in
+      let spare : n * slack bus.world ≤ 63 * 1 = mul-le n (slack bus.world) 63 1 few late in
+      let settled : turns_to_settle bus.world ≤ 73520 = rw (h.nodes, h.delay, h.longest) (omega (arith, few, late, spare)) in
       max-le (omega (arith, same, square, few)) settled
 
   pub settle-goes :

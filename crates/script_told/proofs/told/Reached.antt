@@ -14,7 +14,7 @@ use Rattle.port_state.specs.declared.ranges.TimeRanges.{TimeRanges}
 use Rattle.port_state.specs.Machine.{PortNode}
 use Rattle.port_state.proofs.Lemmas.{valid-power_on}
 use Rattle.cable_world.specs.World.{CableWorld, NodeNumber, IsPowerOnWorld, world_with_times}
-use Rattle.cable_world.proofs.Lemmas.{power-on, some-same, reached-lawful, power-on-reached, turns-reached, act-reached, hold-reached, one-hold, rests-then, turns-rest}
+use Rattle.cable_world.proofs.Lemmas.{even-paced, power-on, some-same, reached-lawful, power-on-reached, turns-reached, act-reached, hold-reached, one-hold, rests-then, turns-rest}
 use Rattle.cable_world.specs.Run.{IsReached, Rests, still}
 use Rattle.cable_world.specs.Act.{IsAct, hold, hold_fault}
 use Rattle.cable_world.specs.Turn.{turns_after}
@@ -276,14 +276,19 @@ pub record IsSoundDraft (draft : Draft) : Type 0 where
 pub draft-power : (draft : Draft) → IsSoundDraft draft →
     IsPowerOnWorld (world_with_times draft.delay draft.times.ranges.most draft.nodes)
 draft-power draft h =
-    power-on draft.delay draft.times.ranges.most draft.nodes h.some_delay h.short_delay h.few (λ k x at. (h.powered k x at).powered)
+    power-on draft.delay draft.times.ranges.most draft.nodes h.some_delay h.few (λ k x at. (h.powered k x at).powered)
+    (even-paced draft.times.ranges.most draft.nodes (λ k x at. (h.powered k x at).even))
 
 pub draft-bus : (draft : Draft) → IsSoundDraft draft →
     IsReachedBus (bus_of_nodes draft.delay draft.times draft.names draft.nodes)
 draft-bus draft h = record {
   reached = power-on-reached (world_with_times draft.delay draft.times.ranges.most draft.nodes)
       (draft-power draft h)
-      (λ k x at. (h.powered k x at).forced);
+      (record {
+        short_delay = h.short_delay;
+        forced = λ k x at. (h.powered k x at).forced;
+        even = λ k x at. (h.powered k x at).even;
+      });
   named = h.same;
   reported = tt;
 }
@@ -331,6 +336,7 @@ at-power-on d r ports attrs force held short long len coins none fit h =
         timing = suits d r t fit.suitable in_ranges;
       };
       forced = can-be-forced d r t fit.suitable in_ranges;
+      even = refl;
     }
 
 -- a node more, where there is room

@@ -8,7 +8,7 @@ use Rattle.cable_world.proofs.all_nodes.turn_world.Goals as goal
 pub turn_wires-requires-clause-young : goal.turn_wires-requires-clause-young
 turn_wires-requires-clause-young g c =
     all-young (world_record c.args.delay c.requires.lawful.0 c.args.cabling.now (map g.M.PortMachine.record_of c.args.machines.now) c.args.wires.now c.args.changed.now c.args.turns)
-    c.requires.lawful.1.well_formed
+    c.requires.short c.requires.lawful.1.well_formed
 
 pub turn_wires-requires-clause-same : goal.turn_wires-requires-clause-same
 turn_wires-requires-clause-same g c = c.requires.same

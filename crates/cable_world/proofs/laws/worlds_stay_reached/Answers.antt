@@ -1,6 +1,6 @@
 use Rattle.cable_world.proofs.StaysReached.{reached-comes, power-on-reached, turns-reached, hold-reached, act-reached}
 use Rattle.cable_world.proofs.QuietTurns.{quiet-reached}
-use Rattle.cable_world.proofs.StaysLawful.{reached-forced}
+use Rattle.cable_world.proofs.StaysLawful.{reached-runs}
 use Rattle.cable_world.proofs.laws.worlds_stay_reached.Goals as goal
 
 pub returns-clause-power_on : goal.returns-clause-power_on
@@ -21,5 +21,5 @@ returns-clause-act c = act-reached
 pub returns-clause-comes : goal.returns-clause-comes
 returns-clause-comes c = reached-comes
 
-pub returns-clause-forced : goal.returns-clause-forced
-returns-clause-forced c = reached-forced
+pub returns-clause-runs : goal.returns-clause-runs
+returns-clause-runs c = reached-runs

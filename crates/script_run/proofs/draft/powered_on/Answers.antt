@@ -17,4 +17,5 @@ returns-clause-power_on c = λ d fit.
         timing = suits d c.args.ranges timing fit.suitable c.spec.ensures.timing;
       };
       forced = can-be-forced d c.args.ranges timing fit.suitable c.spec.ensures.timing;
+      even = refl;
     })

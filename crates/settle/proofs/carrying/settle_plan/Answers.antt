@@ -1,14 +1,16 @@
 use Rattle.std.proofs.Common.{◌≡◌, true, Some, Err, sym, ◌∙◌, subst}
+use Rattle.std.proofs.lemmas.Bool.{false_from_ne_true}
 use Rattle.std.proofs.lemmas.Result.{on_ok_weaker}
 use Rattle.cable_world.specs.declared.act.Act.TheVariants.{Config}
 use Rattle.cable_world.specs.declared.act.ActStop.{ActStop}
 use Rattle.cable_world.specs.Act.{act_fault}
 use Rattle.cable_world.specs.Answer.{IfFault}
 use Rattle.cable_world.proofs.Lemmas.{none-some, lawful-now}
-use Rattle.settle.specs.Report.{IsReport, IsAfterQuiet}
+use Rattle.settle.specs.Report.{IsReport, IsAfterQuiet, quiet_turns_of}
 use Rattle.settle.specs.Hops.{HopsStay}
 use Rattle.settle.proofs.Suited.{not-refused, packet-fits, has-id, its-small}
 use Rattle.settle.proofs.Carried.{on-both, if-ok, gap-wanted, tree-from, gap-of}
+use Rattle.settle.proofs.TurnsGiven.{same-quiet, still-few, passed-on}
 use Rattle.settle.proofs.carrying.settle_plan.Goals as goal
 
 pub act-requires : goal.act-requires
@@ -69,3 +71,22 @@ returns-in-Ok-clause-hops g c =
     if-ok c.settle.result (IsReport v) _ _ c.settle.ensures.report (on-both c.settle.result _ _ c.settle.ensures.quiet c.settle.ensures.fine) (λ report is both.
     gap-wanted laws.names laws.config laws.gaps w (g.W.WorldRun.world c.act.new.self) v reached l c.args.from c.args.plan.now c.requires.suits c.requires.suits.set c.requires.suits.component (its-small w l c.args.from c.args.plan.now c.requires.suits)
     c.in-Ok.ensures.accepted c.in-Ok.ensures.done both.0 one.0 one.1 (subst HopsStay c.cabling.ensures c.hops_stay.ensures) (lawful-now v (g.met.W.WorldRun.reached c.settle.new.world both.1)).well_formed report.parts is.parts)
+
+pub settle-requires : goal.settle-requires
+settle-requires g c fine =
+    let w = g.W.WorldRun.world c.args.world.now in
+    let sent = g.W.WorldRun.world c.act.new.self in
+    let whole = sym c.spent.ensures ∙ c.if-spent.false in
+    still-few w.turns sent.turns (quiet_turns_of w) (quiet_turns_of sent) c.in-Ok.ensures.passed.turns
+    (same-quiet (Config c.args.from c.args.plan.now.root_id true (Some c.args.plan.now.gap)) w sent (g.met.W.WorldRun.reached c.args.world.now whole) (g.met.W.WorldRun.reached c.act.new.self fine) c.in-Ok.ensures.done)
+    (c.requires.few whole)
+
+pub returns-in-Ok-clause-passed : goal.returns-in-Ok-clause-passed
+returns-in-Ok-clause-passed g c =
+    let w = g.W.WorldRun.world c.args.world.now in
+    let sent = g.W.WorldRun.world c.act.new.self in
+    let v = g.W.WorldRun.world c.settle.new.world in
+    let whole = sym c.spent.ensures ∙ c.if-spent.false in
+    let fine = false_from_ne_true _ (λ spent. c.in-Ok.ensures.spent.1 spent) in
+    let same = same-quiet (Config c.args.from c.args.plan.now.root_id true (Some c.args.plan.now.gap)) w sent (g.met.W.WorldRun.reached c.args.world.now whole) (g.met.W.WorldRun.reached c.act.new.self fine) c.in-Ok.ensures.done in
+    on_ok_weaker c.settle.result (λ passed. passed-on w sent v (quiet_turns_of sent) (quiet_turns_of w) c.in-Ok.ensures.passed same passed) c.settle.ensures.passed

@@ -9,7 +9,7 @@ use Rattle.world_agenda.proofs.nodes.turn_agenda.Goals as goal
 use Rattle.cable_world.proofs.Lemmas.{all-young, rows-long, sent-long, turn-is}
 
 pub turn_live-requires-clause-young : goal.turn_live-requires-clause-young
-turn_live-requires-clause-young g c = all-young _ c.requires.lawful.1.well_formed
+turn_live-requires-clause-young g c = all-young _ c.requires.short c.requires.lawful.1.well_formed
 
 pub turn_nodes-requires-clause-few : goal.turn_nodes-requires-clause-few
 turn_nodes-requires-clause-few g c =

@@ -5,8 +5,13 @@ use Rattle.cable_world.specs.Wire.{Wire}
 use Rattle.cable_world.specs.Run.{IsReached}
 use Rattle.cable_world.specs.Parts.{world_record}
 use Rattle.cable_world.proofs.StaysReached.{turn-reached}
-use Rattle.cable_world.proofs.running.Whole.{lawful-now, vectors-turn}
+use Rattle.cable_world.proofs.running.Whole.{lawful-now, short-now, vectors-turn}
 use Rattle.cable_world.proofs.world.WorldWorldRun.turn.Goals as goal
+
+pub turn_world-requires-clause-short : goal.turn_world-requires-clause-short
+turn_world-requires-clause-short g c =
+    let self = c.args.self.now in
+    short-now (world_record self.delay self.longest self.cabling (map g.M.PortMachine.record_of self.machines.items) self.wires.items self.changed.items self.turns) (self.reached c.if-self.false)
 
 pub turn_world-requires-clause-lawful : goal.turn_world-requires-clause-lawful
 turn_world-requires-clause-lawful g c =

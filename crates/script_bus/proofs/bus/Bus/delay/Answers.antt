@@ -1,6 +1,6 @@
 use Rattle.std.proofs.Common.{ap, arith}
 use Rattle.cable_world.specs.World.{CableWorld}
-use Rattle.cable_world.proofs.Lemmas.{lawful-now}
+use Rattle.cable_world.proofs.Lemmas.{lawful-now, short-now}
 use Rattle.script_bus.proofs.bus.Bus.delay.Goals as goal
 
 pub returns-clause-some : goal.returns-clause-some
@@ -10,5 +10,4 @@ returns-clause-some c =
 
 pub returns-clause-few : goal.returns-clause-few
 returns-clause-few c =
-    let lawful = lawful-now _ c.buses_are_sound.ensures.reached in
-    omega (arith, c.delay.ensures, ap (λ (w : CableWorld). w.delay) c.world.ensures.is, lawful.well_formed.short_delay)
+    omega (arith, c.delay.ensures, ap (λ (w : CableWorld). w.delay) c.world.ensures.is, short-now _ c.buses_are_sound.ensures.reached)

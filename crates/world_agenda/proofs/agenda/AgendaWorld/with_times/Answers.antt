@@ -1,7 +1,8 @@
-use Rattle.std.proofs.Common.{◌≡◌, ◌∙◌, ◌≤◌, [], length, map, replicate, ap, sym, subst, arith}
+use Rattle.std.proofs.Common.{◌≡◌, ◌∙◌, ◌≤◌, [], length, map, get_or, replicate, ap, sym, subst, arith}
 use Rattle.std.proofs.lemmas.List.{length-map, length-replicate}
 use Rattle.std.proofs.lemmas.List.Elements.{All-weaker}
 use Rattle.cabling.specs.Wiring.{ArePortCounts}
+use Rattle.port_state.specs.Clock.{even}
 use Rattle.port_state.specs.Machine.{PortNode}
 use Rattle.cable_world.specs.Wire.{empty_wire}
 use Rattle.cable_world.specs.Times.{CanBeForced}
@@ -14,7 +15,7 @@ use Rattle.world_agenda.proofs.Known.{known-nothing}
 use Rattle.world_agenda.proofs.Late.{all-now}
 use Rattle.world_agenda.proofs.LiveRows.{all-live}
 use Rattle.world_agenda.proofs.agenda.AgendaWorld.with_times.Goals as goal
-use Rattle.cable_world.proofs.Lemmas.{are-counts, as-long, each-node, power-on, start-is}
+use Rattle.cable_world.proofs.Lemmas.{are-counts, as-long, each-node, even-paced, power-on, start-is}
 
 pub new-requires-clause-counts : goal.new-requires-clause-counts
 new-requires-clause-counts g c =
@@ -41,11 +42,12 @@ invariant_of-result g c =
     is c.in_ok-new.ensures c.in_ok-wire_rows.ensures c.in_ok-no_changes.ensures (omega (arith, c.len-2.ensures, long, c.args.machines.ok.0)) in
     let h = each-node (λ (x : PortNode). IsPowered d longest x.state) f c.args.machines.items c.requires.power_on in
     let forced = each-node (λ (x : PortNode). CanBeForced d longest x.state.timing) f c.args.machines.items c.requires.forced in
+    let even = each-node (λ (x : PortNode). x.clock ≡ even) f c.args.machines.items (λ k m inside. g.met.M.PortMachine.steady (get_or c.args.machines.items k m)) in
     let few : length nodes ≤ 63 = omega (arith, long, c.requires.few) in
     let many : length agenda ≡ length c.args.machines.items = sym (length-map agenda r) ∙ ap length c.in_ok-agenda_nodes.ensures.nodes ∙ long in
     record {
       reached = λ fine. subst (λ w. ∥ IsReached w ∥₁) (sym start)
-          ∣ c.worlds_stay_reached.ensures.power_on (world_with_times d longest nodes) (power-on d longest nodes c.requires.some_delay c.requires.short_delay few h) forced ∣₁;
+          ∣ c.worlds_stay_reached.ensures.power_on (world_with_times d longest nodes) (power-on d longest nodes c.requires.some_delay few h (even-paced longest nodes even)) (record { short_delay = c.requires.short_delay; forced = forced; even = even }) ∣₁;
       early = omega arith;
       abreast = λ fine e. c.in_ok-agenda_nodes.ensures.clocks;
       behind = λ fine. All-weaker (λ n. n.clock ≡ 0) (λ n. n.clock ≤ 0) (λ n e. omega (arith, e)) agenda c.in_ok-agenda_nodes.ensures.clocks;

@@ -12,7 +12,7 @@ use Rattle.cable_world.specs.Run.{IsReached}
 use Rattle.world_agenda.proofs.Turns.{one-turn}
 use Rattle.world_agenda.proofs.Whole.{lawful-now}
 use Rattle.world_agenda.proofs.agenda.AgendaWorldWorldRun.turn.Goals as goal
-use Rattle.cable_world.proofs.Lemmas.{vectors-related}
+use Rattle.cable_world.proofs.Lemmas.{short-now, vectors-related}
 
 pub turn_agenda-requires-clause-lawful : goal.turn_agenda-requires-clause-lawful
 turn_agenda-requires-clause-lawful g c =
@@ -20,6 +20,12 @@ turn_agenda-requires-clause-lawful g c =
     let f : AgendaNode g.row.M.Denot g.M.PortMachine → PortNode = λ n. caught_up self.turns n.clock (g.M.PortMachine.record_of n.machine) in
     let w : CableWorld = world_record self.delay self.longest self.cabling (map f self.nodes.items) self.wires.items self.changed.items self.turns in
     (self.longest, rw (c.deref_mut.ensures.value, c.deref_mut-2.ensures.value, c.deref_mut-3.ensures.value) (lawful-now w c.worlds_stay_lawful.ensures.reached (self.reached c.if-self.false)))
+
+pub turn_agenda-requires-clause-short : goal.turn_agenda-requires-clause-short
+turn_agenda-requires-clause-short g c =
+    let self = c.args.self.now in
+    let f : AgendaNode g.row.M.Denot g.M.PortMachine → PortNode = λ n. caught_up self.turns n.clock (g.M.PortMachine.record_of n.machine) in
+    short-now (world_record self.delay self.longest self.cabling (map f self.nodes.items) self.wires.items self.changed.items self.turns) (self.reached c.if-self.false)
 
 pub turn_agenda-requires-clause-same : goal.turn_agenda-requires-clause-same
 turn_agenda-requires-clause-same g c = rw (c.deref_mut-4.ensures.value, c.deref_mut-2.ensures.value) (c.args.self.now.same c.if-self.false)
