@@ -6,3 +6,4 @@ pub mod Reached
 pub mod Room
 pub mod Steps
 pub mod Whole
+mod Same

@@ -1,14 +1,14 @@
 -- What is reached along ports is reached by steps.
-use Rattle.std.proofs.Common.{◌≡◌, ◌∙◌, ℕ, ◌<◌, ◌⊎◌, inl, inr, ⊎_elim, Bool, true, false, Option, Some, None, List, [], ◌∷◌, ◌++◌, map, reverse, refl, sym, subst, ap, arith, eq-eqb, eqb-true}
+use Rattle.std.proofs.Common.{◌≡◌, ◌∙◌, ◌<◌, ◌⊎◌, inl, inr, ⊎_elim, Bool, true, false, Option, Some, None, List, [], ◌∷◌, ◌++◌, map, reverse, refl, sym, subst, arith, eq-eqb, eqb-true}
 use Rattle.std.specs.Prelude.{Contains, find, ◌==◌, ◌||◌, ◌&&◌, if◌then◌else◌}
 use Rattle.std.proofs.lemmas.List.Elements.{Contains-append_cases, Contains-append_left, Contains-append_right, Contains-push, Contains-push_cases}
 use Rattle.std.proofs.lemmas.List.Sorted.{Contains-permutation, IsPermutation-sym, IsPermutation-reverse}
 use Rattle.std.proofs.lemmas.Bool.{and_parts}
-use Rattle.topology_stack.specs.Tree.{Tree, walk}
+use Rattle.topology_stack.specs.Tree.{Tree}
 use Rattle.view_text.specs.declared.cable.Cable.{Cable}
 use Rattle.view_text.specs.Cable.{cables}
 use Rattle.bus_diff.specs.declared.pair.Pair.{Pair}
-use Rattle.bus_diff.specs.Along.{may_be_one, with_pair, pair_of, turned, leads_so, other_end, led_to, with_led, stepped, walked, ways, reached_from, IsToldOf, IsStep, IsReachedBySteps, at_start, by_step, EachPairIsReached}
+use Rattle.bus_diff.specs.Along.{may_be_one, with_pair, pair_of, turned, leads_so, other_end, led_to, with_led, stepped, walked, ways, IsToldOf, IsStep, IsReachedBySteps, at_start, by_step, EachPairIsReached}
 
 none_there : {X : Type 0} (x : X) → Contains [] x → ⊥
 none_there x there = let lt : there.0 < 0 = there.1 in omega (arith, lt)

@@ -4,3 +4,4 @@ pub mod Change
 pub mod Listed
 pub mod Text
 pub mod codings
+pub mod Same

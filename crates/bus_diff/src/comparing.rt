@@ -1,15 +1,16 @@
 //! What differs between two buses.
-ghost use Rattle.std.specs.Prelude.{◌≡◌, ◌||◌, ◌++◌, is_some, Contains, IfOk, OnOk};
+ghost use Rattle.std.specs.Prelude.{◌≡◌, [], ◌||◌, ◌++◌, is_some, Contains, IfOk, OnOk};
 ghost use Rattle.bus_diff.specs.declared.change.Change.{Change};
 ghost use Rattle.bus_diff.specs.Matching.{IsMatching};
 ghost use Rattle.bus_diff.specs.Change.{IsChange, AreChanges, is_one_or_none};
 ghost use Rattle.bus_diff.specs.Along.{matched};
+ghost use Rattle.bus_diff.specs.Same.{same_ids};
 ghost use Rattle.bus_diff.specs.Listed.{if_gone, gone, if_come, come, if_moved, moved, if_other, other_attrs, values_at, values, if_rooted, if_managed, changes, changes_along};
 
 use crate::along::matched_along;
 use crate::change::{Change, Quality, value_of};
 use crate::hanging::{hangs_on, plugged, pulled};
-use crate::matching::matched;
+use crate::matching::{matched, same_ids};
 use crate::pair::{Pair, is_one, stays, stood};
 use self_id::{Attrs, SelfId};
 use std::alloc::Global;
@@ -286,17 +287,29 @@ fn differing(
 }
 
 /// Which node of a bus is which of another, and what differs: exactly that is told, and each of it is so of both
-/// buses. That no other matching has less to tell isn't promised.
+/// buses. Where nothing differs between nodes of the same IDs, nothing is told. Otherwise, that no other matching has
+/// less to tell isn't promised.
 pub fn compare(alloc: Global, old: &BusTree, new: &BusTree) -> Result<Difference, OutOfMemory>
     // No node stands in two pairs, and each has as many ports in both.
     ensures matching { IfOk result (λ d. IsMatching old.now new.now d.pairs.items) }
+    // By these pairs the list of what differs is this one.
+    ensures list { IfOk result (λ d. d.changes.items ≡ changes old.now new.now d.pairs.items) }
     // What is told is so of both buses, and differs.
     ensures told { IfOk result (λ d. (change : Change) → Contains d.changes.items change →
         IsChange old.now new.now d.pairs.items change) }
     // All that differs is told.
     ensures all { IfOk result (λ d. (change : Change) →
         IsChange old.now new.now d.pairs.items change → Contains d.changes.items change) }
+    // Where each node is the one of its ID and nothing differs so, nothing is told, as of a bus and itself.
+    ensures alike { IfOk result (λ d.
+        changes old.now new.now (same_ids old.now new.now) ≡ [] → d.changes.items ≡ []) }
+    ensures same { IfOk result (λ d. old.now ≡ new.now → d.changes.items ≡ []) }
 {
+    let alike = same_ids(alloc, old, new)?;
+    let told = differing(alloc, old, new, alike)?;
+    if told.changes.is_empty() {
+        return Ok(told);
+    }
     let pairs = matched(alloc, old, new)?;
     let told = differing(alloc, old, new, pairs)?;
     Ok(told)

@@ -3,6 +3,7 @@ ghost use Rattle.std.specs.Prelude.{◌≡◌, slice_get, IfOk, OnOk};
 ghost use Rattle.topology_stack.specs.Tree.{walk};
 ghost use Rattle.bus_diff.specs.Matching.{is_port, port_count, IsMatching};
 ghost use Rattle.bus_diff.specs.Along.{ports_of, is_same_count, may_be_one, with_pair};
+ghost use Rattle.bus_diff.specs.Same.{same_ids};
 
 use crate::guess::{Guess, guessed};
 use crate::links::Links;
@@ -89,6 +90,22 @@ fn pairs_of(
             old: id,
             new: guess.new_of(id),
         };
+        put_pair(&mut pairs, old, new, pair)?;
+    }
+    Ok(pairs)
+}
+
+/// The pairs of nodes with the same ID, but for those that can't be.
+pub(crate) fn same_ids(
+    alloc: Global,
+    old: &BusTree,
+    new: &BusTree,
+) -> Result<Vec<Pair>, OutOfMemory>
+    ensures { IfOk result (λ pairs. pairs.items ≡ same_ids old.now new.now) }
+{
+    let mut pairs = Vec::new(alloc);
+    for id in 0..old.len() {
+        let pair = Pair { old: id, new: id };
         put_pair(&mut pairs, old, new, pair)?;
     }
     Ok(pairs)

@@ -1,8 +1,7 @@
 -- What two captures come to that were told.
-use Rattle.std.proofs.Common.{◌≡◌, ◌≤◌, ◌↔◌, ℕ, Option, Some, None, Result, Ok, Err, List, length, sym, ap, subst}
-use Rattle.std.specs.Prelude.{IfSome, IsOkUnless, alloc_error}
-use Rattle.std.specs.Io.KnownBytes.{Appends}
-use Rattle.io_edges.specs.Told.{AreLeft, AppendsStart, IfTold, TookOver}
+use Rattle.std.proofs.Common.{◌≡◌, ◌↔◌, ℕ, Option, Some, None, Result, Ok, Err, List, length, ap, subst}
+use Rattle.std.specs.Prelude.{IfSome}
+use Rattle.io_edges.specs.Told.{IfTold, TookOver}
 use Rattle.io_edges.specs.declared.stop.ReadStop.{ReadStop}
 use Rattle.io_edges.specs.declared.stop.ReadStop.TheVariants.{TooLong as ReadTooLong}
 use Rattle.self_id.specs.declared.standard.Standard.{Standard}

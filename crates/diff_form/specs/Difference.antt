@@ -8,7 +8,7 @@ use Rattle.capture_reading.specs.Line.{fault_line}
 use Rattle.bus_diff.specs.declared.pair.Pair.{Pair}
 use Rattle.bus_diff.specs.declared.change.Change.{Change}
 use Rattle.bus_diff.specs.Matching.{IsMatching}
-use Rattle.bus_diff.specs.Change.{AreChanges}
+use Rattle.bus_diff.specs.Listed.{changes}
 use Rattle.bus_diff.specs.Text.{changes_text}
 use Rattle.diff_form.specs.declared.outcome.Outcome.{Outcome}
 use Rattle.diff_form.specs.declared.outcome.Outcome.TheVariants.{Same, Differs, OldRefused, NewRefused, BothRefused}
@@ -18,11 +18,12 @@ abbrev pub IsReading : Standard → List ℕ → Result Tree CaptureFault → Ty
 IsReading standard bytes (Ok t) = Spells standard bytes t
 IsReading standard bytes (Err f) = CaptureRefused standard bytes f
 
--- exactly what differs between two buses, by a matching of their nodes
-pub record AreDifferences (old new : Tree) (changes : List Change) : Type 0 where
+-- the list of what differs between two buses, by a matching of their nodes; a bus doesn't differ from itself
+pub record AreDifferences (old new : Tree) (told : List Change) : Type 0 where
   pub pairs : List Pair
   pub matching : IsMatching old new pairs
-  pub are : AreChanges old new pairs changes
+  pub list : told ≡ changes old new pairs
+  pub same : old ≡ new → told ≡ []
 
 abbrev pub outcome_of : List Change → Outcome
 outcome_of [] = Same
@@ -30,10 +31,10 @@ outcome_of (change ∷ changes) = Differs
 
 -- the text of what differs between two buses, and whether something does
 pub record IsCompared (old new : Tree) (text : List ℕ) (outcome : Outcome) : Type 0 where
-  pub changes : List Change
-  pub told : AreDifferences old new changes
-  pub text_is : text ≡ changes_text changes
-  pub outcome_is : outcome ≡ outcome_of changes
+  pub told : List Change
+  pub differ : AreDifferences old new told
+  pub text_is : text ≡ changes_text told
+  pub outcome_is : outcome ≡ outcome_of told
 
 -- `NAME: refused pair P KIND`: the file of a capture, and the line of its fault
 unfoldable pub refusal : List ℕ → CaptureFault → List ℕ

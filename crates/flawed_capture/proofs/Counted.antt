@@ -1,5 +1,5 @@
 -- How many nodes a list shows that is refused.
-use Rattle.std.proofs.Common.{◌≡◌, ℕ, ◌+◌, ◌≤◌, List, [], ◌∷◌, ◌++◌, length, refl, ap, ◌∙◌, arith, length-append}
+use Rattle.std.proofs.Common.{◌≡◌, ℕ, ◌+◌, ◌<◌, ◌≤◌, List, [], ◌∷◌, ◌++◌, length, refl, ap, ◌∙◌, arith, length-append}
 use Rattle.self_id.specs.declared.fault.GroupFault.TheVariants.{NotSelfId, WrongId, BadOrder, Cut, TwoParents}
 use Rattle.self_id.specs.declared.standard.Standard.{Standard}
 use Rattle.self_id.specs.Node.{Node, IsNode}
@@ -7,7 +7,7 @@ use Rattle.self_id.specs.Group.{group, node_count}
 use Rattle.self_id.proofs.Lemmas.{node_count-append, node_count-group}
 use Rattle.topology_stack.specs.declared.fault.TreeFault.{TreeFault}
 use Rattle.topology_stack.specs.declared.fault.TreeFault.TheVariants.{Group, Empty, TooFewChildren, TreesLeft, AfterRoot, NoRoot, TooMany}
-use Rattle.topology_stack.specs.Tree.{Tree, branch, Slots, no_more, absent, unplugged, up, down, walk, walk_below, node_of, IsPart, AreParts, groups}
+use Rattle.topology_stack.specs.Tree.{Tree, branch, Slots, no_more, absent, unplugged, up, down, walk, walk_below, node_of, IsPart, AreParts, IsWhole, IsBusTreeOf, groups, emits}
 use Rattle.topology_stack.specs.Forest.{AreWaiting, walks, Forest}
 use Rattle.topology_stack.specs.Refused.{Refused, GroupNext}
 use Rattle.topology_stack.proofs.Lemmas.{some_node}
@@ -44,6 +44,20 @@ node_count-groups id (n ∷ ns) each few =
     let rest = node_count-groups (id + 1) ns each.1 (omega arith) in
     let first = node_count-group n id each.0.form (omega arith) in
     node_count-append (group n id) (groups (id + 1) ns) ∙ (rw (first, rest) (omega arith))
+
+-- a list that shows a node has a quadlet
+some_quad : (l : List ℕ) → 0 < node_count l → 0 < length l
+some_quad [] some = omega (arith, some)
+some_quad (q ∷ l) some = omega arith
+
+whole_shown : (t : Tree) → IsWhole t → AreShown (walk t)
+whole_shown (branch a s) h = shown-append (walk_below s) (node_of a s ∷ []) (parts_shown s h.2) (h.0, tt)
+
+-- so that of a bus tree has one
+pub some_emitted : (standard : Standard) (t : Tree) → IsBusTreeOf standard t → 0 < length (emits t)
+some_emitted standard t bus =
+    let counted = node_count-groups 0 (walk t) (whole_shown t bus.bus.whole) (omega (arith, bus.bus.small)) in
+    some_quad (emits t) (omega (arith, counted, some_node t))
 
 -- the nodes of trees that wait are all shown
 node_count-forest : (standard : Standard) (ts : List Tree) (front : List ℕ) → Forest standard ts front →

@@ -1,6 +1,8 @@
 //! Changes of a list that put a fault in.
-ghost use Rattle.std.specs.Prelude.{◌≡◌, ◌<◌, ◌≤◌, length, IfOk};
-ghost use Rattle.flawed_capture.specs.Spoilt.{IsSpoiltList, IsSpoilt};
+ghost use Rattle.std.specs.Prelude.{◌≡◌, ◌<◌, ◌≤◌, length, slice_set, IfOk};
+ghost use Rattle.self_id.specs.declared.standard.Standard.{Standard};
+ghost use Rattle.flawed_capture.specs.Flaw.{HasFlaw};
+ghost use Rattle.flawed_capture.specs.Spoilt.{EndsWithOther, IsFront, HasMore, HasOtherAndMore, IsSpoiltList, IsSpoilt, ComesAnywhere};
 
 use crate::flaw::Flaw;
 use quad_lanes::{capture_is_read_back, capture_of};
@@ -14,15 +16,6 @@ const UNPLUGGED: u32 = 0x5555_5555;
 const UP: u32 = 0xaaaa_aaaa;
 /// The bit that tells packet zero of a node from its further packets.
 const FURTHER: u32 = 0x0080_0000;
-
-/// A change of a list: a quadlet is replaced, the list ends at a place, and one more may follow there.
-#[derive(Clone, Copy, Debug)]
-struct Change {
-    at: usize,
-    quad: u32,
-    end: usize,
-    more: Option<u32>,
-}
 
 /// The bits of a self-ID packet's port fields. Of 1394a-2000's packet n = 1 five fields are ports.
 fn port_fields(standard: Standard, quad: u32) -> u32 {
@@ -47,97 +40,111 @@ fn without_parent(quad: u32, fields: u32) -> u32 {
     quad.wrapping_sub(parents)
 }
 
-/// The change of the packet at a place, or of the list's end there, that may put in a fault of a kind. The
-/// word says the rest.
-fn change_for(flaw: Flaw, standard: Standard, list: &[u32], at: usize, word: u32) -> Change
-    requires { at < length list.now }
-    ensures { result.at ≡ at }
-{
-    let quad = list[at];
-    let end = list.len();
-    let is_last = at + 1 == end;
+/// The quadlet that takes the place of a packet's for a fault of a kind. The word says the rest.
+fn other_quad(flaw: Flaw, standard: Standard, quad: u32, word: u32) -> u32 {
     let fields = port_fields(standard, quad);
-    let more = Some(word);
-    let none = Change {
-        at,
-        quad,
-        end,
-        more: None,
-    };
     match flaw {
-        Flaw::BadLength | Flaw::BadInverse => none,
-        Flaw::NotSelfId => Change {
-            quad: quad ^ (word % 3 + 1) * 0x4000_0000,
-            ..none
-        },
-        Flaw::WrongId => Change {
-            quad: quad ^ (word % 63 + 1) * 0x0100_0000,
-            ..none
-        },
-        Flaw::BadOrder => Change {
-            quad: quad ^ FURTHER,
-            ..none
-        },
-        Flaw::Cut => Change {
-            quad: quad | 1,
-            end: at + 1,
-            ..none
-        },
-        Flaw::TwoParents => Change {
-            quad: quad & !fields | UP & fields,
-            ..none
-        },
-        Flaw::Empty => Change { end: 0, ..none },
-        Flaw::TooFewChildren => Change {
-            quad: quad | fields,
-            ..none
-        },
-        Flaw::TreesLeft => Change {
-            quad: quad & !fields | UNPLUGGED & fields,
-            ..none
-        },
-        Flaw::AfterRoot if is_last => Change { more, ..none },
-        Flaw::AfterRoot => Change {
-            quad: without_parent(quad, fields),
-            ..none
-        },
-        Flaw::NoRoot if is_last => Change {
-            quad: with_parent(quad, fields),
-            ..none
-        },
-        Flaw::NoRoot => Change {
-            end: at + 1,
-            ..none
-        },
-        Flaw::TooMany => Change {
-            quad: with_parent(quad, fields),
-            more,
-            ..none
-        },
+        Flaw::BadLength | Flaw::BadInverse | Flaw::Empty => quad,
+        Flaw::NotSelfId => quad ^ (word % 3 + 1) * 0x4000_0000,
+        Flaw::WrongId => quad ^ (word % 63 + 1) * 0x0100_0000,
+        Flaw::BadOrder => quad ^ FURTHER,
+        Flaw::Cut => quad | 1,
+        Flaw::TwoParents => quad & !fields | UP & fields,
+        Flaw::TooFewChildren => quad | fields,
+        Flaw::TreesLeft => quad & !fields | UNPLUGGED & fields,
+        Flaw::AfterRoot => without_parent(quad, fields),
+        Flaw::NoRoot | Flaw::TooMany => with_parent(quad, fields),
     }
 }
 
-/// The list after a change.
-fn changed(alloc: Global, list: &[u32], change: Change) -> Result<Vec<u32>, OutOfMemory>
-    requires { change.at < length list.now }
-    ensures { IfOk result (λ spoilt. IsSpoiltList list.now spoilt.items) }
+/// The list with another quadlet at a place.
+fn with_other(alloc: Global, list: &[u32], at: usize, quad: u32) -> Result<Vec<u32>, OutOfMemory>
+    requires { at < length list.now }
+    ensures { IfOk result (λ spoilt. spoilt.items ≡ slice_set list.now at quad) }
 {
     let mut spoilt = Vec::from_slice(alloc, list)?;
-    spoilt[change.at] = change.quad;
-    spoilt.truncate(change.end);
-    if let Some(quad) = change.more {
-        spoilt.push(quad)?;
-    }
+    spoilt[at] = quad;
     Ok(spoilt)
+}
+
+/// The same, and the list ends after it.
+fn ended(alloc: Global, list: &[u32], at: usize, quad: u32) -> Result<Vec<u32>, OutOfMemory>
+    requires { at < length list.now }
+    ensures { IfOk result (λ spoilt. EndsWithOther list.now spoilt.items) }
+{
+    let mut spoilt = with_other(alloc, list, at, quad)?;
+    spoilt.truncate(at + 1);
+    Ok(spoilt)
+}
+
+/// The list up to a place.
+fn front_of(alloc: Global, list: &[u32], end: usize) -> Result<Vec<u32>, OutOfMemory>
+    ensures { IfOk result (λ spoilt. IsFront list.now spoilt.items) }
+{
+    let mut spoilt = Vec::from_slice(alloc, list)?;
+    spoilt.truncate(end);
+    Ok(spoilt)
+}
+
+/// The list with one quadlet more.
+fn with_more(alloc: Global, list: &[u32], more: u32) -> Result<Vec<u32>, OutOfMemory>
+    ensures { IfOk result (λ spoilt. HasMore list.now spoilt.items) }
+{
+    let mut spoilt = Vec::from_slice(alloc, list)?;
+    spoilt.push(more)?;
+    Ok(spoilt)
+}
+
+/// The list with another quadlet at a place, and one more.
+fn with_both(
+    alloc: Global,
+    list: &[u32],
+    at: usize,
+    quad: u32,
+    more: u32,
+) -> Result<Vec<u32>, OutOfMemory>
+    requires { at < length list.now }
+    ensures { IfOk result (λ spoilt. HasOtherAndMore list.now spoilt.items) }
+{
+    let mut spoilt = with_other(alloc, list, at, quad)?;
+    spoilt.push(more)?;
+    Ok(spoilt)
+}
+
+/// The list after the change at a place that may put in a fault of a kind.
+fn changed(
+    alloc: Global,
+    standard: Standard,
+    flaw: Flaw,
+    list: &[u32],
+    at: usize,
+    word: u32,
+) -> Result<Vec<u32>, OutOfMemory>
+    requires { at < length list.now }
+    ensures { IfOk result (λ spoilt. IsSpoiltList flaw list.now spoilt.items) }
+{
+    let quad = other_quad(flaw, standard, list[at], word);
+    let is_last = at + 1 == list.len();
+    match flaw {
+        Flaw::Empty => Ok(Vec::new(alloc)),
+        Flaw::Cut => ended(alloc, list, at, quad),
+        Flaw::NoRoot if !is_last => front_of(alloc, list, at + 1),
+        Flaw::AfterRoot if is_last => with_more(alloc, list, word),
+        Flaw::TooMany => with_both(alloc, list, at, quad, word),
+        _ => with_other(alloc, list, at, quad),
+    }
 }
 
 /// The bytes of a list's capture, cut off within the pair at a place.
 fn cut_capture(alloc: Global, list: &[u32], at: usize, word: u32) -> Result<Vec<u8>, OutOfMemory>
     requires at { at < length list.now }
     requires few { length list.now ≤ 252 }
-    ensures { IfOk result (λ bytes. IsSpoilt list.now bytes.items Flaw.BadLength) }
+    ensures spoilt { IfOk result (λ bytes. IsSpoilt list.now bytes.items Flaw.BadLength) }
+    ensures sure { IfOk result (λ bytes.
+        (standard : Standard) → HasFlaw standard bytes.items Flaw.BadLength) }
 {
     let mut bytes = capture_of(alloc, list)?;
+    capture_is_read_back();
     bytes.truncate(8 * at + 1 + word as usize % 7);
     Ok(bytes)
 }
@@ -166,14 +173,15 @@ pub(crate) fn spoilt_capture(
 ) -> Result<Vec<u8>, OutOfMemory>
     requires at { at < length list.now }
     requires few { length list.now ≤ 252 }
-    ensures { IfOk result (λ bytes. IsSpoilt list.now bytes.items flaw) }
+    ensures spoilt { IfOk result (λ bytes. IsSpoilt list.now bytes.items flaw) }
+    ensures sure { IfOk result (λ bytes.
+        ComesAnywhere flaw → HasFlaw standard bytes.items flaw) }
 {
     match flaw {
         Flaw::BadLength => cut_capture(alloc, list, at, word),
         Flaw::BadInverse => turned_capture(alloc, list, at, word),
         _ => {
-            let change = change_for(flaw, standard, list, at, word);
-            let spoilt = changed(alloc, list, change)?;
+            let spoilt = changed(alloc, standard, flaw, list, at, word)?;
             capture_of(alloc, &spoilt)
         }
     }

@@ -134,6 +134,9 @@ pub enum FlawStop {
     /// No list of so few nodes has the kind of fault: it wants this many.
     #[error("no list of fewer than {wanted} nodes has this kind of fault")]
     TooFewNodes { wanted: u8 },
+    /// The list that was made isn't the list of a bus with so many nodes. No list was seen that isn't one.
+    #[error("the made list is not that of a bus with so many nodes")]
+    NoBus,
     /// None of the changes that were tried of the list of the bus gave the kind of fault.
     #[error("no change that was tried of the made bus gave this kind of fault")]
     NotFound,

@@ -1,4 +1,4 @@
-//! Captures with a flaw: the list of a made bus, changed in one place so that it has a fault of a
+//! Captures with a flaw: the list of a made bus, changed so that it has a fault of a
 //! given kind (docs/VECTORS.md).
 #![tactic(auto)]
 

@@ -103,13 +103,15 @@ pub(crate) fn made_bus(
 ) -> Result<QuadList, FlawStop>
     requires { nodes ≤ 63 }
     ensures bus { IfOk result (λ list. IsListOfBus standard nodes list) }
+    ensures some { IfOk result (λ list. 0 < length list) }
     ensures few { IfOk result (λ list. length list ≤ 252) }
     ensures enough { (wanted : ℕ) → result ≡ Err (FlawStop.TooFewNodes wanted) → ⊥ }
+    ensures made { result ≡ Err FlawStop.NotFound → ⊥ }
 {
     let list = made_list(alloc, standard, nodes, words)?;
     match read_by(alloc, standard, list.as_slice()) {
         Ok(tree) if tree.len() == nodes => Ok(list),
         Err(TreeStop::Memory(error)) => Err(FlawStop::Memory(error)),
-        _ => Err(FlawStop::NotFound),
+        _ => Err(FlawStop::NoBus),
     }
 }

@@ -2,7 +2,9 @@
 #![tactic(auto)]
 
 mod form;
+mod status;
 mod written;
 
 pub use form::FlawedForm;
+pub use status::flawed_status;
 pub use written::{FlawedStop, write_flawed};

@@ -39,7 +39,7 @@ fn is_made(
     match flawed_capture(alloc, standard, flaw, nodes, seed) {
         Ok(bytes) => Ok(flaw_of(alloc, standard, &bytes)? == Some(flaw)),
         Err(FlawStop::TooFewNodes { wanted }) => Ok(nodes < wanted),
-        Err(FlawStop::NotFound) => Ok(false),
+        Err(FlawStop::NoBus | FlawStop::NotFound) => Ok(false),
         Err(FlawStop::Memory(error)) => Err(error.into()),
     }
 }
