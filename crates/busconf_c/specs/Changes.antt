@@ -1,6 +1,6 @@
 -- The records of what differs between two buses.
 -- Statuses: 1 refused, 2 no memory.
-use Rattle.std.specs.Prelude.{◌≡◌, ◌≢◌, ℕ, Option, Some, None, List, [], map}
+use Rattle.std.specs.Prelude.{◌≡◌, ◌≢◌, ℕ, Option, Some, None, List, map}
 use Rattle.topology_stack.specs.Tree.{Tree}
 use Rattle.view_text.specs.declared.cable.Cable.{Cable}
 use Rattle.bus_diff.specs.declared.pair.Pair.{Pair}
@@ -9,7 +9,7 @@ use Rattle.bus_diff.specs.declared.change.Change.TheVariants.{Went, Came, Moved,
 use Rattle.bus_diff.specs.declared.change.Quality.{Quality}
 use Rattle.bus_diff.specs.declared.change.Quality.TheVariants.{Link, Gap, Speed, Contender, Power}
 use Rattle.bus_diff.specs.Matching.{IsMatching}
-use Rattle.bus_diff.specs.Listed.{changes}
+use Rattle.bus_diff.specs.Change.{AreChanges}
 use Rattle.c_border.specs.Places.{IsCopied}
 use Rattle.c_records.specs.declared.records.FaultRecord.{FaultRecord}
 use Rattle.c_records.specs.Shown.{id_or_none}
@@ -71,12 +71,12 @@ change_record (Manager from to) = saying 10 (id_or_none from) (id_or_none to) 0 
 
 -- ---- what is told
 
--- the list of the changes between two trees is told, by some matching of their nodes, unless memory ran out; there
--- are none between a tree and itself
+-- exactly the changes between two trees are told, by some matching of their nodes, unless memory ran out
 pub data TellsChanges (old new : Tree) (before after : List ChangeRecord) (needed_before needed status : ℕ)
     : Type 0 where
-  told : (pairs : List Pair) → IsMatching old new pairs → (old ≡ new → changes old new pairs ≡ []) →
-      IsCopied (map change_record (changes old new pairs)) before after needed status →
+  told : (pairs : List Pair) (changes : List Change) → IsMatching old new pairs →
+      AreChanges old new pairs changes →
+      IsCopied (map change_record changes) before after needed status →
       TellsChanges old new before after needed_before needed status
   no_memory : after ≡ before → needed ≡ needed_before → status ≡ 2 →
       TellsChanges old new before after needed_before needed status
