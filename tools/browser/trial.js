@@ -204,7 +204,7 @@ async function trySizes() {
   expect("a trace of 300 KB", "the verdict", verdict(), TWO);
   showExample("hub");
   await takeFile(new File([new Uint8Array(MOST).fill(0x80)], "most.bin"));
-  expect("1,048,576 bytes", "the verdict", verdict(), "refused pair 0 BadInverse");
+  expect("1,048,576 bytes", "the verdict", verdict(), "refused pair 0 BadOrder");
   expect("1,048,576 bytes", "the rows", find("rows").children.length, MOST_ROWS + 1);
   showExample("hub");
   await takeFile(new File([new Uint8Array(2 * MOST)], "two.bin"));
@@ -214,7 +214,7 @@ async function trySizes() {
   type("80".repeat(MOST));
   expect("a long text", "the verdict", verdict(), `This text has ${2 * MOST} characters. This page reads ${MOST} at most.`);
   type("80".repeat(MOST / 2));
-  expect("262,144 quadlets alone", "the verdict", verdict().split(" ").slice(0, 3).join(" "), "refused pair 1");
+  expect("131,072 quadlets alone", "the verdict", verdict(), "refused pair 0 BadOrder");
   type(`self_ids={${"0x807f8094,".repeat(90000)}0x0}`);
   expect("90,001 numbers", "the verdict", verdict().split(" ")[0], "refused");
 }
