@@ -300,8 +300,11 @@ expect(registers.values() == before, "a lock past its width writes nothing")
 for view in (array.array("I", capture), memoryview(capture).cast("I"), bytearray(capture)):
     expect(busconf.read_capture(view) == bus, f"a capture as {type(view).__name__}")
 
-# Exceptions go from one process to another.
-for wrong in (lambda: busconf.read(quads[:1]), lambda: registers.allocate(31, 4915, seen)):
+# Exceptions go from one process to another. What was seen before an allocation isn't there behind it.
+others = busconf.Registers()
+seen = others.look()
+others.allocate(1, 1)
+for wrong in (lambda: busconf.read(quads[:1]), lambda: others.allocate(2, 1, seen)):
     try:
         wrong()
         bad.append("no exception")
