@@ -32,7 +32,7 @@ for_machine() {
 # proved call that has something before it gets a name of its own.
 object() {
   local made
-  made=$(mktemp -d)
+  made=$(mktemp -d -p "$scratch")
   (
     cd "$made"
     ar x "$(archive_of "$1" "$machine")"
@@ -44,7 +44,6 @@ object() {
     "${tool}ld" -r -o whole.o proved.o border.o
     "${tool}objcopy" --wildcard --keep-global-symbol='busconf_*' whole.o "$2"
   )
-  rm -rf "$made"
 }
 
 # Makes the object of the allocation functions.
@@ -75,10 +74,9 @@ has_memory() { awk '/^MemAvailable:/ { exit $2 < 12000000 }' /proc/meminfo; }
 # Whether the object of the calls without memory asks for no function but those that a C compiler may call by itself.
 try_heapless() {
   local made wanted
-  made=$(mktemp -d)
+  made=$(mktemp -d -p "$scratch")
   (cd "$made" && ar x "$1" heapless_c.o)
   wanted=$("${tool}nm" -u "$made/heapless_c.o" | awk '{ print $2 }' | grep -vxE 'memcpy|memmove|memset|memcmp|_GLOBAL_OFFSET_TABLE_' || true)
-  rm -rf "$made"
   [ -z "$wanted" ] || { echo "library: the calls without memory ask for" $wanted >&2; return 1; }
   echo "library: the calls without memory ask for no allocation function"
 }
@@ -90,7 +88,7 @@ build() {
   rm -f "$1.sources"
   mkdir -p "$1"
   into=$(cd "$1" && pwd)
-  made=$(mktemp -d)
+  made=$(mktemp -d -p "$scratch")
   archives
   for crate in "${crates[@]}"; do object "$crate" "$made/$crate.o"; done
   rm -f "$into/libbusconf.a" "$into/libbusconf.so" "$into/libbusconf.so.0"
@@ -98,7 +96,6 @@ build() {
   $cc -shared -Wl,-soname,libbusconf.so.0 -Wl,-z,relro,-z,now,-z,defs -o "$into/libbusconf.so.0" "$made"/*.o
   # Two names of one file, since rt takes no symbolic link below crates/.
   ln "$into/libbusconf.so.0" "$into/libbusconf.so"
-  rm -rf "$made"
 }
 
 # Compiles a file against the static library, by a compiler with words of its own, into a program.
@@ -361,16 +358,14 @@ case ${1-} in
   pc) pc "${2:?a prefix}" "${@:3}" ;;
   put) put "${2:?a folder}" "${3:?a folder}" "${4:?a prefix}" ;;
   install)
-    room=$(mktemp -d)
-    trap 'rm -rf "$room"' EXIT
+    room=$(mktemp -d -p "$scratch")
     build "$room"
     mkdir -p "${2:?a folder}"
     prefix=$(cd "$2" && pwd)
     put "$room" "$prefix" "$prefix"
     ;;
   speed | race)
-    room=$(mktemp -d)
-    trap 'rm -rf "$room"' EXIT
+    room=$(mktemp -d -p "$scratch")
     build "$room"
     program "$room/speed" "$top/tools/library/speed.c" cc -std=c99
     if [ "$1" = speed ]; then
@@ -382,8 +377,7 @@ case ${1-} in
     ;;
   test)
     for_machine "${2-x86_64}"
-    room=$(mktemp -d)
-    trap 'rm -rf "$room"' EXIT
+    room=$(mktemp -d -p "$scratch")
     run_tests
     ;;
   *)

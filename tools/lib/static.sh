@@ -4,6 +4,10 @@
 # isn't checked again for the next.
 . "$top/tools/lib/sources.sh"
 
+# All that is made on the way is in one folder, which is removed at the end, whatever the end.
+scratch=$(mktemp -d)
+trap 'rm -rf "$scratch"' EXIT
+
 # The kit's name of each machine.
 target_of() {
   case $1 in
@@ -72,7 +76,7 @@ prove() {
 # Runs a command, and shows what it wrote where it fails.
 quietly() {
   local log
-  log=$(mktemp)
+  log=$(mktemp -p "$scratch")
   "$@" >"$log" 2>&1 || { cat "$log" >&2; rm -f "$log"; exit 1; }
   rm -f "$log"
 }
