@@ -16,10 +16,10 @@ source_files() (
   find "${from[@]}" -regex "$unread" -prune -o -type f "$@" -print0 | LC_ALL=C sort -z
 )
 
-# A checksum of these files.
+# A checksum of these files, with words behind it of those of which find takes these words.
 sources_sum() (
   set -o pipefail
-  cd "$top" && source_files | xargs -0 -r sha256sum | sha256sum | cut -d' ' -f1
+  cd "$top" && source_files "$@" | xargs -0 -r sha256sum | sha256sum | cut -d' ' -f1
 )
 
 # The kit whose rt is on the PATH. It is what `rt version` says, and where the kit has it in a file, that takes less time.
