@@ -90,7 +90,7 @@ def agrees(files, standard, status, output):
         except ListFault as fault:
             refusals += f"{name}: {fault.line()}"
     if refusals:
-        return (status, output) == (1, refusals)
+        return (status, output) == (2, refusals)
     return status == (1 if output else 0) and check(*trees, output)
 
 

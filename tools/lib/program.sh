@@ -101,7 +101,7 @@ write_output() {
 # Looks at the words of a call by the list of forms: `files` gets the places of the words that name files, and `reads`
 # becomes `yes` where standard input is read. Words that are no form get neither.
 judge_words() {
-  local program word_of_form wants=() options='' own=0 pair=no optional=no input=no place=-1 word
+  local program word_of_form wants=() options='' ended=no own=0 pair=no optional=no input=no place=-1 word
   while read -r program word_of_form word; do
     [ "$program" = "$name" ] && [ "$word_of_form" = "${1-}" ] && read -r -a wants <<<"$word" && break
   done <"$top/tools/lib/forms"
@@ -117,7 +117,9 @@ judge_words() {
     place=$((place + 1))
     if [ "$place" = 0 ]; then
       continue
-    elif [ "${word:0:1}" = - ] && [ "$word" != - ]; then
+    elif [ "$ended$word" = no-- ]; then
+      ended=yes
+    elif [ "$ended" = no ] && [ "${word:0:1}" = - ] && [ "$word" != - ]; then
       [[ $options == *" $word "* ]] || { files=(); return; }
     elif [ "$own" -gt 0 ]; then
       own=$((own - 1))

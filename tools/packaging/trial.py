@@ -110,12 +110,12 @@ def cases_of(folder):
 
 def status_of(case, answer):
     """The status of a case, which its answer tells: none where the words are no form, something refused or garbled, or
-    else all is well. With `diff`, any answer says that something differs."""
+    else all is well. With `diff`, any answer says that something differs, or that a capture is refused."""
     path = os.path.relpath(case, os.path.join(TOP, "cases"))
     if not answer:
         return SILENT.get(path, 2)
     if path.startswith("busview/diff/"):
-        return 1
+        return 2 if b": refused pair " in answer else 1
     refused = rb'^refused |^line \d+ garbled|"refused":[{1-9]|"garbled":true'
     return 1 if re.search(refused, answer, re.M) else 0
 

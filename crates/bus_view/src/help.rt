@@ -20,16 +20,17 @@ busview flawed KIND N SEED  a capture that busconf read refuses by that fault
 busview resets [LOG ..]     the bus at each reset in a Linux kernel's trace
 busview nosy [DUMP ..]      the bus at each reset in a recording of nosy-dump
 busview diff OLD NEW        what differs between the buses of two captures
-busview --help, -h          this text; behind a form, what that form does
-busview --version           the version, its kit, and the standards
+busview --help, -h          this text; after a command, what that one does
+busview --version           the version, its kit and sources, the standards
 
 CAPTURE, SCRIPT, LOG and DUMP are files. Without one, and for -, standard input
-is read. Of several files each answer stands below a line with the file's name.
+is read. Of several files each answer comes after a line with the file's name.
 OLD and NEW are captures, of which one may be -.
 
-With --1995 behind packets, tree, dot, json, resets, nosy or diff self-ID
-packets are read by IEEE Std 1394-1995: up to 27 ports a node. With --json
-behind resets or nosy (and behind --1995) each reset is a line of JSON.
+With --1995, which packets, tree, dot, json, resets, nosy, diff and flawed take,
+self-ID packets are read by IEEE Std 1394-1995: up to 27 ports a node. With
+--json, which resets and nosy take, each reset is a line of JSON. Options may
+come anywhere after the command; -- ends them.
 
 A capture is the self-ID packets of one bus reset, each as a big-endian quadlet
 and its bitwise inverse. Input is at most 1,048,576 bytes; a log or a dump may
@@ -37,8 +38,8 @@ go on for as long as one likes.
 Answers, refusals too, go to standard output.
 
 Status: 0 the input is valid; with diff, nothing differs
-        1 the input is refused; with diff, or something differs
-        2 the words are none of these forms
+        1 the input is refused; with diff, something differs
+        2 the words are no command; with diff, or a capture is refused
         3 the input can't be read
         4 standard output can't be written
         5 there is no memory

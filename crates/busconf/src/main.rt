@@ -1,10 +1,11 @@
 //! The program `busconf`: its forms over files and the system's streams.
 #![tactic(auto)]
 
+mod help;
 mod say;
 mod words;
 
-use bus_cli::{Form, HELP, REFUSED, USAGE, bus_main};
+use bus_cli::{CaptureForm, Form, HELP, REFUSED, USAGE, bus_main};
 use io_edges::{ReadSource, WriteSink};
 use program_edges::{
     Call, FileCount, FrontSink, FrontSource, PipeWriter, Program, WordsFault, run,
@@ -48,8 +49,11 @@ impl Program for Busconf {
         HELP
     }
 
-    fn most_words() -> usize {
-        3
+    fn own_words(command: &str) -> usize {
+        match command {
+            "make" => 3,
+            _ => 1,
+        }
     }
 
     fn form_of(words: &[String]) -> Option<Form> {
@@ -64,14 +68,27 @@ impl Program for Busconf {
         }
     }
 
+    fn writes_bytes(form: &Form) -> bool {
+        *form == Form::Capture(CaptureForm::Maps)
+    }
+
     fn fault_of(words: &[String]) -> WordsFault<'_> {
         match words {
             [] => WordsFault::NoForm,
             [word, numbers @ ..] if word.as_str() == "make" => make_fault(numbers),
-            [word, ..] => WordsFault::UnknownForm {
+            [word, ..] => WordsFault::UnknownCommand {
+                program: "busconf",
                 word: word.as_str(),
             },
         }
+    }
+
+    fn options_of(_command: &str) -> &'static str {
+        ""
+    }
+
+    fn example_of(command: &str) -> &'static str {
+        help::example_of(command)
     }
 
     fn answer<R: Read + Drop>(rt: &HostRuntime, call: &Call<'_, Form>, name: &str, input: R) -> u8 {

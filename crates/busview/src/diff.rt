@@ -3,7 +3,7 @@
 use capture_hint::{hint_text, likeness_of};
 use diff_form::{DiffStop, Outcome, Side, diff_status, show_difference};
 use io_edges::{ReadSource, WriteSink, write_whole};
-use program_edges::{FrontSource, PipeWriter, Shown};
+use program_edges::{FrontSink, FrontSource, PipeWriter, Shown};
 use self_id::Standard;
 use std::io::{Read, Write};
 
@@ -26,8 +26,19 @@ fn say_hint(rt: &HostRuntime, begun: Begun<'_>) {
     }
 }
 
-/// The same of each capture that is refused.
-fn say_hints(rt: &HostRuntime, outcome: Outcome, old: Begun<'_>, new: Begun<'_>) {
+/// Says on standard error which capture is refused, as standard output does, since that may be a file; and of each
+/// that is refused what it looks like.
+fn say_refusals(
+    rt: &HostRuntime,
+    outcome: Outcome,
+    text: &[u8],
+    old: Begun<'_>,
+    new: Begun<'_>,
+) {
+    if !matches!(outcome, Outcome::Same | Outcome::Differs) {
+        let mut errors = WriteSink::new(rt.stderr());
+        let _ = write_whole(&mut errors, text);
+    }
     if matches!(outcome, Outcome::OldRefused | Outcome::BothRefused) {
         say_hint(rt, old);
     }
@@ -47,7 +58,7 @@ fn diff_into<R: Read + Drop, Q: Read + Drop, W: Write>(
 ) -> Result<Outcome, DiffStop> {
     let mut before = FrontSource::new(rt.alloc(), ReadSource::new(old));
     let mut after = FrontSource::new(rt.alloc(), ReadSource::new(new));
-    let mut sink = WriteSink::new(output);
+    let mut sink = FrontSink::new(rt.alloc(), WriteSink::new(output));
     let shown = show_difference(
         rt.alloc(),
         standard,
@@ -66,7 +77,7 @@ fn diff_into<R: Read + Drop, Q: Read + Drop, W: Write>(
             file: files.1,
             front: after.front(),
         };
-        say_hints(rt, outcome, old, new);
+        say_refusals(rt, outcome, sink.front(), old, new);
     }
     shown
 }

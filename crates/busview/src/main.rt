@@ -3,6 +3,7 @@
 
 mod diff;
 mod flawed;
+mod help;
 mod say;
 mod words;
 
@@ -81,8 +82,13 @@ impl Program for Busview {
         VIEW_HELP
     }
 
-    fn most_words() -> usize {
-        5
+    fn own_words(command: &str) -> usize {
+        match command {
+            "capture" => 2,
+            "script" => 3,
+            "flawed" => 4,
+            _ => 1,
+        }
     }
 
     fn form_of(words: &[String]) -> Option<Form> {
@@ -110,8 +116,20 @@ impl Program for Busview {
         }
     }
 
+    fn writes_bytes(form: &Form) -> bool {
+        matches!(form, Form::Flawed(_) | Form::View(ViewForm::ListOf(_)))
+    }
+
     fn fault_of(words: &[String]) -> WordsFault<'_> {
         words::fault_of(words)
+    }
+
+    fn options_of(command: &str) -> &'static str {
+        help::options_of(command)
+    }
+
+    fn example_of(command: &str) -> &'static str {
+        help::example_of(command)
     }
 
     fn answer<R: Read + Drop>(rt: &HostRuntime, call: &Call<'_, Form>, name: &str, input: R) -> u8 {

@@ -1,7 +1,7 @@
 //! What is wrong with words.
 
 use flawed_capture::Flaw;
-use program_edges::WordsFault;
+use program_edges::{WordsFault, nearest};
 use script_lines::number_of;
 
 /// Why these two words behind a form are no number of nodes and no seed.
@@ -31,14 +31,45 @@ fn script_fault(words: &[String]) -> WordsFault<'_> {
     }
 }
 
+/// The faults that a made capture can have.
+const KINDS: &[&str] = &[
+    "BadLength",
+    "BadInverse",
+    "NotSelfId",
+    "WrongId",
+    "BadOrder",
+    "Cut",
+    "TwoParents",
+    "Empty",
+    "TooFewChildren",
+    "TreesLeft",
+    "AfterRoot",
+    "NoRoot",
+    "TooMany",
+];
+
+/// Why this word is no fault of a capture.
+fn kind_fault(word: &str) -> WordsFault<'_> {
+    let form = "flawed";
+    match nearest(word, KINDS) {
+        Some(nearest) => WordsFault::Near {
+            form,
+            word,
+            wanted: "a fault of a capture",
+            nearest,
+        },
+        None => WordsFault::Misfit {
+            form,
+            word,
+            wanted: "a fault of a capture (man busview lists them)",
+        },
+    }
+}
+
 /// Why these words behind `flawed` are no fault, no number of nodes and no seed.
 fn flawed_fault(words: &[String]) -> WordsFault<'_> {
     match words {
-        [kind, ..] if Flaw::of_word(kind.as_str()).is_none() => WordsFault::Misfit {
-            form: "flawed",
-            word: kind.as_str(),
-            wanted: "a fault of a capture (man busview lists them)",
-        },
+        [kind, ..] if Flaw::of_word(kind.as_str()).is_none() => kind_fault(kind.as_str()),
         [_, nodes, seed, ..] => numbers_fault("flawed", nodes.as_str(), seed.as_str()),
         _ => WordsFault::Lacks {
             form: "flawed",
@@ -57,7 +88,7 @@ fn capture_fault(words: &[String]) -> WordsFault<'_> {
         },
         [] => WordsFault::Lacks {
             form: "capture",
-            words: "NAME, a node of the script,",
+            words: "NAME, a node of the script",
         },
     }
 }
@@ -71,6 +102,9 @@ pub(crate) fn fault_of(words: &[String]) -> WordsFault<'_> {
         "script" => script_fault(others),
         "flawed" => flawed_fault(others),
         "capture" => capture_fault(others),
-        word => WordsFault::UnknownForm { word },
+        word => WordsFault::UnknownCommand {
+            program: "busview",
+            word,
+        },
     }
 }

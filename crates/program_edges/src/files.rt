@@ -1,6 +1,6 @@
 //! The files that words name.
 ghost use Rattle.std.specs.Prelude.{◌≡◌, ◌↔◌, codes, IsOk, IsTrue};
-ghost use Rattle.program_edges.specs.Files.{AreFiles, AreTwoFiles, NamesFile};
+ghost use Rattle.program_edges.specs.Files.{AreTaken, AreTwoFiles, IsOption};
 
 use crate::words::WordsFault;
 
@@ -24,14 +24,14 @@ pub(crate) fn is_input(word: &str) -> bool
     word == "-"
 }
 
-/// Whether a word may name a file: `-`, which is standard input, or one that doesn't begin with `-`.
-fn names_file(word: &str) -> bool
-    ensures { IsTrue result ↔ NamesFile word.now }
+/// Whether a word is an option: it begins with `-`, and isn't `-` alone, which stands for standard input.
+pub(crate) fn is_option(word: &str) -> bool
+    ensures { IsTrue result ↔ IsOption word.now }
 {
-    is_input(word) || word.as_bytes().first() != Some(&b'-')
+    !is_input(word) && word.as_bytes().first() == Some(&b'-')
 }
 
-/// Judges the words behind a form of two files, each of which may name one.
+/// Judges the files of a form of two files.
 fn judge_two<'a>(form: &'a str, files: &'a [String]) -> Result<(), WordsFault<'a>>
     ensures { IsOk result ↔ AreTwoFiles files.now }
 {
@@ -48,19 +48,14 @@ fn judge_two<'a>(form: &'a str, files: &'a [String]) -> Result<(), WordsFault<'a
     }
 }
 
-/// Judges the words behind a form that takes so many files. It is `Ok` exactly where each of them may
-/// name a file and there are as many as the form takes.
+/// Judges how many files a form has that takes so many. It is `Ok` exactly if there are as many as it takes.
 pub(crate) fn judge_files<'a>(
     form: &'a str,
     files: &'a [String],
     count: FileCount,
 ) -> Result<(), WordsFault<'a>>
-    ensures { IsOk result ↔ AreFiles count files.now }
+    ensures { IsOk result ↔ AreTaken count files.now }
 {
-    if let Some(file) = files.iter().find(|file| !names_file(file.as_str())) {
-        let word = file.as_str();
-        return Err(WordsFault::UnknownOption { form, word });
-    }
     match count {
         FileCount::None if !files.is_empty() => Err(WordsFault::TakesNoFile { form }),
         FileCount::One if files.len() > 1 => Err(WordsFault::TakesOneFile { form }),

@@ -2,6 +2,8 @@
 //! something, and the way from file to file.
 #![tactic(auto)]
 
+mod call;
+mod commands;
 mod files;
 mod front;
 mod pipe;
@@ -9,9 +11,11 @@ mod program;
 mod shown;
 mod words;
 
+pub use call::Call;
+pub use commands::{BUSCONF, BUSVIEW, nearest};
 pub use files::FileCount;
 pub use front::{FrontSink, FrontSource};
 pub use pipe::PipeWriter;
-pub use program::{Call, Program, run};
+pub use program::{Program, run};
 pub use shown::Shown;
 pub use words::WordsFault;

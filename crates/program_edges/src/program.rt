@@ -1,10 +1,11 @@
 //! What a program does with its words: it answers a form over files, or over standard input.
 
-use crate::files::{FileCount, is_input, judge_files};
+use crate::call::{Call, sort_words};
+use crate::files::{FileCount, is_input};
 use crate::shown::Shown;
 use crate::words::{WordsFault, words_of};
 use std::fs;
-use std::io::{self, Read};
+use std::io::{self, IsTerminal, Read};
 use std::process::ExitCode;
 
 /// The status where an answer is whole.
@@ -18,16 +19,10 @@ const WRITE_FAULT: u8 = 4;
 /// The status where there is no memory.
 const NO_MEMORY: u8 = 5;
 
-/// A form that words ask for, its own words, and the files behind them.
-#[derive(Debug, Drop)]
-pub struct Call<'a, F> {
-    /// The form.
-    pub form: F,
-    /// The words of the form.
-    pub words: &'a [String],
-    /// The words behind them.
-    pub files: &'a [String],
-}
+/// What the help of a command says of the statuses.
+const STATUSES: &str = "\
+Status: 0 valid, 1 refused, 2 wrong words, 3 unreadable, 4 unwritable, 5 no memory, 6 too long
+";
 
 /// A program that answers words over inputs.
 pub trait Program {
@@ -43,17 +38,33 @@ pub trait Program {
     /// What it says of itself, with a line that begins with its name and the form for each form.
     fn help() -> &'static str;
 
-    /// The most words of a form.
-    fn most_words() -> usize;
+    /// How many words a command has with itself, without its options and files.
+    fn own_words(command: &str) -> usize;
 
-    /// The form of these words.
+    /// The form of these words: a command, its own words, and its options by the alphabet.
     fn form_of(words: &[String]) -> Option<Self::Form>;
 
     /// How many files a form takes.
     fn files_of(form: &Self::Form) -> FileCount;
 
-    /// Why words that begin with no form are none.
+    /// Whether a form writes bytes that are no text.
+    fn writes_bytes(form: &Self::Form) -> bool;
+
+    /// Why these words, which are no options, are no form.
     fn fault_of(words: &[String]) -> WordsFault<'_>;
+
+    /// The options of a command, a line each.
+    fn options_of(command: &str) -> &'static str;
+
+    /// An example of a command.
+    fn example_of(command: &str) -> &'static str;
+
+    /// Whether the program has such a command.
+    fn has_command(command: &str) -> bool {
+        Self::help()
+            .lines()
+            .any(|line| tells_of(line, Self::name(), command))
+    }
 
     /// Answers a call over one input, which messages call by this name, and answers the exit status.
     fn answer<R: Read + Drop>(
@@ -76,29 +87,25 @@ pub trait Program {
     }
 }
 
-/// The call that words ask for. The form's own words are as many of the first ones as are a form.
-fn call_of<P: Program>(words: &[String]) -> Result<Call<'_, P::Form>, WordsFault<'_>> {
-    for count in (1..=words.len().min(P::most_words())).rev() {
-        let (own, files) = words.split_at(count);
-        if let Some(form) = P::form_of(own) {
-            let name = words[0].as_str();
-            judge_files(name, files, P::files_of(&form))?;
-            return Ok(Call {
-                form,
-                words: own,
-                files,
-            });
-        }
-    }
-    Err(P::fault_of(words))
+/// Says why a file can't be read, and answers the exit status. A standard error that can't be written changes no status.
+fn unopened<P: Program>(rt: &HostRuntime, file: &str, error: &io::Error) -> u8 {
+    let (program, file) = (P::name(), Shown::new(file));
+    let _ = match error.kind() {
+        io::ErrorKind::NotFound => eprintln!(rt; "{program}: {file}: no such file"),
+        io::ErrorKind::PermissionDenied => eprintln!(rt; "{program}: {file}: no permission to read it"),
+        io::ErrorKind::IsADirectory => eprintln!(rt; "{program}: {file}: is a folder"),
+        _ => eprintln!(rt; "{program}: {file}: {error}"),
+    };
+    READ_FAULT
 }
 
-/// Says why a file couldn't be opened, and answers the exit status. A standard error that can't be written
-/// changes no status.
-fn unopened<P: Program>(rt: &HostRuntime, file: &str, error: io::Error) -> u8 {
-    let (program, file) = (P::name(), Shown::new(file));
-    let _ = eprintln!(rt; "{program}: {file}: {error}");
-    READ_FAULT
+/// Opens a file, unless it is a folder, of which nothing can be read.
+fn open(rt: &HostRuntime, file: &str) -> io::Result<fs::File> {
+    let input = fs::open(rt, file)?;
+    if input.metadata()?.is_dir() {
+        return Err(io::Error::from(io::ErrorKind::IsADirectory));
+    }
+    Ok(input)
 }
 
 /// The name by which messages call a file.
@@ -116,9 +123,9 @@ fn answer_file<P: Program>(rt: &HostRuntime, call: &Call<'_, P::Form>, file: &st
     if is_input(file) {
         return P::answer(rt, call, name, rt.stdin());
     }
-    match fs::open(rt, file) {
+    match open(rt, file) {
         Ok(input) => P::answer(rt, call, name, input),
-        Err(error) => unopened::<P>(rt, file, error),
+        Err(error) => unopened::<P>(rt, file, &error),
     }
 }
 
@@ -133,9 +140,9 @@ fn answer_second<P: Program, R: Read + Drop>(
     if is_input(files.1) {
         return P::answer_two(rt, call, names, first, rt.stdin());
     }
-    match fs::open(rt, files.1) {
+    match open(rt, files.1) {
         Ok(second) => P::answer_two(rt, call, names, first, second),
-        Err(error) => unopened::<P>(rt, files.1, error),
+        Err(error) => unopened::<P>(rt, files.1, &error),
     }
 }
 
@@ -144,9 +151,9 @@ fn answer_files<P: Program>(rt: &HostRuntime, call: &Call<'_, P::Form>, files: (
     if is_input(files.0) {
         return answer_second::<P, _>(rt, call, files, rt.stdin());
     }
-    match fs::open(rt, files.0) {
+    match open(rt, files.0) {
         Ok(first) => answer_second::<P, _>(rt, call, files, first),
-        Err(error) => unopened::<P>(rt, files.0, error),
+        Err(error) => unopened::<P>(rt, files.0, &error),
     }
 }
 
@@ -169,46 +176,46 @@ fn answer_each<P: Program>(rt: &HostRuntime, call: &Call<'_, P::Form>) -> u8 {
     greatest
 }
 
+/// Says that standard input is read, if it is a terminal, since the program would seem to hang.
+fn say_input<P: Program>(rt: &HostRuntime) {
+    if rt.stdin().is_terminal() {
+        let program = P::name();
+        let _ = eprintln!(rt; "{program}: reads what you type, up to the end (Ctrl-D)");
+    }
+}
+
 /// Answers a call over its files, or over standard input where there are none.
 fn answer_call<P: Program>(rt: &HostRuntime, call: &Call<'_, P::Form>) -> u8 {
     match (P::files_of(&call.form), call.files) {
         (FileCount::Two, [first, second]) => {
             answer_files::<P>(rt, call, (first.as_str(), second.as_str()))
         }
-        (_, []) => P::answer(rt, call, "standard input", rt.stdin()),
+        (FileCount::None, _) => P::answer(rt, call, "standard input", rt.stdin()),
+        (_, []) => {
+            say_input::<P>(rt);
+            P::answer(rt, call, "standard input", rt.stdin())
+        }
         _ => answer_each::<P>(rt, call),
     }
 }
 
-/// Whether a line of the program's help tells of this form.
-fn tells_of<P: Program>(line: &str, form: &str) -> bool {
+/// Whether a line of a program's help tells of this command.
+fn tells_of(line: &str, program: &str, command: &str) -> bool {
     let mut words = line.split(' ');
-    words.next() == Some(P::name()) && words.next() == Some(form)
+    words.next() == Some(program) && words.next() == Some(command)
 }
 
-/// Writes the lines of the program's help that tell of a form, and where more is said.
-fn write_form_help<P: Program>(rt: &HostRuntime, form: &str) -> io::Result<()> {
+/// Writes the lines of the program's help that tell of a command, its options and an example, the statuses, and where
+/// more is said.
+fn write_help<P: Program>(rt: &HostRuntime, command: &str) -> io::Result<()> {
+    let program = P::name();
     for line in P::help().lines() {
-        if tells_of::<P>(line, form) {
+        if tells_of(line, program, command) {
             println!(rt; "{line}")?;
         }
     }
-    let program = P::name();
-    println!(rt; "man {program} says more")
-}
-
-/// The form whose help these words ask for, if they ask for one.
-fn helped_form<P: Program>(words: &[String]) -> Option<&str> {
-    match words {
-        [form, word] if word.as_str() == "--help" || word.as_str() == "-h" => {
-            let form = form.as_str();
-            P::help()
-                .lines()
-                .any(|line| tells_of::<P>(line, form))
-                .then_some(form)
-        }
-        _ => None,
-    }
+    let (options, example) = (P::options_of(command), P::example_of(command));
+    println!(rt; "{options}Example: {example}\n{STATUSES}man {program} says more")
 }
 
 /// Says why there are no words, and answers the exit status: there was no memory for them, or one isn't UTF-8.
@@ -216,13 +223,32 @@ fn unworded<P: Program>(rt: &HostRuntime, error: io::Error) -> u8 {
     let program = P::name();
     // A standard error that can't be written changes no status.
     if error.kind() == io::ErrorKind::OutOfMemory {
-        let _ = eprintln!(rt; "{program}: out of memory");
-        return NO_MEMORY;
+        return no_memory::<P>(rt);
     }
     let _ = eprintln!(rt;
         "{program}: a word isn't UTF-8 (a file of such a name can be given on standard input)"
     );
     NO_FORM
+}
+
+/// Says that there is no memory, and answers the exit status.
+fn no_memory<P: Program>(rt: &HostRuntime) -> u8 {
+    let program = P::name();
+    let _ = eprintln!(rt; "{program}: out of memory");
+    NO_MEMORY
+}
+
+/// Says what is wrong with words, and answers the exit status. A standard error that can't be written changes no
+/// status.
+fn unanswered<P: Program>(rt: &HostRuntime, fault: WordsFault<'_>) -> u8 {
+    let (program, usage) = (P::name(), P::usage());
+    let _ = eprintln!(rt; "{program}: {fault}\n{usage}\n{program} --help says what each command does");
+    NO_FORM
+}
+
+/// Whether a form writes bytes and standard output is a terminal, on which they would do harm.
+fn harms_terminal<P: Program>(rt: &HostRuntime, form: &P::Form) -> bool {
+    P::writes_bytes(form) && rt.stdout().is_terminal()
 }
 
 /// Answers the words after the program's name, and answers the exit status.
@@ -231,22 +257,21 @@ fn status_of<P: Program>(rt: &HostRuntime) -> u8 {
         Ok(words) => words,
         Err(error) => return unworded::<P>(rt, error),
     };
-    if let Some(form) = helped_form::<P>(&words) {
-        return match write_form_help::<P>(rt, form) {
+    let Ok(words) = sort_words::<P>(rt.alloc(), words) else {
+        return no_memory::<P>(rt);
+    };
+    if let Some(command) = words.helped_command::<P>() {
+        return match write_help::<P>(rt, command) {
             Ok(()) => VALID,
             Err(_) => WRITE_FAULT,
         };
     }
-    match call_of::<P>(&words) {
-        Ok(call) => answer_call::<P>(rt, &call),
-        Err(fault) => {
-            let (program, usage) = (P::name(), P::usage());
-            // A standard error that can't be written changes no status.
-            let _ = eprintln!(rt;
-                "{program}: {fault}\n{usage}\n{program} --help says what each form does"
-            );
-            NO_FORM
+    match words.call::<P>() {
+        Ok(call) if harms_terminal::<P>(rt, &call.form) => {
+            unanswered::<P>(rt, WordsFault::WritesBytes)
         }
+        Ok(call) => answer_call::<P>(rt, &call),
+        Err(fault) => unanswered::<P>(rt, fault),
     }
 }
 

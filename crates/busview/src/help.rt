@@ -1,0 +1,43 @@
+//! What the help of a command says beside its line: its options, and an example.
+
+/// What `--1995` does.
+const BY_1995: &str = "\
+--1995  reads self-ID packets by IEEE Std 1394-1995: up to 27 ports a node
+";
+
+/// The options of a command that shows resets.
+const OF_RESETS: &str = "\
+--1995  reads self-ID packets by IEEE Std 1394-1995: up to 27 ports a node
+--json  writes a line of JSON for each reset
+";
+
+/// The options of a command.
+pub(crate) fn options_of(command: &str) -> &'static str {
+    match command {
+        "packets" | "tree" | "dot" | "json" | "flawed" | "diff" => BY_1995,
+        "resets" | "nosy" => OF_RESETS,
+        _ => "",
+    }
+}
+
+/// An example of a command, as it stands below `Example: `.
+pub(crate) fn example_of(command: &str) -> &'static str {
+    match command {
+        "packets" => "busview packets hub.capture",
+        "tree" => "busview tree hub.capture",
+        "dot" => "busview dot hub.capture | dot -Tsvg > hub.svg",
+        "json" => "busview json hub.capture | jq .root",
+        "trace" => "busview trace hub.script | less",
+        "waves" => "busview waves hub.script > hub.vcd; gtkwave hub.vcd",
+        "dot-run" => "busview dot-run hub.script | dot -Tsvg > hub.svg",
+        "json-run" => "busview json-run hub.script | jq .turn",
+        "explain" => "busview explain hub.script",
+        "capture" => "busview capture hub hub.script | busview tree",
+        "script" => "busview script 5 1 > five.script",
+        "flawed" => "busview flawed TwoParents 17 3 > my.capture",
+        "resets" => "journalctl -k | busview resets",
+        "nosy" => "nosy-dump > my.dump; busview nosy my.dump",
+        "diff" => "busview diff before.capture after.capture",
+        _ => "busview --help",
+    }
+}
