@@ -2,4 +2,4 @@
 
 /// The checksum (SHA-256) of the checksums of all sources but this file. `tools/version --write` writes it, and
 /// `tools/version --check` compares it with the sources as they are.
-pub const SOURCES: &str = "fb2885ff20be5d501d37b85c10f322d24db79e45c3d7973a3ed45025997f1618";
+pub const SOURCES: &str = "77a0896e802449391ffdb3f947e5f79e5262a23157ee198cd22ddd83be0fd29c";
