@@ -9,9 +9,10 @@ _busconf() {
     ;;
   busview:flawed\ *\ *\ *) words="--1995" ;;
   busconf:make* | busview:script* | busview:flawed* | busview:capture) ;;
-  busview:packets | busview:tree | busview:dot | busview:json | busview:diff) words="--1995" files=yes ;;
-  busview:resets | busview:nosy) words="--1995 --json" files=yes ;;
-  busview:resets\ --1995 | busview:nosy\ --1995) words="--json" files=yes ;;
+  busview:packets* | busview:tree* | busview:dot | busview:dot\ * | busview:json | busview:json\ *)
+    words="--1995" files=yes
+    ;;
+  busview:resets* | busview:nosy* | busview:diff*) words="--1995 --json" files=yes ;;
   *) files=yes ;;
   esac
   COMPREPLY=()

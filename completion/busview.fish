@@ -11,12 +11,10 @@ function __busview_words
         case 'script*' 'flawed*' capture
         case '*'
             switch "$before[2..]"
-                case packets tree dot json diff
+                case 'packets*' 'tree*' dot 'dot *' json 'json *'
                     echo --1995
-                case resets nosy
+                case 'resets*' 'nosy*' 'diff*'
                     printf '%s\n' --1995 --json
-                case 'resets --1995' 'nosy --1995'
-                    echo --json
             end
             __fish_complete_path (commandline -ct)
     end

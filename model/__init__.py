@@ -11,7 +11,7 @@ be; without it they may be those of both.
 
 is an output without the lines that aren't modelled: the sentence on a script's fault, and what bytes look like.
 
-    model.diffs.agrees(files, standard, status, output)
+    model.diffs.agrees(files, standard, status, output, as_json)
 
 is whether `busview diff` may answer so; see there.
 

@@ -5,6 +5,7 @@ both buses are one, the lines follow: `tell` writes them. `check` looks for the 
 there is one, each change is so of both buses, and nothing that differs is left out.
 """
 
+import json
 import re
 
 from .captures import manager_of, read_capture
@@ -81,8 +82,58 @@ def moved(node, there, before, after, old, new, now, was):
     return [f"{start} joined {place(after)}"] if fresh else []
 
 
-def agrees(files, standard, status, output):
+def hangs(word, at):
+    """Where a node hangs, as a line says it behind a word; nothing for the root."""
+    return f" {word} port {at['port']} of node {at['parent']} on its port {at['on']}" if at else ""
+
+
+def change_line(change):
+    """The line of a change that is told as JSON."""
+    kind, old, new = change["change"], change.get("old"), change.get("new")
+    if kind == "went":
+        return f"node {old} went" + hangs("from", change["from"])
+    if kind == "came":
+        return f"node {new} came" + hangs("to", change["to"])
+    if kind == "moved":
+        word = "moved from" if change["to"] and change["from"] else "left" if change["from"] else "joined"
+        both = change["from"] and change["to"]
+        return f"node {old} now {new}" + hangs(word, change["from"] or change["to"]) + (hangs("to", change["to"]) if both else "")
+    if kind in VALUES:
+        return f"node {old} now {new} {kind} {int(change['from'])} now {int(change['to'])}"
+    word = {"root": "root", "manager": "irm"}[kind]
+    return f"{word} old {'none' if old is None else old} new {'none' if new is None else new}"
+
+
+def refused_line(capture):
+    """The line of a capture that is told to be refused as JSON."""
+    refused = capture["refused"]
+    counts = "".join(f" {key} {refused[key]}" for key in ("found", "wanted") if key in refused)
+    return f"{capture['file']}: refused pair {refused['pair']} {refused['kind']}{counts}"
+
+
+def text_of(output):
+    """The lines of an answer as JSON; None if it isn't one line of the schema."""
+    value = json.loads(output)
+    if json.dumps(value, separators=(",", ":"), ensure_ascii=False) + "\n" != output or value.pop("schema") != 1:
+        return None
+    (kind, items), = value.items()
+    line_of = {"changes": change_line, "captures": refused_line}[kind]
+    return "".join(line_of(item) + "\n" for item in items)
+
+
+def status_of(output):
+    """The status that goes with an answer."""
+    if not output or output == '{"schema":1,"changes":[]}\n':
+        return 0
+    return 2 if ": refused pair " in output or output.startswith('{"schema":1,"captures":') else 1
+
+
+def agrees(files, standard, status, output, as_json=False):
     """Whether `diff` may answer so to two captures, each of which is a pair of a name and its bytes."""
+    if as_json:
+        output = text_of(output)
+        if output is None:
+            return False
     trees, refusals = [], ""
     for name, data in files:
         try:

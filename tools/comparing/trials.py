@@ -43,7 +43,7 @@ def trial(seed, number, kinds):
     if kind == "diff":
         pair, standard = captures.two_captures(words)
         names = words.choice([["old", "new"], ["-", "new"], ["old", "-"]])
-        return Trial(["diff"] + (["--1995"] if standard == "1995" else []) + names, pair)
+        return Trial(["diff"] + (["--1995"] if standard == "1995" else []) + words.choice([[], ["--json"]]) + names, pair)
     if words.random() < 0.03:
         # As long as an input may be, or a byte longer.
         return Trial([words.choice(["run", "trace", "read", "maps", "json", "rom"])], [b"#" * words.choice([1048576, 1048577])])
@@ -125,11 +125,12 @@ def of_diff(model, programs, words, inputs):
         found = programs.answer(words, next((data for name, data in files if name == "-"), b""), room)
     if found is None:
         return "no answer in time"
-    if not model.diffs.agrees(files, standard, found.status, found.output.decode(errors="replace")):
+    as_json = "--json" in words
+    if not model.diffs.agrees(files, standard, found.status, found.output.decode(errors="replace"), as_json):
         return f"status {found.status}, and this isn't so of both:\n{found.output.decode(errors='replace')}"
     # Which node initiated isn't compared.
     trees = [re.sub(rb"initiated \d", b"", model_answer(model, [READING[standard]], data)[1]) for data in inputs]
-    return "a bus and itself differ" if found.output and trees[0] == trees[1] and not trees[0].startswith(b"refused") else None
+    return "a bus and itself differ" if found.status and trees[0] == trees[1] and not trees[0].startswith(b"refused") else None
 
 
 def difference(model, programs, one):

@@ -1,10 +1,9 @@
 //! The form `diff`.
 
 use capture_hint::{hint_text, likeness_of};
-use diff_form::{DiffStop, Outcome, Side, diff_status, show_difference};
+use diff_form::{DiffForm, DiffStop, Outcome, Side, diff_status, show_difference};
 use io_edges::{ReadSource, WriteSink, write_whole};
 use program_edges::{FrontSink, FrontSource, PipeWriter, Shown};
-use self_id::Standard;
 use std::io::{Read, Write};
 
 /// The file of a capture, and how the capture begins.
@@ -50,7 +49,7 @@ fn say_refusals(
 /// Writes what differs between two captures.
 fn diff_into<R: Read + Drop, Q: Read + Drop, W: Write>(
     rt: &HostRuntime,
-    standard: Standard,
+    form: DiffForm,
     files: (&str, &str),
     old: R,
     new: Q,
@@ -61,10 +60,10 @@ fn diff_into<R: Read + Drop, Q: Read + Drop, W: Write>(
     let mut sink = FrontSink::new(rt.alloc(), WriteSink::new(output));
     let shown = show_difference(
         rt.alloc(),
-        standard,
-        files.0.as_bytes(),
+        form,
+        files.0,
         &mut before,
-        files.1.as_bytes(),
+        files.1,
         &mut after,
         &mut sink,
     );
@@ -103,14 +102,14 @@ fn explain(rt: &HostRuntime, names: (&str, &str), stop: DiffStop) {
 /// by these names.
 pub(crate) fn diff<R: Read + Drop, Q: Read + Drop>(
     rt: &HostRuntime,
-    standard: Standard,
+    form: DiffForm,
     files: (&str, &str),
     names: (&str, &str),
     old: R,
     new: Q,
 ) -> u8 {
     let mut output = PipeWriter::new(rt.stdout());
-    let shown = diff_into(rt, standard, files, old, new, &mut output);
+    let shown = diff_into(rt, form, files, old, new, &mut output);
     if let Err(stop) = shown {
         if !output.is_broken() {
             explain(rt, names, stop);

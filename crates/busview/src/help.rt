@@ -5,6 +5,12 @@ const BY_1995: &str = "\
 --1995  reads self-ID packets by IEEE Std 1394-1995: up to 27 ports a node
 ";
 
+/// The options of `diff`.
+const OF_DIFF: &str = "\
+--1995  reads self-ID packets by IEEE Std 1394-1995: up to 27 ports a node
+--json  writes one line of JSON
+";
+
 /// The options of a command that shows resets.
 const OF_RESETS: &str = "\
 --1995  reads self-ID packets by IEEE Std 1394-1995: up to 27 ports a node
@@ -14,7 +20,8 @@ const OF_RESETS: &str = "\
 /// The options of a command.
 pub(crate) fn options_of(command: &str) -> &'static str {
     match command {
-        "packets" | "tree" | "dot" | "json" | "flawed" | "diff" => BY_1995,
+        "packets" | "tree" | "dot" | "json" | "flawed" => BY_1995,
+        "diff" => OF_DIFF,
         "resets" | "nosy" => OF_RESETS,
         _ => "",
     }

@@ -10,7 +10,7 @@ mod words;
 use bus_cli::NO_FORM;
 use bus_view::{CaptureView, VIEW_HELP, VIEW_USAGE, ViewForm, view_main};
 use diff::diff;
-use diff_form::diff_standard;
+use diff_form::{DiffForm, diff_form};
 use flawed::flawed;
 use flawed_form::FlawedForm;
 use io_edges::{ReadSource, WriteSink};
@@ -18,7 +18,6 @@ use program_edges::{
     Call, FileCount, FrontSink, FrontSource, PipeWriter, Program, WordsFault, run,
 };
 use say::{explain, say_hints};
-use self_id::Standard;
 use std::io::{Read, Write};
 use std::process::ExitCode;
 
@@ -29,9 +28,8 @@ enum Form {
     View(ViewForm),
     /// `flawed`: a relation answers it, not one text, so it stands beside the top call.
     Flawed(FlawedForm),
-    /// `diff`: what differs between two captures by a standard. It has two inputs, so it stands beside the top
-    /// call.
-    Diff(Standard),
+    /// `diff`: what differs between two captures. It has two inputs, so it stands beside the top call.
+    Diff(DiffForm),
 }
 
 struct Busview;
@@ -95,8 +93,8 @@ impl Program for Busview {
         if let Some(form) = FlawedForm::of_words(words) {
             return Some(Form::Flawed(form));
         }
-        if let Some(standard) = diff_standard(words) {
-            return Some(Form::Diff(standard));
+        if let Some(form) = diff_form(words) {
+            return Some(Form::Diff(form));
         }
         Some(Form::View(ViewForm::of_words(words)?))
     }
@@ -149,9 +147,9 @@ impl Program for Busview {
         new: Q,
     ) -> u8 {
         match (&call.form, call.files) {
-            (Form::Diff(standard), [old_file, new_file]) => {
+            (Form::Diff(form), [old_file, new_file]) => {
                 let files = (old_file.as_str(), new_file.as_str());
-                diff(rt, *standard, files, names, old, new)
+                diff(rt, *form, files, names, old, new)
             }
             // No other form takes two files.
             _ => NO_FORM,

@@ -1,3 +1,4 @@
 pub mod Difference
 pub mod Form
 pub mod Status
+pub mod Written

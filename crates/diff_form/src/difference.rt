@@ -1,11 +1,14 @@
 //! What two captures come to.
-ghost use Rattle.std.specs.Prelude.{◌≡◌, ◌++◌, IfOk, OnOk};
+ghost use Rattle.std.specs.Prelude.{◌≡◌, IfOk};
 ghost use Rattle.diff_form.specs.declared.outcome.Outcome.{Outcome};
-ghost use Rattle.diff_form.specs.Difference.{IsReading, IsCompared, refusal, IsOfReadings, IsDifference};
+ghost use Rattle.diff_form.specs.Difference.{IsReading, shown_changes, IsCompared, IsOfReadings, IsDifference};
 
+use crate::form::DiffForm;
 use crate::outcome::{Outcome, outcome_of};
-use bus_diff::{changes_text, compare};
-use capture_reading::{CaptureFault, CaptureStop, fault_line, read_capture};
+use crate::refused::{shown_refusal, shown_refusals};
+use bus_diff::{Change, changes_text, compare};
+use capture_reading::{CaptureFault, CaptureStop, read_capture};
+use diff_json::changes_line;
 use self_id::Standard;
 use std::alloc::Global;
 use topology_stack::{BusTree, OutOfMemory};
@@ -32,94 +35,77 @@ fn reading_of(
     }
 }
 
+/// What is written of changes.
+fn shown_changes(
+    alloc: Global,
+    form: DiffForm,
+    changes: &[Change],
+) -> Result<Vec<u8>, OutOfMemory>
+    ensures { IfOk result (λ text. text.items ≡ shown_changes form changes.now) }
+{
+    match form {
+        DiffForm::Text(_) => changes_text(alloc, changes),
+        DiffForm::Json(_) => changes_line(alloc, changes),
+    }
+}
+
 /// What differs between two buses.
-fn compared(alloc: Global, old: &BusTree, new: &BusTree) -> Result<Difference, OutOfMemory>
-    ensures { IfOk result (λ d. IsCompared old.now new.now d.text.items d.outcome) }
+fn compared(
+    alloc: Global,
+    form: DiffForm,
+    old: &BusTree,
+    new: &BusTree,
+) -> Result<Difference, OutOfMemory>
+    ensures { IfOk result (λ d. IsCompared form old.now new.now d.text.items d.outcome) }
 {
     let found = compare(alloc, old, new)?;
     let outcome = outcome_of(&found.changes);
-    let text = changes_text(alloc, &found.changes)?;
+    let text = shown_changes(alloc, form, &found.changes)?;
     Ok(Difference { text, outcome })
-}
-
-/// Appends why the capture in the file of this name is refused.
-#[tactic(auto, unfolding(crate::specs::Difference::refusal))]
-fn put_refusal(out: &mut Vec<u8>, name: &[u8], fault: CaptureFault) -> Result<(), OutOfMemory>
-    ensures { OnOk result (out.new.items ≡ out.old.items ++ refusal name.now fault) }
-{
-    out.extend_from_slice(name)?;
-    out.extend_from_slice(b": ")?;
-    out.extend_from_slice(fault_line(fault).as_bytes())?;
-    Ok(())
-}
-
-/// Why one capture is refused.
-fn one_refused(alloc: Global, name: &[u8], fault: CaptureFault) -> Result<Vec<u8>, OutOfMemory>
-    ensures { IfOk result (λ text. text.items ≡ refusal name.now fault) }
-{
-    let mut text = Vec::new(alloc);
-    put_refusal(&mut text, name, fault)?;
-    Ok(text)
-}
-
-/// Why both captures are refused.
-fn both_refused(
-    alloc: Global,
-    old_name: &[u8],
-    new_name: &[u8],
-    old: CaptureFault,
-    new: CaptureFault,
-) -> Result<Vec<u8>, OutOfMemory>
-    ensures { IfOk result (λ text. text.items
-        ≡ refusal old_name.now old ++ refusal new_name.now new) }
-{
-    let mut text = Vec::new(alloc);
-    put_refusal(&mut text, old_name, old)?;
-    put_refusal(&mut text, new_name, new)?;
-    Ok(text)
 }
 
 /// What two captures that are read so come to.
 fn of_readings(
     alloc: Global,
-    old_name: &[u8],
-    new_name: &[u8],
+    form: DiffForm,
+    old_name: &str,
+    new_name: &str,
     old: Result<BusTree, CaptureFault>,
     new: Result<BusTree, CaptureFault>,
 ) -> Result<Difference, OutOfMemory>
     ensures { IfOk result (λ d.
-        IsOfReadings old_name.now new_name.now old new d.text.items d.outcome) }
+        IsOfReadings form old_name.now new_name.now old new d.text.items d.outcome) }
 {
     match (old, new) {
-        (Ok(old), Ok(new)) => compared(alloc, &old, &new),
+        (Ok(old), Ok(new)) => compared(alloc, form, &old, &new),
         (Err(fault), Ok(_)) => Ok(Difference {
-            text: one_refused(alloc, old_name, fault)?,
+            text: shown_refusal(alloc, form, old_name, fault)?,
             outcome: Outcome::OldRefused,
         }),
         (Ok(_), Err(fault)) => Ok(Difference {
-            text: one_refused(alloc, new_name, fault)?,
+            text: shown_refusal(alloc, form, new_name, fault)?,
             outcome: Outcome::NewRefused,
         }),
         (Err(old), Err(new)) => Ok(Difference {
-            text: both_refused(alloc, old_name, new_name, old, new)?,
+            text: shown_refusals(alloc, form, old_name, new_name, old, new)?,
             outcome: Outcome::BothRefused,
         }),
     }
 }
 
-/// What the captures `old` and `new`, in files of these names, come to by a standard.
+/// What the captures `old` and `new`, in files of these names, come to in a form.
 pub(crate) fn difference_of(
     alloc: Global,
-    standard: Standard,
-    old_name: &[u8],
+    form: DiffForm,
+    old_name: &str,
     old: &[u8],
-    new_name: &[u8],
+    new_name: &str,
     new: &[u8],
 ) -> Result<Difference, OutOfMemory>
-    ensures { IfOk result (λ d. IsDifference standard
+    ensures { IfOk result (λ d. IsDifference form
         old_name.now new_name.now old.now new.now d.text.items d.outcome) }
 {
-    let old_read = reading_of(alloc, standard, old)?;
-    let new_read = reading_of(alloc, standard, new)?;
-    of_readings(alloc, old_name, new_name, old_read, new_read)
+    let old_read = reading_of(alloc, form.standard(), old)?;
+    let new_read = reading_of(alloc, form.standard(), new)?;
+    of_readings(alloc, form, old_name, new_name, old_read, new_read)
 }

@@ -4,11 +4,12 @@
 mod difference;
 mod form;
 mod outcome;
+mod refused;
 mod show;
 mod status;
 mod stop;
 
-pub use form::diff_standard;
+pub use form::{DiffForm, diff_form};
 pub use outcome::{Outcome, Side};
 pub use show::show_difference;
 pub use status::diff_status;
