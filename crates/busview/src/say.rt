@@ -6,6 +6,12 @@ use capture_hint::{begins_capture, hint_text, likeness_of, other_hint};
 use io_edges::{WriteSink, write_whole};
 use program_edges::Shown;
 use reset_log::LogForm;
+use script_lines::number_of;
+use std::str;
+use topology_stack::Name;
+
+/// How many bytes of an input are kept.
+const KEPT: usize = 8_192;
 
 /// All that is shown of a log without an event.
 const NO_EVENTS: &[u8] = b"resets 0 refused 0 cards 0\n";
@@ -57,7 +63,7 @@ fn why_no_event(front: &[u8]) -> &'static str {
     } else if has(front, b"self_id_sequence:") {
         "busview: no line of this log is an event bus_reset_handle or self_id_complete; self_id_sequence is passed over, since it has no whole list (docs/CAPTURES.md)"
     } else {
-        "busview: no line of this log is an event bus_reset_handle or self_id_complete (docs/CAPTURES.md says how to switch them on)"
+        "busview: no line of this log is an event bus_reset_handle or self_id_complete, or a packet of the OHCI driver's log (docs/CAPTURES.md says how to switch them on)"
     }
 }
 
@@ -108,6 +114,40 @@ fn hint_of(form: &ViewForm, front: &[u8]) -> &'static [u8] {
     }
 }
 
+/// How many lines a text has.
+fn lines_of(text: &[u8]) -> usize {
+    let ended = text.iter().filter(|byte| **byte == b'\n').count();
+    match text.last() {
+        None | Some(b'\n') => ended,
+        Some(_) => ended.saturating_add(1),
+    }
+}
+
+/// The number of the line that a script's refusal names, and the kind of its fault.
+fn refused_line(refusal: &[u8]) -> Option<(u32, &[u8])> {
+    let mut words = refusal
+        .strip_prefix(b"refused line ")?
+        .split(|byte| matches!(*byte, b' ' | b'\n'));
+    let number = number_of(words.next()?)?;
+    Some((number, words.next()?))
+}
+
+/// Says on standard error that the node that a call names is at fault, and not a line of the script: the refusal names
+/// the line after the script's last one. That is known only of a script that is kept whole.
+fn say_node(rt: &HostRuntime, name: &Name, script: &[u8], refusal: &[u8]) {
+    let Some((line, kind)) = refused_line(refusal) else {
+        return;
+    };
+    if script.len() >= KEPT || line as usize != lines_of(script).saturating_add(1) {
+        return;
+    }
+    let name = str::from_utf8(name.as_bytes()).unwrap_or("");
+    let _ = match kind {
+        b"NoNode" => eprintln!(rt; "busview: capture: the script has no node {name}"),
+        _ => eprintln!(rt; "busview: capture: the bus of {name} is no tree at the end of the script"),
+    };
+}
+
 /// Says on standard error what input looks like that was refused, with the refusal where another program reads
 /// standard output; and why a log has no event, and a dump no reset. The input and the output began so.
 pub(crate) fn say_hints(
@@ -123,6 +163,9 @@ pub(crate) fn say_hints(
     }
     if status == REFUSED {
         let _ = write_whole(&mut errors, hint_of(form, input));
+        if let ViewForm::ListOf(name) = form {
+            say_node(rt, name, input, output);
+        }
     }
     if has_no_event(form, output) {
         put_no_event(rt, input);
