@@ -27,13 +27,7 @@ fn say_hint(rt: &HostRuntime, begun: Begun<'_>) {
 
 /// Says on standard error which capture is refused, as standard output does, since that may be a file; and of each
 /// that is refused what it looks like.
-fn say_refusals(
-    rt: &HostRuntime,
-    outcome: Outcome,
-    text: &[u8],
-    old: Begun<'_>,
-    new: Begun<'_>,
-) {
+fn say_refusals(rt: &HostRuntime, outcome: Outcome, text: &[u8], old: Begun<'_>, new: Begun<'_>) {
     if !matches!(outcome, Outcome::Same | Outcome::Differs) {
         let mut errors = WriteSink::new(rt.stderr());
         let _ = write_whole(&mut errors, text);

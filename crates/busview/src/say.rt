@@ -144,7 +144,9 @@ fn say_node(rt: &HostRuntime, name: &Name, script: &[u8], refusal: &[u8]) {
     let name = str::from_utf8(name.as_bytes()).unwrap_or("");
     let _ = match kind {
         b"NoNode" => eprintln!(rt; "busview: capture: the script has no node {name}"),
-        _ => eprintln!(rt; "busview: capture: the bus of {name} is no tree at the end of the script"),
+        _ => eprintln!(rt;
+            "busview: capture: the bus of {name} is no tree at the end of the script"
+        ),
     };
 }
 

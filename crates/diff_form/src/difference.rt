@@ -36,11 +36,7 @@ fn reading_of(
 }
 
 /// What is written of changes.
-fn shown_changes(
-    alloc: Global,
-    form: DiffForm,
-    changes: &[Change],
-) -> Result<Vec<u8>, OutOfMemory>
+fn shown_changes(alloc: Global, form: DiffForm, changes: &[Change]) -> Result<Vec<u8>, OutOfMemory>
     ensures { IfOk result (λ text. text.items ≡ shown_changes form changes.now) }
 {
     match form {

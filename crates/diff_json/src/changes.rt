@@ -31,11 +31,7 @@ fn put_place(out: &mut JsonText, cable: Option<Cable>) -> Result<(), OutOfMemory
 }
 
 /// Writes the member of this name that is where a node hangs.
-fn put_place_member(
-    out: &mut JsonText,
-    name: &str,
-    cable: Option<Cable>,
-) -> Result<(), OutOfMemory>
+fn put_place_member(out: &mut JsonText, name: &str, cable: Option<Cable>) -> Result<(), OutOfMemory>
     ensures { OnOk result (out.new
         ≡ out.old ++ key name.now ∷ json_tokens (place_value cable)) }
 {

@@ -5,8 +5,8 @@ pub const BUSCONF: &[&str] = &["run", "advice", "read", "read95", "maps", "rom",
 
 /// The commands of `busview`.
 pub const BUSVIEW: &[&str] = &[
-    "packets", "tree", "dot", "json", "trace", "waves", "dot-run", "json-run", "explain", "capture",
-    "script", "flawed", "resets", "nosy", "diff",
+    "packets", "tree", "dot", "json", "trace", "waves", "dot-run", "json-run", "explain",
+    "capture", "script", "flawed", "resets", "nosy", "diff",
 ];
 
 /// The words that ask a program for something of itself.
@@ -46,7 +46,11 @@ fn undashed(word: &str) -> &[u8] {
 
 /// Whether two texts are the same but for capitals.
 fn are_same(one: &[u8], other: &[u8]) -> bool {
-    one.len() == other.len() && one.iter().zip(other.iter()).all(|(a, b)| a.eq_ignore_ascii_case(b))
+    one.len() == other.len()
+        && one
+            .iter()
+            .zip(other.iter())
+            .all(|(a, b)| a.eq_ignore_ascii_case(b))
 }
 
 /// Whether two texts that begin with other letters are the same but for the first letter of one or of both, or but for
@@ -54,10 +58,7 @@ fn are_same(one: &[u8], other: &[u8]) -> bool {
 fn differ_once(one: &[u8], other: &[u8]) -> bool {
     match (one, other) {
         ([a, b, cs @ ..], [c, d, ds @ ..])
-            if a.eq_ignore_ascii_case(d) && b.eq_ignore_ascii_case(c) =>
-        {
-            are_same(cs, ds)
-        }
+            if a.eq_ignore_ascii_case(d) && b.eq_ignore_ascii_case(c) => { are_same(cs, ds) }
         ([_, cs @ ..], [_, ds @ ..]) => {
             are_same(cs, ds) || are_same(one, ds) || are_same(cs, other)
         }

@@ -92,7 +92,9 @@ fn unopened<P: Program>(rt: &HostRuntime, file: &str, error: &io::Error) -> u8 {
     let (program, file) = (P::name(), Shown::new(file));
     let _ = match error.kind() {
         io::ErrorKind::NotFound => eprintln!(rt; "{program}: {file}: no such file"),
-        io::ErrorKind::PermissionDenied => eprintln!(rt; "{program}: {file}: no permission to read it"),
+        io::ErrorKind::PermissionDenied => eprintln!(rt;
+            "{program}: {file}: no permission to read it"
+        ),
         io::ErrorKind::IsADirectory => eprintln!(rt; "{program}: {file}: is a folder"),
         _ => eprintln!(rt; "{program}: {file}: {error}"),
     };
@@ -242,7 +244,9 @@ fn no_memory<P: Program>(rt: &HostRuntime) -> u8 {
 /// status.
 fn unanswered<P: Program>(rt: &HostRuntime, fault: WordsFault<'_>) -> u8 {
     let (program, usage) = (P::name(), P::usage());
-    let _ = eprintln!(rt; "{program}: {fault}\n{usage}\n{program} --help says what each command does");
+    let _ = eprintln!(rt;
+        "{program}: {fault}\n{usage}\n{program} --help says what each command does"
+    );
     NO_FORM
 }
 
