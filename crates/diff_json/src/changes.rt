@@ -108,7 +108,8 @@ fn put_went(out: &mut JsonText, id: u8, cable: Option<Cable>) -> Result<(), OutO
     out.string_member("change", "went")?;
     out.number_member("old", u64::from(id))?;
     put_place_member(out, "from", cable)?;
-    out.close_object()
+    out.close_object()?;
+    Ok(())
 }
 
 /// Writes that a node came.
@@ -119,7 +120,8 @@ fn put_came(out: &mut JsonText, id: u8, cable: Option<Cable>) -> Result<(), OutO
     out.string_member("change", "came")?;
     out.number_member("new", u64::from(id))?;
     put_place_member(out, "to", cable)?;
-    out.close_object()
+    out.close_object()?;
+    Ok(())
 }
 
 /// Writes that a node hangs elsewhere.
@@ -137,7 +139,8 @@ fn put_moved(
     put_pair(out, pair)?;
     put_place_member(out, "from", from)?;
     put_place_member(out, "to", to)?;
-    out.close_object()
+    out.close_object()?;
+    Ok(())
 }
 
 /// Writes that a node says something else of itself.
@@ -156,7 +159,8 @@ fn put_value(
     put_pair(out, pair)?;
     put_quality_member(out, "from", quality, from)?;
     put_quality_member(out, "to", quality, to)?;
-    out.close_object()
+    out.close_object()?;
+    Ok(())
 }
 
 /// Writes that another node is the root.
@@ -167,7 +171,8 @@ fn put_root(out: &mut JsonText, from: u8, to: u8) -> Result<(), OutOfMemory>
     out.string_member("change", "root")?;
     out.number_member("old", u64::from(from))?;
     out.number_member("new", u64::from(to))?;
-    out.close_object()
+    out.close_object()?;
+    Ok(())
 }
 
 /// Writes that another node is the isochronous resource manager.
@@ -179,7 +184,8 @@ fn put_manager(out: &mut JsonText, from: Option<u8>, to: Option<u8>) -> Result<(
     out.string_member("change", "manager")?;
     put_manager_member(out, "old", from)?;
     put_manager_member(out, "new", to)?;
-    out.close_object()
+    out.close_object()?;
+    Ok(())
 }
 
 /// Writes a change.

@@ -66,18 +66,23 @@ fn differ_once(one: &[u8], other: &[u8]) -> bool {
     }
 }
 
+/// With how many letters two texts begin alike.
+fn alike(one: &[u8], other: &[u8]) -> usize {
+    for (at, (a, b)) in one.iter().zip(other.iter()).enumerate() {
+        if !a.eq_ignore_ascii_case(b) {
+            return at;
+        }
+    }
+    one.len().min(other.len())
+}
+
 /// Whether two texts of two letters or more are the same, or differ once.
 fn is_near(one: &[u8], other: &[u8]) -> bool {
     if one.len() < 2 {
         return false;
     }
-    let (mut left, mut right) = (one, other);
-    while let ([a, cs @ ..], [b, ds @ ..]) = (left, right) {
-        if !a.eq_ignore_ascii_case(b) {
-            return differ_once(left, right);
-        }
-        left = cs;
-        right = ds;
-    }
+    let front = alike(one, other);
+    let (_, left) = one.split_at(front.min(one.len()));
+    let (_, right) = other.split_at(front.min(other.len()));
     differ_once(left, right)
 }

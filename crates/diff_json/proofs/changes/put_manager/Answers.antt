@@ -1,0 +1,6 @@
+use Rattle.std.proofs.Common.{append_assoc}
+use Rattle.diff_json.proofs.changes.put_manager.Goals as goal
+
+pub returns : goal.returns
+returns c =
+    simp (c.in_ok-close_object.ensures, c.in_ok-put_manager_member-2.ensures, c.in_ok-put_manager_member.ensures, c.in_ok-string_member.ensures, c.in_ok-open_object.ensures, append_assoc)
