@@ -109,7 +109,7 @@ best_same from B C best back to b = record {
 abbrev IsTried : Tree → ℕ → ℕ → Pair → Type 0
 IsTried u id other p = (p.new < length (walk u)) × ((p.old < id) ⊎ ((p.old ≡ id) × (p.new < other)))
 
-pair_is : (p : Pair) (a b : ℕ) → p.old ≡ a → p.new ≡ b → p ≡ record { old = a; new = b }
+pub pair_is : (p : Pair) (a b : ℕ) → p.old ≡ a → p.new ≡ b → p ≡ record { old = a; new = b }
 pair_is p a b e f = rw (sym e, sym f) refl
 
 tried_cases : (u : Tree) (id k : ℕ) (p : Pair) → IsTried u id (suc k) p →

@@ -7,3 +7,6 @@ pub mod Room
 pub mod Steps
 pub mod Whole
 mod Same
+mod Rising
+mod Walked
+mod Closed

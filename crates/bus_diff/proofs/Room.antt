@@ -21,7 +21,7 @@ or_assoc : (a b c : Bool) → (a || (b || c)) ≡ ((a || b) || c)
 or_assoc true b c = refl
 or_assoc false b c = refl
 
-any_push : (of : Pair → ℕ) (ps : List Pair) (x : Pair) (k : ℕ) →
+pub any_push : (of : Pair → ℕ) (ps : List Pair) (x : Pair) (k : ℕ) →
     list_any (λ p. of p == k) (ps ++ x ∷ []) ≡ (list_any (λ p. of p == k) ps || (of x == k))
 any_push of [] x k = or_nothing (of x == k)
 any_push of (p ∷ ps) x k =
@@ -114,3 +114,20 @@ reached_few t u far over start =
     let olds : length (reached t u far over start) + left (λ p. p.old) (reached t u far over start) (length (walk t)) ≡ length (walk t) = r.olds in
     let news : length (reached t u far over start) + left (λ p. p.new) (reached t u far over start) (length (walk u)) ≡ length (walk u) = r.news in
     omega (arith, olds, news)
+
+left_nothing : (of : Pair → ℕ) (ps : List Pair) (n : ℕ) →
+    ((k : ℕ) → k < n → list_any (λ p. of p == k) ps ≡ true) → left of ps n ≡ 0
+left_nothing of ps zero all = refl
+left_nothing of ps (suc k) all =
+    let rest : left of ps k ≡ 0 = left_nothing of ps k (λ j lt. all j (omega (arith, lt))) in
+    rw (rest, all k (omega arith)) refl
+
+-- where each node of the old bus is reached, as many are as there are
+pub reached_all : (t u : Tree) (far over : List Cable) (start : Pair) →
+    ((k : ℕ) → k < length (walk t) → list_any (λ p. p.old == k) (reached t u far over start) ≡ true) →
+    length (reached t u far over start) ≡ length (walk t)
+reached_all t u far over start all =
+    let r = walked_keeps t u (HasRoom t u) (room_with t u) far (with_pair t u [] start) over (room_with t u [] start (room_none t u)) in
+    let olds : length (reached t u far over start) + left (λ p. p.old) (reached t u far over start) (length (walk t)) ≡ length (walk t) = r.olds in
+    let none : left (λ p. p.old) (reached t u far over start) (length (walk t)) ≡ 0 = left_nothing (λ p. p.old) (reached t u far over start) (length (walk t)) all in
+    omega (arith, olds, none)

@@ -30,11 +30,11 @@ pub same_matching : (t u : Tree) (k : ℕ) → IsMatching t u (same_below t u k)
 same_matching t u zero = matching_none t u
 same_matching t u (suc k) = matching_with t u (same_below t u k) (record { old = k; new = k }) (same_matching t u k)
 
-abbrev own : ℕ → Pair
+abbrev pub own : ℕ → Pair
 own id = record { old = id; new = id }
 
 -- each ID below this one with itself
-abbrev itself : ℕ → List Pair
+abbrev pub itself : ℕ → List Pair
 itself zero = []
 itself (suc k) = itself k ++ own k ∷ []
 
@@ -71,13 +71,13 @@ other_id id k below = go (id == k) refl
     go true e = let same = eqb-true id k e in absurd (omega (arith, same, below))
     go false e = refl
 
-there : (ns : List Node) (k : ℕ) → k < length ns → is_same_count (ports_of (slice_get ns k)) (ports_of (slice_get ns k)) ≡ true
+pub there : (ns : List Node) (k : ℕ) → k < length ns → is_same_count (ports_of (slice_get ns k)) (ports_of (slice_get ns k)) ≡ true
 there [] k below = absurd (omega (arith, below))
 there (n ∷ ns) zero below = eq-eqb _ _ refl
 there (n ∷ ns) (suc k) below = there ns k (omega (arith, below))
 
 -- a bus's nodes are matched so
-same_is : (t : Tree) (k : ℕ) → k ≤ length (walk t) → same_below t t k ≡ itself k
+pub same_is : (t : Tree) (k : ℕ) → k ≤ length (walk t) → same_below t t k ≡ itself k
 same_is t zero few = refl
 same_is t (suc k) few =
     let rest = same_is t k (omega (arith, few)) in
@@ -98,7 +98,7 @@ come_none cs ps (suc m) all = rw (come_none cs ps m (λ id below. all id (omega 
 -- ---- cables
 
 -- each cable hangs on a node with an ID below this one
-abbrev AreBelow : ℕ → List Cable → Type 0
+abbrev pub AreBelow : ℕ → List Cable → Type 0
 AreBelow n [] = Unit {0}
 AreBelow n (c ∷ cs) = (c.parent < n) × AreBelow n cs
 
@@ -119,7 +119,7 @@ of_below t n id slot (p ∷ ps) [] lt = tt
 of_below t n id slot (p ∷ ps) (e ∷ es) lt =
     below-append n (cable_at t id slot p e) (cables_of t id (slot + 1) ps es) (at_below t n id slot p e lt) (of_below t n id (slot + 1) ps es lt)
 
-from_below : (t : Tree) (n id : ℕ) (ns : List Node) (es : List (List (Option ℕ))) → id + length ns ≤ n → AreBelow n (cables_from t id ns es)
+pub from_below : (t : Tree) (n id : ℕ) (ns : List Node) (es : List (List (Option ℕ))) → id + length ns ≤ n → AreBelow n (cables_from t id ns es)
 from_below t n id [] es few = tt
 from_below t n id (m ∷ ns) [] few = tt
 from_below t n id (m ∷ ns) (e ∷ es) few =
@@ -213,7 +213,7 @@ highest_below id m (n ∷ ns) e = go (highest_from (id + 1) ns) (is_candidate n)
 
 -- ---- all
 
-same_bus : (t : Tree) → changes t t (same_ids t t) ≡ []
+pub same_bus : (t : Tree) → changes t t (same_ids t t) ≡ []
 same_bus t =
     let n = length (walk t) in
     let cs = cables t in

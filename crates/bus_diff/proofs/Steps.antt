@@ -10,10 +10,10 @@ use Rattle.view_text.specs.Cable.{cables}
 use Rattle.bus_diff.specs.declared.pair.Pair.{Pair}
 use Rattle.bus_diff.specs.Along.{may_be_one, with_pair, pair_of, turned, leads_so, other_end, led_to, with_led, stepped, walked, ways, IsToldOf, IsStep, IsReachedBySteps, at_start, by_step, EachPairIsReached}
 
-none_there : {X : Type 0} (x : X) → Contains [] x → ⊥
+pub none_there : {X : Type 0} (x : X) → Contains [] x → ⊥
 none_there x there = let lt : there.0 < 0 = there.1 in omega (arith, lt)
 
-first_or_later : {X : Type 0} (y : X) (ys : List X) (x : X) → Contains (y ∷ ys) x → (y ≡ x) ⊎ Contains ys x
+pub first_or_later : {X : Type 0} (y : X) (ys : List X) (x : X) → Contains (y ∷ ys) x → (y ≡ x) ⊎ Contains ys x
 first_or_later y ys x there = ⊎_elim
     (λ (here : Contains (y ∷ []) x). ⊎_elim
     (λ (nil : Contains [] x). absurd (none_there x nil))
@@ -22,7 +22,7 @@ first_or_later y ys x there = ⊎_elim
     (λ (later : Contains ys x). inr later)
     (Contains-append_cases (y ∷ []) ys x there)
 
-found_so : {X : Type 0} (test : X → Bool) (xs : List X) (x : X) → find test xs ≡ Some x →
+pub found_so : {X : Type 0} (test : X → Bool) (xs : List X) (x : X) → find test xs ≡ Some x →
     Contains xs x × (test x ≡ true)
 found_so test [] x e = absurd cc
 found_so {X} test (y ∷ ys) x e = go (test y) refl e (λ h. found_so test ys x h)
@@ -34,7 +34,7 @@ found_so {X} test (y ∷ ys) x e = go (test y) refl e (λ h. found_so test ys x 
         (subst (λ (z : X). Contains (y ∷ ys) z) is (Contains-append_left (y ∷ []) ys y (Contains-push [] y)), subst (λ (z : X). test z ≡ true) is t)
     go false t f later = let l = later f in (Contains-append_right (y ∷ []) ys x l.0, l.1)
 
-or_cases : (a b : Bool) → (a || b) ≡ true → (a ≡ true) ⊎ (b ≡ true)
+pub or_cases : (a b : Bool) → (a || b) ≡ true → (a ≡ true) ⊎ (b ≡ true)
 or_cases true b e = inl refl
 or_cases false b e = inr e
 

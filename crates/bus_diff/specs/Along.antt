@@ -1,7 +1,7 @@
 -- Which node of one bus is which of another, where both are walked along ports of the same numbers.
 use Rattle.std.specs.Prelude.{◌≡◌, ◌⊎◌, ℕ, zero, suc, ◌<◌, ◌≤◌, min, Bool, false, not, ◌==◌, ◌&&◌, ◌||◌, nat_lt, if◌then◌else◌, find, option_to_list, Contains, Option, Some, None, List, [], ◌∷◌, ◌++◌, map, reverse, length, slice_get}
 use Rattle.self_id.specs.Node.{Node}
-use Rattle.topology_stack.specs.Tree.{Tree, walk}
+use Rattle.topology_stack.specs.Tree.{Tree, walk, IsBusTree}
 use Rattle.view_text.specs.declared.cable.Cable.{Cable}
 use Rattle.view_text.specs.Cable.{cables}
 use Rattle.bus_diff.specs.declared.pair.Pair.{Pair}
@@ -181,3 +181,10 @@ abbrev pub EachPairIsReached : Type 0
 EachPairIsReached =
     (old new : Tree) (start q : Pair) → Contains (reached_from old new start) q →
     IsReachedBySteps old new start q
+
+-- no two nodes are left out to which a step leads from what is reached, and that may be one
+abbrev pub EachStepIsTaken : Type 0
+EachStepIsTaken =
+    (old new : Tree) (start p q : Pair) → IsBusTree old → IsBusTree new →
+    Contains (reached_from old new start) p → IsStep old new p q →
+    may_be_one old new (reached_from old new start) q ≡ false

@@ -5,3 +5,4 @@ pub mod Listed
 pub mod Text
 pub mod codings
 pub mod Same
+pub mod Difference

@@ -15,7 +15,7 @@ use crate::pair::{Pair, is_one, stays, stood};
 use self_id::{Attrs, SelfId};
 use std::alloc::Global;
 use topology_stack::{BusTree, OutOfMemory, elect};
-use view_text::{Cable, cables};
+use view_text::{Cable, cables, cables_are_of_the_tree, each_node_hangs_on_one_cable};
 
 /// Which node of a bus is which of another, and what differs.
 #[derive(Debug, Drop)]
@@ -327,7 +327,12 @@ pub fn compare_along(alloc: Global, old: &BusTree, new: &BusTree) -> Result<Diff
     // Exactly what differs is told.
     ensures exact { IfOk result (λ d.
         AreChanges old.now new.now d.pairs.items d.changes.items) }
+    // A bus and itself differ in nothing.
+    ensures same { IfOk result (λ d. old.now ≡ new.now → d.changes.items ≡ []) }
 {
+    cables_are_of_the_tree();
+    each_node_hangs_on_one_cable();
+    let _len = old.len();
     let pairs = matched_along(alloc, old, new)?;
     let told = differing(alloc, old, new, pairs)?;
     Ok(told)

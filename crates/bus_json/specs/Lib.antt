@@ -2,4 +2,5 @@ pub mod Text
 pub mod Bus
 pub mod Refusal
 pub mod Lines
+pub mod Told
 pub mod codings

@@ -3,13 +3,11 @@
 use Rattle.std.specs.Prelude.{◌≡◌, ◌≢◌, ℕ, Option, Some, None, List, map}
 use Rattle.topology_stack.specs.Tree.{Tree}
 use Rattle.view_text.specs.declared.cable.Cable.{Cable}
-use Rattle.bus_diff.specs.declared.pair.Pair.{Pair}
 use Rattle.bus_diff.specs.declared.change.Change.{Change}
 use Rattle.bus_diff.specs.declared.change.Change.TheVariants.{Went, Came, Moved, Value, Root, Manager}
 use Rattle.bus_diff.specs.declared.change.Quality.{Quality}
 use Rattle.bus_diff.specs.declared.change.Quality.TheVariants.{Link, Gap, Speed, Contender, Power}
-use Rattle.bus_diff.specs.Matching.{IsMatching}
-use Rattle.bus_diff.specs.Change.{AreChanges}
+use Rattle.bus_diff.specs.Difference.{AreDifferences}
 use Rattle.c_border.specs.Places.{IsCopied}
 use Rattle.c_records.specs.declared.records.FaultRecord.{FaultRecord}
 use Rattle.c_records.specs.Shown.{id_or_none}
@@ -71,11 +69,10 @@ change_record (Manager from to) = saying 10 (id_or_none from) (id_or_none to) 0 
 
 -- ---- what is told
 
--- exactly the changes between two trees are told, by some matching of their nodes, unless memory ran out
+-- the list of what differs between two trees is told, by some matching of their nodes, unless memory ran out
 pub data TellsChanges (old new : Tree) (before after : List ChangeRecord) (needed_before needed status : ℕ)
     : Type 0 where
-  told : (pairs : List Pair) (changes : List Change) → IsMatching old new pairs →
-      AreChanges old new pairs changes →
+  told : (changes : List Change) → AreDifferences old new changes →
       IsCopied (map change_record changes) before after needed status →
       TellsChanges old new before after needed_before needed status
   no_memory : after ≡ before → needed ≡ needed_before → status ≡ 2 →

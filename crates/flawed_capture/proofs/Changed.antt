@@ -53,7 +53,8 @@ of_spoilt TooMany list spoilt bytes a b is e = record { spoilt = spoilt; is_spoi
 
 -- and that has the flaw, if it comes anywhere
 pub surely : (standard : Standard) (flaw : Flaw) (list spoilt bytes : List ℕ) → flaw ≢ BadLength →
-    IsSpoiltList flaw list spoilt → bytes ≡ capture spoilt → ComesAnywhere flaw → HasFlaw standard bytes flaw
-surely standard Empty list spoilt bytes a is e anywhere = no_bytes standard bytes (e ∙ ap capture is)
-surely standard BadLength list spoilt bytes a is e anywhere = absurd (a refl)
-surely standard _ list spoilt bytes a is e anywhere = absurd anywhere
+    flaw ≢ BadInverse → IsSpoiltList flaw list spoilt → bytes ≡ capture spoilt → ComesAnywhere flaw → HasFlaw standard bytes flaw
+surely standard Empty list spoilt bytes a b is e anywhere = no_bytes standard bytes (e ∙ ap capture is)
+surely standard BadLength list spoilt bytes a b is e anywhere = absurd (a refl)
+surely standard BadInverse list spoilt bytes a b is e anywhere = absurd (b refl)
+surely standard _ list spoilt bytes a b is e anywhere = absurd anywhere

@@ -77,6 +77,7 @@ IsSpoilt list bytes flaw = IsOfSpoilt flaw list bytes
 -- a flaw of this kind comes of the change at any place of any bus
 abbrev pub ComesAnywhere : Flaw → Type 0
 ComesAnywhere BadLength = Unit {0}
+ComesAnywhere BadInverse = Unit {0}
 ComesAnywhere Empty = Unit {0}
 ComesAnywhere flaw = ⊥
 

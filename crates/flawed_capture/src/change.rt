@@ -1,5 +1,5 @@
 //! Changes of a list that put a fault in.
-ghost use Rattle.std.specs.Prelude.{◌≡◌, ◌<◌, ◌≤◌, length, slice_set, IfOk};
+ghost use Rattle.std.specs.Prelude.{◌≡◌, ◌≢◌, ◌<◌, ◌≤◌, length, slice_set, IfOk};
 ghost use Rattle.self_id.specs.declared.standard.Standard.{Standard};
 ghost use Rattle.flawed_capture.specs.Flaw.{HasFlaw};
 ghost use Rattle.flawed_capture.specs.Spoilt.{EndsWithOther, IsFront, HasMore, HasOtherAndMore, IsSpoiltList, IsSpoilt, ComesAnywhere};
@@ -149,16 +149,25 @@ fn cut_capture(alloc: Global, list: &[u32], at: usize, word: u32) -> Result<Vec<
     Ok(bytes)
 }
 
+/// Another byte, as a word says.
+fn other_byte(byte: u8, word: u32) -> u8
+    ensures { result ≢ byte }
+{
+    byte ^ (word / 8 % 255 + 1) as u8
+}
+
 /// The bytes of a list's capture with another byte in the pair at a place.
 fn turned_capture(alloc: Global, list: &[u32], at: usize, word: u32) -> Result<Vec<u8>, OutOfMemory>
     requires at { at < length list.now }
     requires few { length list.now ≤ 252 }
-    ensures { IfOk result (λ bytes. IsSpoilt list.now bytes.items Flaw.BadInverse) }
+    ensures spoilt { IfOk result (λ bytes. IsSpoilt list.now bytes.items Flaw.BadInverse) }
+    ensures sure { IfOk result (λ bytes.
+        (standard : Standard) → HasFlaw standard bytes.items Flaw.BadInverse) }
 {
     let mut bytes = capture_of(alloc, list)?;
     capture_is_read_back();
     let place = 8 * at + word as usize % 8;
-    bytes[place] ^= (word / 8 % 255 + 1) as u8;
+    bytes[place] = other_byte(bytes[place], word);
     Ok(bytes)
 }
 

@@ -11,5 +11,5 @@ returns-in_ok-spoilt-in_default c =
     let same = ap capture c.deref.ensures.value in
     record {
       spoilt = IfOk-weaker c.capture_of.result _ _ (λ bytes e. of_spoilt c.args.flaw list spoilt bytes.items c.in_default.not-BadLength c.in_default.not-BadInverse c.in_ok-spoilt-in_default.ensures (e ∙ same)) c.capture_of.ensures;
-      sure = IfOk-weaker c.capture_of.result _ _ (λ bytes e. surely c.args.standard c.args.flaw list spoilt bytes.items c.in_default.not-BadLength c.in_ok-spoilt-in_default.ensures (e ∙ same)) c.capture_of.ensures;
+      sure = IfOk-weaker c.capture_of.result _ _ (λ bytes e. surely c.args.standard c.args.flaw list spoilt bytes.items c.in_default.not-BadLength c.in_default.not-BadInverse c.in_ok-spoilt-in_default.ensures (e ∙ same)) c.capture_of.ensures;
     }

@@ -1,0 +1,6 @@
+use Rattle.std.proofs.Common.{arith}
+use Rattle.flawed_capture.proofs.Turned.{xor_moves}
+use Rattle.flawed_capture.proofs.change.other_byte.Goals as goal
+
+pub returns : goal.returns
+returns c = λ e. let none = xor_moves c.args.byte _ e in omega (arith, none)
