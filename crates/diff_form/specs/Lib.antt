@@ -1,4 +1,3 @@
 pub mod Difference
 pub mod Form
 pub mod Status
-pub mod Written

@@ -1,9 +1,8 @@
 //! What is written of captures that are refused.
-ghost use Rattle.std.specs.Prelude.{◌≡◌, ◌++◌, ◌∷◌, [], IfOk, OnOk};
-ghost use Rattle.json.specs.Print.{print};
+ghost use Rattle.std.specs.Prelude.{◌≡◌, ◌++◌, IfOk, OnOk};
+ghost use Rattle.json.specs.Json.{no_items, item};
 ghost use Rattle.json.specs.Tree.{json_tokens};
-ghost use Rattle.diff_form.specs.Written.{refused_front, refused_end};
-ghost use Rattle.diff_form.specs.Difference.{refusal, refused_item, shown_refusal, shown_refusals};
+ghost use Rattle.diff_form.specs.Difference.{refusal, refused_item, refused_line, shown_refusal, shown_refusals};
 
 use crate::form::DiffForm;
 use bus_json::{JsonText, put_refusal};
@@ -31,22 +30,65 @@ fn put_item(out: &mut JsonText, name: &str, fault: CaptureFault) -> Result<(), O
     put_refusal(out, fault)
 }
 
-/// Begins the line of captures that are refused.
-fn begin_line(alloc: Global) -> Result<JsonText, OutOfMemory>
-    ensures { IfOk result (λ out. out ≡ refused_front) }
+/// The text of one capture that is refused.
+fn one_text(alloc: Global, name: &str, fault: CaptureFault) -> Result<Vec<u8>, OutOfMemory>
+    ensures { IfOk result (λ text. text.items ≡ refusal name.now fault) }
+{
+    let mut text = Vec::new(alloc);
+    put_line(&mut text, name, fault)?;
+    Ok(text)
+}
+
+/// The same as a line of JSON.
+fn one_line(alloc: Global, name: &str, fault: CaptureFault) -> Result<Vec<u8>, OutOfMemory>
+    ensures { IfOk result (λ line. line.items
+        ≡ refused_line (item (refused_item name.now fault) no_items)) }
 {
     let mut out = JsonText::new(alloc);
     out.open_schema()?;
     out.key("captures")?;
     out.open_list()?;
-    Ok(out)
+    put_item(&mut out, name, fault)?;
+    out.close_list()?;
+    out.close_object()?;
+    let line = out.into_line()?;
+    Ok(line)
 }
 
-/// Ends it.
-fn end_line(out: JsonText) -> Result<Vec<u8>, OutOfMemory>
-    ensures { IfOk result (λ line. line.items ≡ print (out ++ refused_end) ++ 10 ∷ []) }
+/// The text of two captures that are refused.
+fn both_text(
+    alloc: Global,
+    old_name: &str,
+    new_name: &str,
+    old: CaptureFault,
+    new: CaptureFault,
+) -> Result<Vec<u8>, OutOfMemory>
+    ensures { IfOk result (λ text. text.items
+        ≡ refusal old_name.now old ++ refusal new_name.now new) }
 {
-    let mut out = out;
+    let mut text = Vec::new(alloc);
+    put_line(&mut text, old_name, old)?;
+    put_line(&mut text, new_name, new)?;
+    Ok(text)
+}
+
+/// The same as a line of JSON.
+fn both_line(
+    alloc: Global,
+    old_name: &str,
+    new_name: &str,
+    old: CaptureFault,
+    new: CaptureFault,
+) -> Result<Vec<u8>, OutOfMemory>
+    ensures { IfOk result (λ line. line.items ≡ refused_line
+        (item (refused_item old_name.now old) (item (refused_item new_name.now new) no_items))) }
+{
+    let mut out = JsonText::new(alloc);
+    out.open_schema()?;
+    out.key("captures")?;
+    out.open_list()?;
+    put_item(&mut out, old_name, old)?;
+    put_item(&mut out, new_name, new)?;
     out.close_list()?;
     out.close_object()?;
     let line = out.into_line()?;
@@ -63,16 +105,8 @@ pub(crate) fn shown_refusal(
     ensures { IfOk result (λ text. text.items ≡ shown_refusal form name.now fault) }
 {
     match form {
-        DiffForm::Text(_) => {
-            let mut text = Vec::new(alloc);
-            put_line(&mut text, name, fault)?;
-            Ok(text)
-        }
-        DiffForm::Json(_) => {
-            let mut out = begin_line(alloc)?;
-            put_item(&mut out, name, fault)?;
-            end_line(out)
-        }
+        DiffForm::Text(_) => one_text(alloc, name, fault),
+        DiffForm::Json(_) => one_line(alloc, name, fault),
     }
 }
 
@@ -89,17 +123,7 @@ pub(crate) fn shown_refusals(
         ≡ shown_refusals form old_name.now new_name.now old new) }
 {
     match form {
-        DiffForm::Text(_) => {
-            let mut text = Vec::new(alloc);
-            put_line(&mut text, old_name, old)?;
-            put_line(&mut text, new_name, new)?;
-            Ok(text)
-        }
-        DiffForm::Json(_) => {
-            let mut out = begin_line(alloc)?;
-            put_item(&mut out, old_name, old)?;
-            put_item(&mut out, new_name, new)?;
-            end_line(out)
-        }
+        DiffForm::Text(_) => both_text(alloc, old_name, new_name, old, new),
+        DiffForm::Json(_) => both_line(alloc, old_name, new_name, old, new),
     }
 }
