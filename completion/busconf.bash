@@ -3,7 +3,7 @@ _busconf() {
   local IFS=' ' word=${COMP_WORDS[COMP_CWORD]} words='' files=no
   case ${1##*/}:${COMP_WORDS[*]:1:COMP_CWORD-1} in
   busconf:) words="run advice read read95 maps rom make --help --version" ;;
-  busview:) words="packets tree dot json trace waves dot-run json-run explain capture script flawed resets nosy diff --help --version" ;;
+  busview:) words="packets tree dot json trace waves dot-run json-run explain capture script flawed resets nosy diff import --help --version" ;;
   busview:flawed)
     words="BadLength BadInverse NotSelfId WrongId BadOrder Cut TwoParents Empty TooFewChildren TreesLeft AfterRoot NoRoot TooMany"
     ;;

@@ -3,7 +3,7 @@ function __busview_words
     set -l before (commandline -opc)
     switch "$before[2..]"
         case ''
-            printf '%s\n' packets tree dot json trace waves dot-run json-run explain capture script flawed resets nosy diff --help --version
+            printf '%s\n' packets tree dot json trace waves dot-run json-run explain capture script flawed resets nosy diff import --help --version
         case flawed
             printf '%s\n' BadLength BadInverse NotSelfId WrongId BadOrder Cut TwoParents Empty TooFewChildren TreesLeft AfterRoot NoRoot TooMany
         case 'flawed * * *'

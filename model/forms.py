@@ -7,6 +7,7 @@ sentence below the line that refuses a script, and what the bytes of a refused c
 from .advice import advice
 from .captures import MAX_NODES, read
 from .dot import dot, dot_run
+from .imports import ImportFault, import_capture
 from .json_lines import json_capture, json_run
 from .make import make, made_script
 from .maps import maps
@@ -24,7 +25,7 @@ from .waves import waves
 from .world import Fault
 
 MAX_INPUT = 1048576
-REFUSALS = (ListFault, RomFault, ScriptFault)
+REFUSALS = (ImportFault, ListFault, RomFault, ScriptFault)
 
 
 class NotModelled(Exception):
@@ -44,6 +45,7 @@ READERS = {
     "json-run": json_run,
     "trace": trace,
     "waves": waves,
+    "import": import_capture,
 }
 READERS_BY_STANDARD = {"packets": packets, "tree": tree, "dot": dot, "json": json_capture}
 LOGS = {"resets": resets, "nosy": nosy}

@@ -6,7 +6,7 @@ import re
 import signal
 import tempfile
 
-from . import captures, dumps, logs, roms, scripts, waves
+from . import captures, dumps, imports, logs, roms, scripts, waves
 
 # The words of a call and its input; `diff` has two, of which files get the names `old` and `new`.
 Trial = collections.namedtuple("Trial", "words inputs")
@@ -16,9 +16,9 @@ MODEL_SECONDS = 20
 OF_SCRIPTS = {"run": 46, "advice": 8, "trace": 15, "waves": 13, "json-run": 8, "capture": 8, "dot-run": 5}
 OF_CAPTURES = [[form, *more] for form in ("packets", "tree", "dot", "json") for more in ([], ["--1995"])] + [
     ["read"], ["read"], ["read"], ["read95"], ["read95"], ["read95"], ["maps"], ["maps"]]
-FORMS = {*OF_SCRIPTS, *(words[0] for words in OF_CAPTURES), "rom", "nosy", "resets", "diff", "make", "script"}
+FORMS = {*OF_SCRIPTS, *(words[0] for words in OF_CAPTURES), "rom", "nosy", "resets", "diff", "import", "make", "script"}
 READING = {2000: "read", 1995: "read95"}
-KINDS = {"script": 50, "capture": 24, "rom": 8, "dump": 5, "log": 6, "diff": 7, "words": 4}
+KINDS = {"script": 50, "capture": 24, "rom": 8, "dump": 5, "log": 6, "diff": 7, "import": 6, "words": 4}
 
 
 class TooSlow(Exception):
@@ -35,6 +35,8 @@ def trial(seed, number, kinds):
         return Trial([form, *more], [scripts.script(words, 0.5) if form == "waves" else scripts.script(words)])
     if kind == "capture":
         return Trial(words.choice(OF_CAPTURES), [captures.any_capture(words)])
+    if kind == "import":
+        return Trial(["import"], [imports.any_import(words)])
     if kind == "rom":
         return Trial(["rom"], [roms.rom(words)])
     if kind in ("dump", "log"):

@@ -162,4 +162,4 @@ pub const VIEW_USAGE: &str = "usage: busview packets [--1995] [CAPTURE ..]\n    
     busview script N SEED\n       busview flawed KIND N SEED [--1995]\n       \
     busview resets [--1995] [--json] [LOG ..]\n       \
     busview nosy [--1995] [--json] [DUMP ..]\n       \
-    busview diff [--1995] OLD NEW";
+    busview diff [--1995] [--json] OLD NEW\n       busview import [INPUT]";

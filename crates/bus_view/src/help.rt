@@ -20,11 +20,13 @@ busview flawed KIND N SEED  a capture that busconf read refuses by that fault
 busview resets [LOG ..]     the bus at each reset in a Linux kernel's trace
 busview nosy [DUMP ..]      the bus at each reset in a recording of nosy-dump
 busview diff OLD NEW        what differs between the buses of two captures
+busview import [INPUT]      the capture of text, a dump, a buffer or a map
 busview --help, -h          this text; after a command, what that one does
 busview --version           the version, its kit and sources, the standards
 
-CAPTURE, SCRIPT, LOG and DUMP are files. Without one, and for -, standard input
-is read. Of several files each answer comes after a line with the file's name.
+CAPTURE, SCRIPT, LOG, DUMP and INPUT are files. Without one, and for -, standard
+input is read. Of several files each answer comes after a line with the file's
+name.
 OLD and NEW are captures, of which one may be -.
 
 With --1995, which packets, tree, dot, json, resets, nosy, diff and flawed take,

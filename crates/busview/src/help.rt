@@ -45,6 +45,7 @@ pub(crate) fn example_of(command: &str) -> &'static str {
         "resets" => "journalctl -k | busview resets",
         "nosy" => "nosy-dump > my.dump; busview nosy my.dump",
         "diff" => "busview diff before.capture after.capture",
+        "import" => "busview import dump.txt | busview tree",
         _ => "busview --help",
     }
 }

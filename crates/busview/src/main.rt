@@ -4,15 +4,18 @@
 mod diff;
 mod flawed;
 mod help;
+mod import;
 mod say;
 mod words;
 
 use bus_cli::NO_FORM;
 use bus_view::{CaptureView, VIEW_HELP, VIEW_USAGE, ViewForm, view_main};
+use capture_import::asks_import;
 use diff::diff;
 use diff_form::{DiffForm, diff_form};
 use flawed::flawed;
 use flawed_form::FlawedForm;
+use import::import;
 use io_edges::{ReadSource, WriteSink};
 use program_edges::{
     Call, FileCount, FrontSink, FrontSource, PipeWriter, Program, WordsFault, run,
@@ -30,6 +33,9 @@ enum Form {
     Flawed(FlawedForm),
     /// `diff`: what differs between two captures. It has two inputs, so it stands beside the top call.
     Diff(DiffForm),
+    /// `import`: the capture of what isn't one. Its answer is a capture and what the input was taken for, so it stands
+    /// beside the top call.
+    Import,
 }
 
 struct Busview;
@@ -96,6 +102,9 @@ impl Program for Busview {
         if let Some(form) = diff_form(words) {
             return Some(Form::Diff(form));
         }
+        if asks_import(words) {
+            return Some(Form::Import);
+        }
         Some(Form::View(ViewForm::of_words(words)?))
     }
 
@@ -110,12 +119,15 @@ impl Program for Busview {
                 | ViewForm::Nosy(_),
             ) => FileCount::Many,
             Form::Diff(_) => FileCount::Two,
-            Form::View(_) => FileCount::One,
+            Form::View(_) | Form::Import => FileCount::One,
         }
     }
 
     fn writes_bytes(form: &Form) -> bool {
-        matches!(form, Form::Flawed(_) | Form::View(ViewForm::ListOf(_)))
+        matches!(
+            form,
+            Form::Flawed(_) | Form::Import | Form::View(ViewForm::ListOf(_))
+        )
     }
 
     fn fault_of(words: &[String]) -> WordsFault<'_> {
@@ -134,6 +146,7 @@ impl Program for Busview {
         match &call.form {
             Form::View(form) => view(rt, call.words, form, name, input),
             Form::Flawed(form) => flawed(rt, *form),
+            Form::Import => import(rt, name, input),
             // A call with other than two files isn't answered.
             Form::Diff(_) => NO_FORM,
         }

@@ -1,7 +1,7 @@
--- What is said of bytes that look like something else than a capture, and what makes one of them.
+-- What is said of bytes that look like something else than a capture, and what reads them.
 use Rattle.std.specs.Prelude.{ℕ, Bool, true, false, if◌then◌else◌, List, [], codes, Option, Some, None}
 use Rattle.capture_hint.specs.declared.likeness.Likeness.{Likeness}
-use Rattle.capture_hint.specs.declared.likeness.Likeness.TheVariants.{Compressed, Utf16, Marked, Hexadecimal, Colons, Words, Xxd, Hexdump, Trace, Script, Rom, TurnedRom, Turned, Buffer, Recording, FirstQuadlets, LineFeed}
+use Rattle.capture_hint.specs.declared.likeness.Likeness.TheVariants.{Compressed, Utf16, Marked, Digits, Dump, NumberList, Trace, Script, Rom, TurnedRom, Turned, Halves, Buffer, TopologyMap, Recording, FirstQuadlets, LineFeed}
 use Rattle.capture_hint.specs.Likeness.{likeness_of, begins_capture}
 
 abbrev pub hint_text : Option Likeness → List ℕ
@@ -11,15 +11,12 @@ hint_text (Some Utf16) =
     codes "This looks like text of two bytes a character. As plain text: iconv -f UTF-16 -t UTF-8\n"
 hint_text (Some Marked) =
     codes "This begins with the mark of three bytes that some editors write. Without it: tail -c +4\n"
-hint_text (Some Hexadecimal) =
-    codes "This looks like hexadecimal text. A capture of it: xxd -r -p\n"
-hint_text (Some Colons) =
-    codes "This looks like hexadecimal digits between colons. A capture of it: tr -d : | xxd -r -p\n"
-hint_text (Some Words) =
-    codes "This looks like hexadecimal words. Their bytes: perl -0777 -ne 'print pack(\"N*\", map { hex } /0x[0-9a-f]+/gi)'\n"
-hint_text (Some Xxd) = codes "This looks like the output of xxd. A capture of it: xxd -r\n"
-hint_text (Some Hexdump) =
-    codes "This looks like the output of hexdump -C. A capture of it: cut -c 10-58 | xxd -r -p\n"
+hint_text (Some Dump) =
+    codes "This looks like a dump of bytes with offsets. Its tree: busview import FILE | busview tree\n"
+hint_text (Some Digits) =
+    codes "This looks like digits of quadlets. Its tree: busview import FILE | busview tree\n"
+hint_text (Some NumberList) =
+    codes "This looks like a list of numbers in braces. Its tree: busview import FILE | busview tree\n"
 hint_text (Some Trace) =
     codes "This looks like a trace or a log of the Linux kernel. It is read by: busview resets\n"
 hint_text (Some Script) =
@@ -29,15 +26,19 @@ hint_text (Some Rom) =
 hint_text (Some TurnedRom) =
     codes "This looks like a configuration ROM with the bytes of its quadlets turned round.\n"
 hint_text (Some Turned) =
-    codes "This looks like a capture with the bytes of its quadlets turned round. A capture of it: perl -0777 -ne 'print pack(\"N*\", unpack(\"V*\", $_))'\n"
+    codes "This looks like a capture with the bytes of its quadlets turned round. Its tree: busview import FILE | busview tree\n"
+hint_text (Some Halves) =
+    codes "This looks like a capture with the halves of its quadlets swapped. Its tree: busview import FILE | busview tree\n"
 hint_text (Some Buffer) =
-    codes "This looks like the self-ID buffer of an OHCI controller. A capture of it: tail -c +5 | perl -0777 -ne 'print pack(\"N*\", unpack(\"V*\", $_))'\n"
+    codes "This looks like the self-ID buffer of an OHCI controller. Its tree: busview import FILE | busview tree\n"
+hint_text (Some TopologyMap) =
+    codes "This looks like a topology map. Its tree: busview import FILE | busview tree\n"
 hint_text (Some Recording) =
     codes "This looks like a recording by nosy-dump. It is read by: busview nosy\n"
-hint_text (Some LineFeed) =
-    codes "This looks like a capture with a line feed behind it. The capture: head -c -1\n"
 hint_text (Some FirstQuadlets) =
-    codes "This looks like first quadlets without their inverses. A capture of it: perl -0777 -ne 'print pack(\"N2\", $_, ~$_ & 0xffffffff) for unpack(\"N*\", $_)'\n"
+    codes "This looks like first quadlets without their inverses. Its tree: busview import FILE | busview tree\n"
+hint_text (Some LineFeed) =
+    codes "This looks like a capture with a line feed behind it. Its tree: busview import FILE | busview tree\n"
 
 -- whether it is said of bytes where a script or a log is read, and not a capture
 abbrev pub is_of_any : Option Likeness → Bool

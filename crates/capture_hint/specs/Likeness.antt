@@ -1,19 +1,22 @@
 -- What bytes look like that are no capture.
-use Rattle.std.specs.Prelude.{ℕ, ◌+◌, ◌/◌, ◌%◌, ◌==◌, ◌||◌, ◌&&◌, not, nat_le, length, drop, ◌-◌, Bool, true, false, if◌then◌else◌, List, [], ◌∷◌, codes, Option, Some, None}
+use Rattle.std.specs.Prelude.{ℕ, ◌+◌, ◌*◌, ◌/◌, ◌%◌, ◌==◌, ◌||◌, ◌&&◌, not, nat_le, nat_lt, length, drop, ◌-◌, Bool, true, false, if◌then◌else◌, List, [], ◌∷◌, codes, Option, Some, None}
 use Rattle.std.specs.List.{list_all, starts_with}
 use Rattle.std.specs.Str.{bytes_eq}
 use Rattle.capture_hint.specs.declared.likeness.Likeness.{Likeness}
-use Rattle.capture_hint.specs.declared.likeness.Likeness.TheVariants.{Compressed, Utf16, Marked, Hexadecimal, Colons, Words, Xxd, Hexdump, Trace, Script, Rom, TurnedRom, Turned, Buffer, Recording, FirstQuadlets, LineFeed}
+use Rattle.capture_hint.specs.declared.likeness.Likeness.TheVariants.{Compressed, Utf16, Marked, Digits, Dump, NumberList, Trace, Script, Rom, TurnedRom, Turned, Halves, Buffer, TopologyMap, Recording, FirstQuadlets, LineFeed}
 
--- a hexadecimal digit, a space, a tab or an end of a line
-abbrev pub is_hex_char : ℕ → Bool
-is_hex_char c =
+-- a hexadecimal digit
+abbrev pub is_hex_digit : ℕ → Bool
+is_hex_digit c =
     (nat_le 48 c && nat_le c 57) || (nat_le 65 c && nat_le c 70) || (nat_le 97 c && nat_le c 102)
-    || (c == 32) || (c == 9) || (c == 10) || (c == 13)
 
--- some of these, and nothing else
-abbrev pub is_hex_text : List ℕ → Bool
-is_hex_text bytes = not (length bytes == 0) && list_all is_hex_char bytes
+-- what may stand between digits, before them and behind: blanks, ends of lines, `x X h H u U`, and the
+-- signs , : ; - " ' ( ) [ ] { }
+abbrev pub is_sign : ℕ → Bool
+is_sign c =
+    (c == 32) || (c == 9) || (c == 10) || (c == 13) || (c == 120) || (c == 88) || (c == 104) || (c == 72)
+    || (c == 117) || (c == 85) || (c == 44) || (c == 58) || (c == 59) || (c == 45) || (c == 34)
+    || (c == 39) || (c == 40) || (c == 41) || (c == 91) || (c == 93) || (c == 123) || (c == 125)
 
 -- the bytes begin so
 abbrev pub begins : List ℕ → List ℕ → Bool
@@ -36,28 +39,41 @@ is_utf16 bytes = begins (0xFF ∷ 0xFE ∷ []) bytes || begins (0xFE ∷ 0xFF �
 abbrev pub is_marked : List ℕ → Bool
 is_marked bytes = begins (0xEF ∷ 0xBB ∷ 0xBF ∷ []) bytes
 
--- such a character, or a colon
-abbrev pub is_colon_char : ℕ → Bool
-is_colon_char c = is_hex_char c || (c == 58)
+-- a remark begins here
+abbrev pub begins_remark : List ℕ → Bool
+begins_remark bytes = begins (codes "#") bytes || begins (codes "//") bytes
 
-abbrev pub is_colon_text : List ℕ → Bool
-is_colon_text bytes = not (length bytes == 0) && list_all is_colon_char bytes
+-- digits and such signs alone, but for remarks to the ends of lines; at first in a remark or not
+abbrev pub are_digits : Bool → List ℕ → Bool
+are_digits inside [] = true
+are_digits true (c ∷ bytes) = are_digits (not (c == 10)) bytes
+are_digits false (c ∷ bytes) =
+    if begins_remark (c ∷ bytes) then are_digits true bytes
+    else (is_hex_digit c || is_sign c) && are_digits false bytes
 
--- such a character, or one of `x X , { }`
-abbrev pub is_word_char : ℕ → Bool
-is_word_char c =
-    is_hex_char c || (c == 120) || (c == 88) || (c == 44) || (c == 123) || (c == 125)
+-- a digit stands outside of remarks
+abbrev pub has_digit : Bool → List ℕ → Bool
+has_digit inside [] = false
+has_digit true (c ∷ bytes) = has_digit (not (c == 10)) bytes
+has_digit false (c ∷ bytes) =
+    if begins_remark (c ∷ bytes) then has_digit true bytes
+    else is_hex_digit c || has_digit false bytes
 
--- these alone, with a number that begins with `0x` or `0X`
-abbrev pub is_words : List ℕ → Bool
-is_words bytes =
-    list_all is_word_char bytes && (has_piece (codes "0x") bytes || has_piece (codes "0X") bytes)
+-- words of digits
+abbrev pub is_digit_text : List ℕ → Bool
+is_digit_text bytes = has_digit false bytes && are_digits false bytes
 
--- an offset of eight digits, and this behind it
-abbrev pub has_offset : List ℕ → List ℕ → Bool
-has_offset behind (a ∷ b ∷ c ∷ d ∷ e ∷ f ∷ g ∷ h ∷ bytes) =
-    is_hex_text (a ∷ b ∷ c ∷ d ∷ e ∷ f ∷ g ∷ h ∷ []) && begins behind bytes
-has_offset behind bytes = false
+-- the offset 0 stands first, as in the dumps of xxd, hexdump, od and Wireshark
+abbrev pub is_dump : List ℕ → Bool
+is_dump bytes =
+    begins (codes "00000000:") bytes || begins (codes "00000000  ") bytes
+    || begins (codes "0000000 ") bytes || begins (codes "000000 ") bytes
+    || begins (codes "0000  ") bytes
+
+-- plain text with hexadecimal numbers and a brace, as an array of C or one event of a kernel
+abbrev pub is_number_list : List ℕ → Bool
+is_number_list bytes =
+    list_all (λ c. nat_lt c 128) bytes && (has_piece (codes "{") bytes && has_piece (codes "0x") bytes)
 
 -- a trace of the Linux kernel says so or has one of its events, and a log has packets by name
 abbrev pub is_trace : List ℕ → Bool
@@ -65,11 +81,12 @@ is_trace bytes =
     begins (codes "# tracer:") bytes || has_piece (codes "bus_reset_handle:") bytes
     || has_piece (codes "self_id_complete:") bytes || has_piece (codes "selfID 0:") bytes
 
--- a script begins with a remark, a node, a delay or times
+-- a script begins with a remark, a node, a delay or times; answers of `read` and `tree` begin so too, and
+-- say who initiated the reset
 abbrev pub is_script : List ℕ → Bool
 is_script bytes =
-    begins (codes "#") bytes || begins (codes "node ") bytes || begins (codes "delay ") bytes
-    || begins (codes "times ") bytes
+    (begins (codes "#") bytes || begins (codes "node ") bytes || begins (codes "delay ") bytes
+    || begins (codes "times ") bytes) && not (has_piece (codes " initiated ") bytes)
 
 -- a recording by `nosy-dump` begins with a record of a reset or of a packet
 abbrev pub is_recording : List ℕ → Bool
@@ -94,6 +111,29 @@ begins_turned (a ∷ b ∷ c ∷ d ∷ e ∷ f ∷ g ∷ h ∷ bytes) =
     is_pair a b c d e f g h && ((d == 128) && not (a == 128))
 begins_turned bytes = false
 
+-- the highest byte of a packet of node 0 or 1
+abbrev pub is_first_top : ℕ → Bool
+is_first_top c = (c == 128) || (c == 129)
+
+-- the second pair is of node 0 or 1 if the halves of its quadlets are swapped, and isn't if they aren't
+abbrev pub goes_on_swapped : List ℕ → Bool
+goes_on_swapped (a ∷ b ∷ c ∷ d ∷ e ∷ f ∷ g ∷ h ∷ bytes) =
+    is_pair a b c d e f g h && (is_first_top c && not (is_first_top a))
+goes_on_swapped bytes = false
+
+-- a pair of which the first is a packet of node 0, the halves of its quadlets swapped
+abbrev pub begins_swapped : List ℕ → Bool
+begins_swapped (a ∷ b ∷ c ∷ d ∷ e ∷ f ∷ g ∷ h ∷ bytes) =
+    is_pair a b c d e f g h && ((c == 128) && (not (a == 128) || goes_on_swapped bytes))
+begins_swapped bytes = false
+
+-- the image of a topology map: the first two bytes count the quadlets behind the first, and the last two
+-- of the third quadlet those of the list, which are 2 less
+abbrev pub is_topology_map : List ℕ → Bool
+is_topology_map (a ∷ b ∷ c ∷ d ∷ e ∷ f ∷ g ∷ h ∷ i ∷ j ∷ k ∷ l ∷ bytes) =
+    (256 * k + l + 2 == 256 * a + b) && nat_le (4 * (256 * a + b)) (length bytes + 8)
+is_topology_map bytes = false
+
 -- each quadlet begins with the bits 10, as self-ID packets do and their inverses don't
 abbrev pub are_firsts : List ℕ → Bool
 are_firsts [] = true
@@ -116,17 +156,17 @@ likeness_of bytes =
     if is_compressed bytes then Some Compressed
     else if is_utf16 bytes then Some Utf16
     else if is_marked bytes then Some Marked
-    else if is_hex_text bytes then Some Hexadecimal
-    else if is_colon_text bytes then Some Colons
-    else if is_words bytes then Some Words
-    else if has_offset (codes ": ") bytes then Some Xxd
-    else if has_offset (codes "  ") bytes then Some Hexdump
+    else if is_dump bytes then Some Dump
+    else if is_digit_text bytes then Some Digits
     else if is_trace bytes then Some Trace
+    else if is_number_list bytes then Some NumberList
     else if is_script bytes then Some Script
     else if has_second (codes "1394") bytes then Some Rom
     else if has_second (codes "4931") bytes then Some TurnedRom
     else if begins_turned bytes then Some Turned
+    else if begins_swapped bytes then Some Halves
     else if begins_turned (drop 4 bytes) then Some Buffer
+    else if is_topology_map bytes then Some TopologyMap
     else if is_recording bytes then Some Recording
     else if not (length bytes == 0) && are_firsts bytes then Some FirstQuadlets
     else if has_line_feed bytes then Some LineFeed

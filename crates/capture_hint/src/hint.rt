@@ -20,18 +20,14 @@ pub fn hint_text(likeness: Option<Likeness>) -> &'static [u8]
         Some(Likeness::Marked) => {
             b"This begins with the mark of three bytes that some editors write. Without it: tail -c +4\n"
         }
-        Some(Likeness::Hexadecimal) => {
-            b"This looks like hexadecimal text. A capture of it: xxd -r -p\n"
+        Some(Likeness::Dump) => {
+            b"This looks like a dump of bytes with offsets. Its tree: busview import FILE | busview tree\n"
         }
-        Some(Likeness::Colons) => {
-            b"This looks like hexadecimal digits between colons. A capture of it: tr -d : | xxd -r -p\n"
+        Some(Likeness::Digits) => {
+            b"This looks like digits of quadlets. Its tree: busview import FILE | busview tree\n"
         }
-        Some(Likeness::Words) => {
-            b"This looks like hexadecimal words. Their bytes: perl -0777 -ne 'print pack(\"N*\", map { hex } /0x[0-9a-f]+/gi)'\n"
-        }
-        Some(Likeness::Xxd) => { b"This looks like the output of xxd. A capture of it: xxd -r\n" }
-        Some(Likeness::Hexdump) => {
-            b"This looks like the output of hexdump -C. A capture of it: cut -c 10-58 | xxd -r -p\n"
+        Some(Likeness::NumberList) => {
+            b"This looks like a list of numbers in braces. Its tree: busview import FILE | busview tree\n"
         }
         Some(Likeness::Trace) => {
             b"This looks like a trace or a log of the Linux kernel. It is read by: busview resets\n"
@@ -46,19 +42,25 @@ pub fn hint_text(likeness: Option<Likeness>) -> &'static [u8]
             b"This looks like a configuration ROM with the bytes of its quadlets turned round.\n"
         }
         Some(Likeness::Turned) => {
-            b"This looks like a capture with the bytes of its quadlets turned round. A capture of it: perl -0777 -ne 'print pack(\"N*\", unpack(\"V*\", $_))'\n"
+            b"This looks like a capture with the bytes of its quadlets turned round. Its tree: busview import FILE | busview tree\n"
+        }
+        Some(Likeness::Halves) => {
+            b"This looks like a capture with the halves of its quadlets swapped. Its tree: busview import FILE | busview tree\n"
         }
         Some(Likeness::Buffer) => {
-            b"This looks like the self-ID buffer of an OHCI controller. A capture of it: tail -c +5 | perl -0777 -ne 'print pack(\"N*\", unpack(\"V*\", $_))'\n"
+            b"This looks like the self-ID buffer of an OHCI controller. Its tree: busview import FILE | busview tree\n"
+        }
+        Some(Likeness::TopologyMap) => {
+            b"This looks like a topology map. Its tree: busview import FILE | busview tree\n"
         }
         Some(Likeness::Recording) => {
             b"This looks like a recording by nosy-dump. It is read by: busview nosy\n"
         }
-        Some(Likeness::LineFeed) => {
-            b"This looks like a capture with a line feed behind it. The capture: head -c -1\n"
-        }
         Some(Likeness::FirstQuadlets) => {
-            b"This looks like first quadlets without their inverses. A capture of it: perl -0777 -ne 'print pack(\"N2\", $_, ~$_ & 0xffffffff) for unpack(\"N*\", $_)'\n"
+            b"This looks like first quadlets without their inverses. Its tree: busview import FILE | busview tree\n"
+        }
+        Some(Likeness::LineFeed) => {
+            b"This looks like a capture with a line feed behind it. Its tree: busview import FILE | busview tree\n"
         }
     }
 }
@@ -96,8 +98,8 @@ pub fn other_hint(bytes: &[u8]) -> &'static [u8]
     }
 }
 
-/// Appends what bytes look like that are refused as a capture, and the command that makes a capture of
-/// them, in one line; or nothing where they look like nothing else.
+/// Appends what bytes look like that are refused as a capture, and what reads them, in one line; or nothing
+/// where they look like nothing else.
 pub fn put_hint(out: &mut Vec<u8>, bytes: &[u8]) -> Result<(), OutOfMemory>
     ensures { OnOk result (out.new.items ≡ out.old.items ++ hint bytes.now) }
 {

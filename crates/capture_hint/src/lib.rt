@@ -1,4 +1,4 @@
-//! What bytes that aren't a capture look like, and the command that makes a capture of them.
+//! What bytes that aren't a capture look like, and the command that reads them.
 #![tactic(auto)]
 
 mod hint;

@@ -1,8 +1,8 @@
 //! What bytes look like that are no capture.
-ghost use Rattle.std.specs.Prelude.{◌≡◌, ◌+◌, ◌==◌, codes, drop};
+ghost use Rattle.std.specs.Prelude.{◌≡◌, ◌+◌, ◌*◌, ◌==◌, codes, drop, false, nat_lt};
 ghost use Rattle.std.specs.List.{list_all};
 ghost use Rattle.std.specs.Str.{bytes_eq};
-ghost use Rattle.capture_hint.specs.Likeness.{is_hex_char, is_hex_text, begins, has_piece, is_compressed, is_utf16, is_marked, is_colon_char, is_colon_text, is_word_char, is_words, has_offset, is_trace, is_script, is_recording, has_second, is_pair, begins_turned, are_firsts, begins_capture, has_line_feed, likeness_of};
+ghost use Rattle.capture_hint.specs.Likeness.{is_hex_digit, is_sign, begins, has_piece, is_compressed, is_utf16, is_marked, begins_remark, are_digits, has_digit, is_digit_text, is_dump, is_number_list, is_trace, is_script, is_recording, has_second, begins_turned, is_first_top, goes_on_swapped, begins_swapped, is_topology_map, are_firsts, begins_capture, has_line_feed, likeness_of};
 
 /// What bytes can look like.
 #[derive(Clone, Copy, Debug, PartialEq, Eq)]
@@ -13,19 +13,15 @@ pub enum Likeness {
     Utf16,
     /// They begin with the mark of UTF-8.
     Marked,
-    /// Hexadecimal digits and white space alone.
-    Hexadecimal,
-    /// The same with colons.
-    Colons,
-    /// Hexadecimal words that begin with `0x`, white space, commas and braces alone.
-    Words,
-    /// They begin with an offset of eight digits and a colon, as the output of `xxd`.
-    Xxd,
-    /// They begin with such an offset and two blanks, as the output of `hexdump -C`.
-    Hexdump,
+    /// Digits, the signs that stand between them, and remarks alone.
+    Digits,
+    /// They begin with the offset 0, as the dumps of `xxd`, `hexdump`, `od` and Wireshark.
+    Dump,
+    /// Plain text with a brace and a number that begins with `0x`.
+    NumberList,
     /// They begin with `# tracer:`, or have an event or a packet as a Linux kernel names them.
     Trace,
-    /// They begin as a script does: with `#`, `node `, `delay ` or `times `.
+    /// They begin as a script does: with `#`, `node `, `delay ` or `times `; and don't say who initiated a reset.
     Script,
     /// The second quadlet is `1394`, as in a configuration ROM.
     Rom,
@@ -33,8 +29,13 @@ pub enum Likeness {
     TurnedRom,
     /// A pair of node 0 stands first, its quadlets with the lowest byte first.
     Turned,
-    /// Such a pair stands behind one quadlet, as in the self-ID buffer of an OHCI controller.
+    /// The same, the halves of its quadlets swapped.
+    Halves,
+    /// A pair of node 0 with the lowest byte first stands behind one quadlet, as in the self-ID buffer of an OHCI
+    /// controller.
     Buffer,
+    /// The lengths of a topology map stand first.
+    TopologyMap,
     /// They begin with a record of `nosy-dump`.
     Recording,
     /// Each quadlet begins with the bits 10: self-ID packets without their inverses.
@@ -43,28 +44,38 @@ pub enum Likeness {
     LineFeed,
 }
 
-fn is_hex_char(c: u8) -> bool
-    ensures { result ≡ is_hex_char c }
+fn is_hex_digit(c: u8) -> bool
+    ensures { result ≡ is_hex_digit c }
 {
-    (48 <= c && c <= 57)
-        || (65 <= c && c <= 70)
-        || (97 <= c && c <= 102)
-        || c == b' '
+    (48 <= c && c <= 57) || (65 <= c && c <= 70) || (97 <= c && c <= 102)
+}
+
+/// Whether a character may stand between digits, before them or behind.
+fn is_sign(c: u8) -> bool
+    ensures { result ≡ is_sign c }
+{
+    c == b' '
         || c == b'\t'
         || c == b'\n'
         || c == b'\r'
-}
-
-fn are_hex_chars(bytes: &[u8]) -> bool
-    ensures { result ≡ list_all is_hex_char bytes.now }
-{
-    bytes.iter().all(|c| is_hex_char(*c))
-}
-
-fn is_hex_text(bytes: &[u8]) -> bool
-    ensures { result ≡ is_hex_text bytes.now }
-{
-    !bytes.is_empty() && are_hex_chars(bytes)
+        || c == b'x'
+        || c == b'X'
+        || c == b'h'
+        || c == b'H'
+        || c == b'u'
+        || c == b'U'
+        || c == b','
+        || c == b':'
+        || c == b';'
+        || c == b'-'
+        || c == b'"'
+        || c == b'\''
+        || c == b'('
+        || c == b')'
+        || c == b'['
+        || c == b']'
+        || c == b'{'
+        || c == b'}'
 }
 
 fn is_text(bytes: &[u8], text: &[u8]) -> bool
@@ -112,53 +123,78 @@ fn is_marked(bytes: &[u8]) -> bool
     begins(&[0xEF, 0xBB, 0xBF], bytes)
 }
 
-fn is_colon_char(c: u8) -> bool
-    ensures { result ≡ is_colon_char c }
+/// Whether a remark begins here.
+fn begins_remark(bytes: &[u8]) -> bool
+    ensures { result ≡ begins_remark bytes.now }
 {
-    is_hex_char(c) || c == b':'
+    begins(b"#", bytes) || begins(b"//", bytes)
 }
 
-fn are_colon_chars(bytes: &[u8]) -> bool
-    ensures { result ≡ list_all is_colon_char bytes.now }
+/// Whether digits and such signs alone stand outside of remarks.
+fn are_digits(bytes: &[u8]) -> bool
+    ensures { result ≡ are_digits false bytes.now }
 {
-    bytes.iter().all(|c| is_colon_char(*c))
-}
-
-fn is_colon_text(bytes: &[u8]) -> bool
-    ensures { result ≡ is_colon_text bytes.now }
-{
-    !bytes.is_empty() && are_colon_chars(bytes)
-}
-
-fn is_word_char(c: u8) -> bool
-    ensures { result ≡ is_word_char c }
-{
-    is_hex_char(c) || c == b'x' || c == b'X' || c == b',' || c == b'{' || c == b'}'
-}
-
-fn are_word_chars(bytes: &[u8]) -> bool
-    ensures { result ≡ list_all is_word_char bytes.now }
-{
-    bytes.iter().all(|c| is_word_char(*c))
-}
-
-fn is_words(bytes: &[u8]) -> bool
-    ensures { result ≡ is_words bytes.now }
-{
-    are_word_chars(bytes) && (has_piece(b"0x", bytes) || has_piece(b"0X", bytes))
-}
-
-/// Whether an offset of eight digits stands first, and this behind it.
-fn has_offset(behind: &[u8], bytes: &[u8]) -> bool
-    ensures { result ≡ has_offset behind.now bytes.now }
-{
-    match bytes {
-        [a, b, c, d, e, f, g, h, rest @ ..] => {
-            let offset = [*a, *b, *c, *d, *e, *f, *g, *h];
-            is_hex_text(&offset) && begins(behind, rest)
+    let mut inside = false;
+    let mut rest = bytes;
+    while let [c, behind @ ..] = rest {
+        if inside {
+            inside = *c != b'\n';
+        } else if begins_remark(rest) {
+            inside = true;
+        } else if !is_hex_digit(*c) && !is_sign(*c) {
+            return false;
         }
-        _ => false,
+        rest = behind;
     }
+    true
+}
+
+/// Whether a digit stands outside of remarks.
+fn has_digit(bytes: &[u8]) -> bool
+    ensures { result ≡ has_digit false bytes.now }
+{
+    let mut inside = false;
+    let mut rest = bytes;
+    while let [c, behind @ ..] = rest {
+        if inside {
+            inside = *c != b'\n';
+        } else if begins_remark(rest) {
+            inside = true;
+        } else if is_hex_digit(*c) {
+            return true;
+        }
+        rest = behind;
+    }
+    false
+}
+
+fn is_digit_text(bytes: &[u8]) -> bool
+    ensures { result ≡ is_digit_text bytes.now }
+{
+    has_digit(bytes) && are_digits(bytes)
+}
+
+/// Whether the offset 0 of a dump stands first.
+fn is_dump(bytes: &[u8]) -> bool
+    ensures { result ≡ is_dump bytes.now }
+{
+    begins(b"00000000:", bytes)
+        || begins(b"00000000  ", bytes)
+        || begins(b"0000000 ", bytes)
+        || begins(b"000000 ", bytes)
+        || begins(b"0000  ", bytes)
+}
+
+fn is_plain(bytes: &[u8]) -> bool
+    ensures { result ≡ list_all (λ c. nat_lt c 128) bytes.now }
+{
+    bytes.iter().all(|c| *c < 128)
+}
+
+fn is_number_list(bytes: &[u8]) -> bool
+    ensures { result ≡ is_number_list bytes.now }
+{
+    is_plain(bytes) && has_piece(b"{", bytes) && has_piece(b"0x", bytes)
 }
 
 fn is_trace(bytes: &[u8]) -> bool
@@ -173,10 +209,11 @@ fn is_trace(bytes: &[u8]) -> bool
 fn is_script(bytes: &[u8]) -> bool
     ensures { result ≡ is_script bytes.now }
 {
-    begins(b"#", bytes)
+    (begins(b"#", bytes)
         || begins(b"node ", bytes)
         || begins(b"delay ", bytes)
-        || begins(b"times ", bytes)
+        || begins(b"times ", bytes))
+        && !has_piece(b" initiated ", bytes)
 }
 
 fn is_recording(bytes: &[u8]) -> bool
@@ -232,6 +269,67 @@ fn is_buffer(bytes: &[u8]) -> bool
     }
 }
 
+/// Whether a byte is the highest of a packet of node 0 or 1.
+fn is_first_top(c: u8) -> bool
+    ensures { result ≡ is_first_top c }
+{
+    c == 128 || c == 129
+}
+
+/// Whether the pair that follows is of node 0 or 1 only if the halves of its quadlets are swapped.
+fn goes_on_swapped(bytes: &[u8]) -> bool
+    ensures { result ≡ goes_on_swapped bytes.now }
+{
+    match bytes {
+        [a, b, c, d, e, f, g, h, ..] => {
+            is_inverse(*a, *e)
+                && is_inverse(*b, *f)
+                && is_inverse(*c, *g)
+                && is_inverse(*d, *h)
+                && is_first_top(*c)
+                && !is_first_top(*a)
+        }
+        _ => false,
+    }
+}
+
+/// Whether bytes begin with a pair of node 0 whose quadlets have their halves swapped.
+fn begins_swapped(bytes: &[u8]) -> bool
+    ensures { result ≡ begins_swapped bytes.now }
+{
+    match bytes {
+        [a, b, c, d, e, f, g, h, behind @ ..] => {
+            is_inverse(*a, *e)
+                && is_inverse(*b, *f)
+                && is_inverse(*c, *g)
+                && is_inverse(*d, *h)
+                && *c == 128
+                && (*a != 128 || goes_on_swapped(behind))
+        }
+        _ => false,
+    }
+}
+
+/// The number of two bytes.
+fn of_two(high: u8, low: u8) -> usize
+    ensures { result ≡ 256 * high + low }
+{
+    256 * usize::from(high) + usize::from(low)
+}
+
+/// Whether the lengths of a topology map stand first.
+fn is_topology_map(bytes: &[u8]) -> bool
+    ensures { result ≡ is_topology_map bytes.now }
+{
+    match bytes {
+        [a, b, _, _, _, _, _, _, _, _, k, l, behind @ ..] => {
+            let told = of_two(*a, *b);
+            of_two(*k, *l) + 2 == told && 4 * told <= behind.len() + 8
+        }
+        _ => false,
+    }
+}
+
 /// Whether each quadlet begins with the bits 10.
 fn are_firsts(bytes: &[u8]) -> bool
     ensures { result ≡ are_firsts bytes.now }
@@ -280,18 +378,14 @@ pub fn likeness_of(bytes: &[u8]) -> Option<Likeness>
         Some(Likeness::Utf16)
     } else if is_marked(bytes) {
         Some(Likeness::Marked)
-    } else if is_hex_text(bytes) {
-        Some(Likeness::Hexadecimal)
-    } else if is_colon_text(bytes) {
-        Some(Likeness::Colons)
-    } else if is_words(bytes) {
-        Some(Likeness::Words)
-    } else if has_offset(b": ", bytes) {
-        Some(Likeness::Xxd)
-    } else if has_offset(b"  ", bytes) {
-        Some(Likeness::Hexdump)
+    } else if is_dump(bytes) {
+        Some(Likeness::Dump)
+    } else if is_digit_text(bytes) {
+        Some(Likeness::Digits)
     } else if is_trace(bytes) {
         Some(Likeness::Trace)
+    } else if is_number_list(bytes) {
+        Some(Likeness::NumberList)
     } else if is_script(bytes) {
         Some(Likeness::Script)
     } else if has_second(b"1394", bytes) {
@@ -300,8 +394,12 @@ pub fn likeness_of(bytes: &[u8]) -> Option<Likeness>
         Some(Likeness::TurnedRom)
     } else if begins_turned(bytes) {
         Some(Likeness::Turned)
+    } else if begins_swapped(bytes) {
+        Some(Likeness::Halves)
     } else if is_buffer(bytes) {
         Some(Likeness::Buffer)
+    } else if is_topology_map(bytes) {
+        Some(Likeness::TopologyMap)
     } else if is_recording(bytes) {
         Some(Likeness::Recording)
     } else if !bytes.is_empty() && are_firsts(bytes) {

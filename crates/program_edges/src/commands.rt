@@ -6,7 +6,7 @@ pub const BUSCONF: &[&str] = &["run", "advice", "read", "read95", "maps", "rom",
 /// The commands of `busview`.
 pub const BUSVIEW: &[&str] = &[
     "packets", "tree", "dot", "json", "trace", "waves", "dot-run", "json-run", "explain",
-    "capture", "script", "flawed", "resets", "nosy", "diff",
+    "capture", "script", "flawed", "resets", "nosy", "diff", "import",
 ];
 
 /// The words that ask a program for something of itself.

@@ -1,0 +1,5 @@
+pub mod Front
+pub mod Layouts
+pub mod One
+pub mod Parts
+pub mod Stopped

@@ -1,0 +1,10 @@
+use Rattle.std.proofs.Common.{arith, sym}
+use Rattle.std.proofs.lemmas.Grind.{common_steps}
+use Rattle.capture_import.specs.Words.{is_between}
+use Rattle.capture_import.proofs.Parts.{words_cut}
+use Rattle.capture_import.proofs.words.cut.Goals as goal
+
+pub returns-in-Some-clause-cut : goal.returns-in-Some-clause-cut
+returns-in-Some-clause-cut c =
+    let cut = words_cut is_between c.args.text.now c.in-Some.end (sym c.in-Some.ensures.value) in
+    grind (arith, common_steps, cut)

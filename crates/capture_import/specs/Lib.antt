@@ -1,0 +1,11 @@
+pub mod Answer
+pub mod Form
+pub mod Image
+pub mod Import
+pub mod Line
+pub mod List
+pub mod OneImport
+pub mod Order
+pub mod Status
+pub mod Text
+pub mod Words
