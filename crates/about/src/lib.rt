@@ -2,11 +2,9 @@
 #![tactic(auto)]
 
 mod asked;
-mod sources;
 mod told;
 
 pub use asked::About;
-pub use sources::SOURCES;
 pub use told::about_text;
 
 /// The version of both programs and of all crates: the one place where it stands. The manual pages and the changelog

@@ -3,10 +3,10 @@ ghost use Rattle.std.specs.Prelude.{◌≡◌, IfOk};
 ghost use Rattle.about.specs.Told.{version_text, about_text};
 
 use crate::asked::About;
-use crate::{KIT, SOURCES, STANDARDS, VERSION};
+use crate::{KIT, STANDARDS, VERSION};
 use std::alloc::{AllocError, Global};
 
-/// The lines of the version: that of the program with this name, the kit, the sources, and the standards.
+/// The lines of the version: that of the program with this name, the kit, and the standards.
 fn version_text(alloc: Global, program: &str) -> Result<Vec<u8>, AllocError>
     ensures { IfOk result (λ text. text.items ≡ version_text program.now) }
 {
@@ -15,8 +15,6 @@ fn version_text(alloc: Global, program: &str) -> Result<Vec<u8>, AllocError>
     text.extend_from_slice(VERSION.as_bytes())?;
     text.extend_from_slice(b"\nkit ")?;
     text.extend_from_slice(KIT.as_bytes())?;
-    text.extend_from_slice(b"\nsources ")?;
-    text.extend_from_slice(SOURCES.as_bytes())?;
     text.extend_from_slice(b"\n")?;
     text.extend_from_slice(STANDARDS.as_bytes())?;
     text.extend_from_slice(b"\n")?;

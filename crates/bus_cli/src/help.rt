@@ -13,7 +13,7 @@ busconf maps [CAPTURE ..]     write the topology map and the speed map
 busconf rom [ROM ..]          show the parts of a configuration ROM
 busconf make N SEED           run a script that busconf makes, of 1 to 63 nodes
 busconf --help, -h            this text; after a command, what that one does
-busconf --version             the version, its kit and sources, the standards
+busconf --version             the version, its kit, and the standards
 
 SCRIPT, CAPTURE and ROM are files. Without one, and for -, standard input is
 read. Of several files each answer comes after a line with the file's name. A

@@ -22,7 +22,7 @@ busview nosy [DUMP ..]      the bus at each reset in a recording of nosy-dump
 busview diff OLD NEW        what differs between the buses of two captures
 busview import [INPUT]      the capture of text, a dump, a buffer or a map
 busview --help, -h          this text; after a command, what that one does
-busview --version           the version, its kit and sources, the standards
+busview --version           the version, its kit, and the standards
 
 CAPTURE, SCRIPT, LOG, DUMP and INPUT are files. Without one, and for -, standard
 input is read. Of several files each answer comes after a line with the file's
