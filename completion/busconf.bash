@@ -1,6 +1,6 @@
 # Completion of the words of busconf and busview for bash. Source it, or put it where bash-completion looks.
 _busconf() {
-  local IFS=' ' word=${COMP_WORDS[COMP_CWORD]} words='' files=no
+  local IFS=' ' word=${COMP_WORDS[COMP_CWORD]} words='' files=no given
   case ${1##*/}:${COMP_WORDS[*]:1:COMP_CWORD-1} in
   busconf:) words="run advice read read95 maps rom make --help --version" ;;
   busview:) words="packets tree dot json trace waves dot-run json-run explain capture script flawed resets nosy diff import --help --version" ;;
@@ -15,6 +15,11 @@ _busconf() {
   busview:resets* | busview:nosy* | busview:diff*) words="--1995 --json" files=yes ;;
   *) files=yes ;;
   esac
+  # An option that is given isn't offered again.
+  for given in "${COMP_WORDS[@]:1:COMP_CWORD-1}"; do
+    words=" $words "
+    words=${words/ "$given" / }
+  done
   COMPREPLY=()
   if [ "$files" = no ] || [ "${word:0:1}" = - ]; then
     mapfile -t COMPREPLY < <(compgen -W "$words" -- "$word")

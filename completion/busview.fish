@@ -1,6 +1,7 @@
 # Completion of the words of busview for fish.
 function __busview_words
     set -l before (commandline -opc)
+    set -l options
     switch "$before[2..]"
         case ''
             printf '%s\n' packets tree dot json trace waves dot-run json-run explain capture script flawed resets nosy diff import --help --version
@@ -12,9 +13,13 @@ function __busview_words
         case '*'
             switch "$before[2..]"
                 case 'packets*' 'tree*' dot 'dot *' json 'json *'
-                    echo --1995
+                    set options --1995
                 case 'resets*' 'nosy*' 'diff*'
-                    printf '%s\n' --1995 --json
+                    set options --1995 --json
+            end
+            # An option that is given isn't offered again.
+            for option in $options
+                contains -- $option $before; or echo $option
             end
             __fish_complete_path (commandline -ct)
     end
