@@ -111,14 +111,11 @@ begins_turned (a ∷ b ∷ c ∷ d ∷ e ∷ f ∷ g ∷ h ∷ bytes) =
     is_pair a b c d e f g h && ((d == 128) && not (a == 128))
 begins_turned bytes = false
 
--- the highest byte of a packet of node 0 or 1
-abbrev pub is_first_top : ℕ → Bool
-is_first_top c = (c == 128) || (c == 129)
-
--- the second pair is of node 0 or 1 if the halves of its quadlets are swapped, and isn't if they aren't
+-- the second pair is of node 1 if the halves of its quadlets are swapped, and of none of the nodes 0 to 2 if
+-- they aren't
 abbrev pub goes_on_swapped : List ℕ → Bool
 goes_on_swapped (a ∷ b ∷ c ∷ d ∷ e ∷ f ∷ g ∷ h ∷ bytes) =
-    is_pair a b c d e f g h && (is_first_top c && not (is_first_top a))
+    is_pair a b c d e f g h && ((c == 129) && nat_lt 130 a)
 goes_on_swapped bytes = false
 
 -- a pair of which the first is a packet of node 0, the halves of its quadlets swapped

@@ -2,7 +2,7 @@
 ghost use Rattle.std.specs.Prelude.{◌≡◌, ◌+◌, ◌*◌, ◌==◌, codes, drop, false, nat_lt};
 ghost use Rattle.std.specs.List.{list_all};
 ghost use Rattle.std.specs.Str.{bytes_eq};
-ghost use Rattle.capture_hint.specs.Likeness.{is_hex_digit, is_sign, begins, has_piece, is_compressed, is_utf16, is_marked, begins_remark, are_digits, has_digit, is_digit_text, is_dump, is_number_list, is_trace, is_script, is_recording, has_second, begins_turned, is_first_top, goes_on_swapped, begins_swapped, is_topology_map, are_firsts, begins_capture, has_line_feed, likeness_of};
+ghost use Rattle.capture_hint.specs.Likeness.{is_hex_digit, is_sign, begins, has_piece, is_compressed, is_utf16, is_marked, begins_remark, are_digits, has_digit, is_digit_text, is_dump, is_number_list, is_trace, is_script, is_recording, has_second, begins_turned, goes_on_swapped, begins_swapped, is_topology_map, are_firsts, begins_capture, has_line_feed, likeness_of};
 
 /// What bytes can look like.
 #[derive(Clone, Copy, Debug, PartialEq, Eq)]
@@ -269,14 +269,8 @@ fn is_buffer(bytes: &[u8]) -> bool
     }
 }
 
-/// Whether a byte is the highest of a packet of node 0 or 1.
-fn is_first_top(c: u8) -> bool
-    ensures { result ≡ is_first_top c }
-{
-    c == 128 || c == 129
-}
-
-/// Whether the pair that follows is of node 0 or 1 only if the halves of its quadlets are swapped.
+/// Whether the pair that follows is of node 1 if the halves of its quadlets are swapped, and of none of the nodes 0 to 2
+/// if they aren't.
 fn goes_on_swapped(bytes: &[u8]) -> bool
     ensures { result ≡ goes_on_swapped bytes.now }
 {
@@ -286,8 +280,8 @@ fn goes_on_swapped(bytes: &[u8]) -> bool
                 && is_inverse(*b, *f)
                 && is_inverse(*c, *g)
                 && is_inverse(*d, *h)
-                && is_first_top(*c)
-                && !is_first_top(*a)
+                && *c == 129
+                && *a > 130
         }
         _ => false,
     }
