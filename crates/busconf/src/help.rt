@@ -7,7 +7,7 @@ pub(crate) fn example_of(command: &str) -> &'static str {
         "advice" => "busconf advice ring.script",
         "read" => "busconf read hub.capture",
         "read95" => "busconf read95 hub.capture",
-        "maps" => "busconf maps hub.capture > hub.maps",
+        "maps" => "busconf maps hub.capture",
         "rom" => "busconf rom my.rom",
         "make" => "busconf make 5 1",
         _ => "busconf --help",

@@ -5,7 +5,7 @@ mod help;
 mod say;
 mod words;
 
-use bus_cli::{CaptureForm, Form, HELP, REFUSED, USAGE, bus_main};
+use bus_cli::{Form, HELP, REFUSED, USAGE, bus_main};
 use io_edges::{ReadSource, WriteSink};
 use program_edges::{
     Call, FileCount, FrontSink, FrontSource, PipeWriter, Program, WordsFault, run,
@@ -68,8 +68,8 @@ impl Program for Busconf {
         }
     }
 
-    fn writes_bytes(form: &Form) -> bool {
-        *form == Form::Capture(CaptureForm::Maps)
+    fn writes_bytes(_form: &Form) -> bool {
+        false
     }
 
     fn fault_of(words: &[String]) -> WordsFault<'_> {
