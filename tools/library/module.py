@@ -183,7 +183,9 @@ def change_line(it):
 
 
 def differs(capture, words):
-    """What differs between the captures that the words name, or the one refusal that is told."""
+    """What differs between the captures that the words name, or the one refusal that is told; the module has no JSON."""
+    if "--json" in words:
+        return None
     standard, words = (1995, words[2:]) if "--1995" in words else (2000, words[1:])
     captures = [capture if it == "-" else data(os.path.join(top, "cases/busview/diff", it)) for it in words]
     if len(words) != 2 or not all(map(has_list, captures)):
