@@ -1,5 +1,5 @@
 "use strict";
-// The calls of the module busconf.wasm, which include/busconf.h describes. The module has a memory with addresses of
+// The calls of the module busconf.wasm, which c/include/busconf.h describes. The module has a memory with addresses of
 // 64 bits. This script adds a page of 65,536 bytes to it, in which the records of its calls lie.
 
 const PAGE = 65536;

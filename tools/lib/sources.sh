@@ -9,7 +9,7 @@ unset CDPATH
 source_files() (
   set -o pipefail
   cd "$top" || exit 1
-  local from=(crates.txt HANDLES border include web build tools/library.sh tools/web tools/lib/sources.sh tools/lib/static.sh crates)
+  local from=(crates.txt HANDLES c web build tools/library/run tools/web/run tools/lib/sources.sh tools/lib/static.sh crates)
   local unread='crates/[^/]*/\(out\|must-fail\)' other
   other=$(find "${from[@]}" -regex "$unread" -prune -o ! -type f ! -type d -print -quit) || exit 1
   [ -z "$other" ] || { echo "$other is neither a file nor a folder, so it can't be told what is built of it" >&2; exit 1; }

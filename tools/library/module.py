@@ -1,4 +1,4 @@
-"""Tries python/busconf.py: its numbers and records against the header's, and its calls over the cases of the programs.
+"""Tries c/python/busconf.py: its numbers and records against the header's, and its calls over the cases of the programs.
 
 The first argument is the top of the repository; BUSCONF_LIBRARY names the shared object.
 """
@@ -13,7 +13,7 @@ import subprocess
 import sys
 
 top = sys.argv[1]
-sys.path.insert(0, os.path.join(top, "python"))
+sys.path.insert(0, os.path.join(top, "c", "python"))
 sys.dont_write_bytecode = True
 
 import busconf  # noqa: E402
@@ -63,7 +63,7 @@ families = {
     "state": (busconf.State, "STATE_"),
     "signal": (busconf.Signal, "SIGNAL_"),
 }
-header = text("include/busconf.h")
+header = text("c/include/busconf.h")
 for name, body in re.findall(r"^enum busconf_(\w+) \{\n(.*?)^\};", header, re.M | re.S):
     has = {it: int(number) for it, number in re.findall(r"\bBUSCONF_(\w+) = (\d+)", body)}
     if has:
@@ -316,7 +316,7 @@ for wrong in (lambda: busconf.read(quads[:1]), lambda: others.allocate(2, 1, see
 
 # Libraries that can't be had, or are others.
 for library, said in (("/nothing.so", "can't be loaded"), (ctypes.util.find_library("m") or "libm.so.6", "is no libbusconf")):
-    how = {**os.environ, "BUSCONF_LIBRARY": library, "PYTHONPATH": os.path.join(top, "python")}
+    how = {**os.environ, "BUSCONF_LIBRARY": library, "PYTHONPATH": os.path.join(top, "c", "python")}
     done = subprocess.run([sys.executable, "-c", "import busconf"], capture_output=True, text=True, env=how, check=False)
     expect("ImportError: " in done.stderr and said in done.stderr, f"the library {library}")
 

@@ -1,4 +1,4 @@
-"""Compares the numbers, records and calls of include/busconf.h with those of the crates, whose contracts cite them."""
+"""Compares the numbers, records and calls of c/include/busconf.h with those of the crates, whose contracts cite them."""
 import os
 import re
 import sys
@@ -15,7 +15,7 @@ def snake(name):
     return re.sub(r"(?<!^)(?=[A-Z])", "_", name).upper()
 
 
-header = text("include/busconf.h")
+header = text("c/include/busconf.h")
 enums = {
     name: {it: int(number) for it, number in re.findall(r"\bBUSCONF_(\w+) = (\d+)", body)}
     for name, body in re.findall(r"^enum busconf_(\w+) \{\n(.*?)^\};", header, re.M | re.S)
@@ -109,7 +109,7 @@ for said, name in re.findall(r"/\*((?:(?!\*/).)*)\*/\n(?:enum )?\w+ (busconf_\w+
 # What is C alone takes memory where its file does.
 alone = []
 for it in ("heapless_c", "busconf_c", "script_c"):
-    said = text(f"border/{it}.c")
+    said = text(f"c/border/{it}.c")
     for name in re.findall(r"^(?:enum )?\w+ (busconf_\w+)\(", said, re.M):
         if f"PROVED({name});" not in said:
             exports[name] = "malloc(" in said
@@ -121,10 +121,10 @@ bad += [f"{it}: whether it takes memory" for it in sorted(set(exports) & set(dec
 # the call's crate.
 before = []
 for it in ("heapless_c", "busconf_c", "script_c"):
-    found = re.findall(r"^PROVED\((\w+)\);", text(f"border/{it}.c"), re.M)
-    bad += [f"{name}: in border/{it}.c, and not in the crate {it}" for name in found if homes.get(name) != it]
+    found = re.findall(r"^PROVED\((\w+)\);", text(f"c/border/{it}.c"), re.M)
+    bad += [f"{name}: in c/border/{it}.c, and not in the crate {it}" for name in found if homes.get(name) != it]
     before += found
 lengths = re.findall(r"^(?:enum )?\w+ (busconf_\w+)\([^;]*\bsize_t (?:count|room)\b[^;]*\);", header, re.M)
-bad += [f"{it}: a length without border/, or the other way round" for it in sorted({*before, *alone} ^ set(lengths))]
+bad += [f"{it}: a length without c/border/, or the other way round" for it in sorted({*before, *alone} ^ set(lengths))]
 print("\n".join(bad) or f"numbers: {len(wants)} numbers, {len(shown)} records and {len(exports)} calls of the header are the crates'")
 sys.exit(1 if bad else 0)

@@ -80,7 +80,7 @@ def programs_of(built):
     files = {**pages_of(doc), **{f"usr/{path}".replace("zsh/site-functions", "zsh/vendor-completions"): entry for path, entry in completion().items()}}
     for name in PROGRAMS:
         files[f"usr/bin/{name}"] = Entry(built.programs[name], 0o755)
-        files[f"usr/share/man/man1/{name}.1.gz"] = Entry(zipped(data_of(f"man/{name}.1")))
+        files[f"usr/share/man/man1/{name}.1.gz"] = Entry(zipped(data_of(f"share/man/{name}.1")))
     return Package(
         "busconf",
         {"Depends": libc_of(built.needs), "Suggests": "busconf-vectors, libbusconf-dev", "Section": "utils"},
@@ -112,7 +112,7 @@ def header_of(built, library):
     doc = "usr/share/doc/libbusconf-dev"
     below = library.machine.multiarch
     files = {
-        "usr/include/busconf.h": Entry(data_of("include/busconf.h")),
+        "usr/include/busconf.h": Entry(data_of("c/include/busconf.h")),
         f"usr/{below}/libbusconf.a": Entry(library.archive),
         f"usr/{below}/libbusconf.so": Entry(link=SONAME),
         f"usr/{below}/pkgconfig/busconf.pc": pc_of("/usr", below),
@@ -150,7 +150,7 @@ def python_of(built):
         },
         "The module busconf for Python, over the shared library of the proved calls.",
         "FireWire cable buses, read, planned and run: the module for Python",
-        {"usr/lib/python3/dist-packages/busconf.py": Entry(data_of("python/busconf.py"))},
+        {"usr/lib/python3/dist-packages/busconf.py": Entry(data_of("c/python/busconf.py"))},
         architecture="all")
 
 

@@ -59,7 +59,7 @@ def lay_trial(folder):
     made = {"READ": read, "PACKETS": list(cases_of("busview/packets")), "TREES": list(cases_of("busview/tree")), "TEXTS": texts()}
     with open(os.path.join(folder, "trial-cases.js"), "w", encoding="utf-8") as file:
         file.writelines(f"const {name} = {json.dumps(value)};\n" for name, value in made.items())
-    shutil.copy(os.path.join(TOP, "tools", "browser", "trial.js"), folder)
+    shutil.copy(os.path.join(TOP, "tools", "web", "trial.js"), folder)
     page = data_of(os.path.join(folder, "index.html")).decode()
     more = '<script src="trial-cases.js"></script>\n<script src="trial.js"></script>\n</body>'
     with open(os.path.join(folder, "trial.html"), "w", encoding="utf-8") as file:

@@ -279,15 +279,15 @@ def pages_of(prefix):
 
 
 def pc_of(prefix, folder):
-    return Entry(run(os.path.join(TOP, "tools/library.sh"), "pc", prefix, folder))
+    return Entry(run(os.path.join(TOP, "tools/library/run"), "pc", prefix, folder))
 
 
 def completion():
     folder = "share/bash-completion/completions"
-    files = {f"{folder}/busconf": Entry(data_of("completion/busconf.bash")), f"{folder}/busview": Entry(link="busconf")}
-    files["share/zsh/site-functions/_busconf"] = Entry(data_of("completion/_busconf"))
+    files = {f"{folder}/busconf": Entry(data_of("share/completion/busconf.bash")), f"{folder}/busview": Entry(link="busconf")}
+    files["share/zsh/site-functions/_busconf"] = Entry(data_of("share/completion/_busconf"))
     for program in PROGRAMS:
-        files[f"share/fish/vendor_completions.d/{program}.fish"] = Entry(data_of(f"completion/{program}.fish"))
+        files[f"share/fish/vendor_completions.d/{program}.fish"] = Entry(data_of(f"share/completion/{program}.fish"))
     return files
 
 
@@ -312,7 +312,7 @@ def tarball_of(built):
     files = {**pages_of(doc), **completion()}
     for name in PROGRAMS:
         files[f"bin/{name}"] = Entry(built.programs[name], 0o755)
-        files[f"share/man/man1/{name}.1"] = Entry(data_of(f"man/{name}.1"))
+        files[f"share/man/man1/{name}.1"] = Entry(data_of(f"share/man/{name}.1"))
     files.update(library_tarball_of(built.libraries[0]))
     files[f"{doc}/PROVED"] = Entry(built.proved)
     files[f"{doc}/copyright"] = copyright_of(built)
@@ -322,12 +322,12 @@ def tarball_of(built):
 def library_tarball_of(library):
     """The files of the library, by their paths in an archive."""
     return {
-        "include/busconf.h": Entry(data_of("include/busconf.h")),
+        "include/busconf.h": Entry(data_of("c/include/busconf.h")),
         "lib/libbusconf.a": Entry(library.archive),
         f"lib/{SONAME}": Entry(library.shared),
         "lib/libbusconf.so": Entry(link=SONAME),
         "lib/pkgconfig/busconf.pc": pc_of("${pcfiledir}/../..", "lib"),
-        "lib/python/busconf.py": Entry(data_of("python/busconf.py")),
+        "lib/python/busconf.py": Entry(data_of("c/python/busconf.py")),
     }
 
 

@@ -354,7 +354,7 @@ class Trial:
         """lintian has no error."""
         if not is_here("lintian"):
             if has_to:
-                raise Fault("no lintian here; tools/package prepare installs it")
+                raise Fault("no lintian here; tools/package/run prepare installs it")
             return "no lintian here, so the packages aren't held to Debian's rules (apt-get install lintian)"
         words = ["lintian", "--fail-on", "error", "--allow-root", *self.debs]
         done = subprocess.run(words, stdout=subprocess.PIPE, stderr=subprocess.STDOUT, check=False)
@@ -391,7 +391,7 @@ def test(vectors, has_to):
     """Tries everything, says of each part what was seen, and answers whether all is well."""
     wanted = [it for it in TOOLS if it not in SPARED and not is_here(it)]
     if wanted:
-        raise Fault(f"not on the PATH: {' '.join(wanted)}; tools/package prepare installs what it needs on Debian")
+        raise Fault(f"not on the PATH: {' '.join(wanted)}; tools/package/run prepare installs what it needs on Debian")
     well = True
     with tempfile.TemporaryDirectory(prefix="busconf-package-") as room:
         os.chmod(room, 0o755)
