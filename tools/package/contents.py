@@ -4,9 +4,14 @@ import hashlib
 import os
 import re
 import subprocess
+import sys
 from dataclasses import dataclass
 
 TOP = os.path.dirname(os.path.dirname(os.path.dirname(os.path.realpath(__file__))))
+sys.path.append(os.path.join(TOP, "tools", "library"))
+
+import manual  # noqa: E402
+
 PROGRAMS = ("busconf", "busview")
 # Where ./build puts the page with its module, and the files of the module. A browser reads the second.
 PAGE = "crates/heapless_c/out/web"
@@ -319,9 +324,19 @@ def tarball_of(built):
     return with_sums(files, "SHA256SUMS")
 
 
+def manual_of(library):
+    """The manual pages of a library's calls, by their names."""
+    pages = manual.manual(data_of("c/include/busconf.h").decode())
+    other = set(pages) ^ set(library.calls)
+    if other:
+        raise Fault(f"a call without a manual page, or a page without its call: {' '.join(sorted(other))}")
+    return {f"{call}.3": text.encode() for call, text in pages.items()}
+
+
 def library_tarball_of(library):
     """The files of the library, by their paths in an archive."""
     return {
+        **{f"share/man/man3/{name}": Entry(page) for name, page in manual_of(library).items()},
         "include/busconf.h": Entry(data_of("c/include/busconf.h")),
         "lib/libbusconf.a": Entry(library.archive),
         f"lib/{SONAME}": Entry(library.shared),

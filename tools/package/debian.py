@@ -5,7 +5,7 @@ import os
 import textwrap
 from dataclasses import dataclass, field
 
-from contents import (PROGRAMS, SONAME, TOP, Entry, completion, copyright_of, data_of, pages_of, pc_of,
+from contents import (PROGRAMS, SONAME, TOP, Entry, completion, copyright_of, data_of, manual_of, pages_of, pc_of,
                       readers_of, sums_of, vectors_of, vectors_tool, with_sums, zipped)
 
 ABOUT = """busconf configures FireWire cable buses (IEEE Std 1394-1995 and 1394a-2000) as their nodes do. It runs a bus
@@ -117,6 +117,7 @@ def header_of(built, library):
         f"usr/{below}/libbusconf.so": Entry(link=SONAME),
         f"usr/{below}/pkgconfig/busconf.pc": pc_of("/usr", below),
         f"{doc}/LIBRARY.md": Entry(data_of("docs/LIBRARY.md")),
+        **{f"usr/share/man/man3/{name}.gz": Entry(zipped(page)) for name, page in manual_of(library).items()},
     }
     examples = pages_of(doc)
     files.update({path: entry for path, entry in examples.items() if path.startswith(f"{doc}/examples/")})

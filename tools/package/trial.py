@@ -256,7 +256,7 @@ class Trial:
         folder = os.path.join(root.folder, "tmp", name)
         check_sums(folder, "SHA256SUMS")
         count = run_cases(root, f"/tmp/{name}/bin")
-        read_pages(glob.glob(f"{folder}/share/man/man1/*.1"))
+        read_pages(glob.glob(f"{folder}/share/man/man[13]/*"))
         config = {**os.environ, "PKG_CONFIG_PATH": f"{folder}/lib/pkgconfig"}
         compile_examples(root, self.room, config, f"/tmp/{name}/lib", "archive")
         try_module(f"{folder}/lib/python", f"{folder}/lib/{SONAME}")
@@ -273,7 +273,7 @@ class Trial:
         for sums in glob.glob(f"{root.folder}/usr/share/doc/*/SHA256SUMS"):
             check_sums(root.folder, sums)
         count = run_cases(root, "/usr/bin")
-        read_pages(glob.glob(f"{root.folder}/usr/share/man/man1/*.gz"))
+        read_pages(glob.glob(f"{root.folder}/usr/share/man/man[13]/*.gz"))
         compile_examples(root, self.room, config_of(root), "", "packages")
         read_in_python(f"{root.folder}/usr/{MULTIARCH}/{SONAME}")
         try_module(f"{root.folder}/usr/lib/python3/dist-packages", f"{root.folder}/usr/{MULTIARCH}/{SONAME}")
