@@ -32,21 +32,22 @@ const TEXT_FORMS = [
 
 // ---- Texts
 
-// Lines with `self_ids=`, `packet_data=` or `self_id_sequence=`. The last is of one node; those that follow each other
-// in one generation are one list.
+// Lines with `self_ids=`, `packet_data=` or `self_id_sequence=`. The last is of one node; those of a card that follow each
+// other in one generation are one list.
 function readTrace(text) {
   const lists = [];
-  let sequence = null;
+  const open = new Map();
   for (const line of text.split("\n")) {
     const alone = numbersOf(line, "self_ids");
     const pairs = numbersOf(line, "packet_data");
     const ofNode = numbersOf(line, "self_id_sequence");
     const name = nameOfEvent(line);
-    if (ofNode && sequence && sequence.name === name) {
-      addFirsts(sequence, ofNode);
+    const card = line.match(/\bcard_index=(\w+)/)?.[1] ?? "";
+    if (ofNode && open.get(card)?.name === name) {
+      addFirsts(open.get(card), ofNode);
       continue;
     }
-    if (ofNode) lists.push(sequence = listOfFirsts(name, ofNode));
+    if (ofNode) lists.push(opened(open, card, listOfFirsts(name, ofNode)));
     if (alone) lists.push(listOfFirsts(name, alone));
     if (pairs) lists.push(listOfPairs(name, bytesOf(pairs)));
   }
@@ -65,17 +66,27 @@ function nameOfEvent(line) {
   return [card && `card ${card[1]}`, generation && `generation ${generation[1]}`].filter(Boolean).join(", ");
 }
 
-// Lines with `selfID 0: 807f8094, ..`. A line with `2 selfIDs, generation 1` begins a list.
+// Lines with `selfID 0: 807f8094, ..`. A line with `2 selfIDs, generation 1` begins a list of its device, and the lines of
+// several devices may come in turn.
 function readLog(text) {
   const lists = [];
+  const open = new Map();
   for (const line of text.split("\n")) {
+    const device = line.match(/\bfirewire_ohci (\S+): /)?.[1] ?? "";
     const begin = line.match(/\b\d+ selfIDs, generation (\d+)/);
     const packet = line.match(/\bselfID [0n]: ([0-9a-f]{8})\b/i);
-    if (begin) lists.push(listOfFirsts(`generation ${begin[1]}`, []));
-    if (packet && lists.length === 0) lists.push(listOfFirsts("", []));
-    if (packet) addFirsts(lists.at(-1), [parseInt(packet[1], 16)]);
+    if (begin) lists.push(opened(open, device, { ...listOfFirsts(`generation ${begin[1]}`, []), device }));
+    if (packet && !open.has(device)) lists.push(opened(open, device, { ...listOfFirsts("", []), device }));
+    if (packet) addFirsts(open.get(device), [parseInt(packet[1], 16)]);
   }
+  if (open.size > 1) lists.forEach((list) => list.name = [list.device, list.name].filter(Boolean).join(" "));
   return lists.length > 0 ? lists : null;
+}
+
+// Notes that a list is the one to which what follows of a card or device belongs.
+function opened(open, whose, list) {
+  open.set(whose, list);
+  return list;
 }
 
 function readXxd(text, inverses) {

@@ -70,6 +70,12 @@ const ONE = "nodes 1 root 0 irm none";
 const TWO = "nodes 2 root 1 irm 1";
 const HUB = "nodes 5 root 4 irm none";
 
+// What a driver says of two cards whose buses reset at the same time.
+function twoCards() {
+  const says = ["2 selfIDs, generation 1, local node ID ffc0", "selfID 0: 807f8094, phy 0 [p--]", "selfID 0: 817f88d4, phy 1 [c--]"];
+  return says.flatMap((it) => [`firewire_ohci 0000:05:00.0: ${it}`, `firewire_ohci 0000:06:00.0: ${it}`]).join("\n");
+}
+
 // Each form that the page reads, with what it is read as and the verdict.
 function tryForms() {
   const pairs = "807f80947f807f6b817f88d47e80772b";
@@ -89,6 +95,7 @@ function tryForms() {
     ["00000000  80 7f 80 94 7f 80 7f 6b  81 7f 88 d4 7e 80 77 2b  |.......k....~.w+|\n00000010\n",
       "the output of hexdump -C", TWO],
     ["selfID 0: 807f8094, phy 0 [p--]\nselfID 0: 817f88d4, phy 1", "the log of the Linux kernel's driver", TWO],
+    [twoCards(), "the log of the Linux kernel's driver", TWO, 2],
     [TEXTS["examples/traces/bus_reset_handle.txt"], "a trace of the Linux kernel", TWO, 3],
     [TEXTS["cases/busview/resets/drivers-own-log"], "the log of the Linux kernel's driver", ONE, 4],
   ];
