@@ -58,7 +58,7 @@ pub use Rattle.cable_world.proofs.running.Lists.{no-packets}
 -- The tables of a world at power-on.
 pub use Rattle.cable_world.proofs.running.Start.{are-counts, as-long, each-node, even-paced, power-on, rows-are, start-is}
 -- A world by its parts: what a lawful one gives to the code, and its turn.
-pub use Rattle.cable_world.proofs.running.Whole.{all-young, fault-of, held-is, lawful-now, put-long, rows-long, sent-long, settled, short-now, turn-is, vectors-related, young-from}
+pub use Rattle.cable_world.proofs.running.Whole.{all-young, fault-of, held-is, lawful-now, put-back, put-long, rows-long, sent-long, settled, short-now, turn-is, vectors-related, young-from}
 -- The power-on world is well formed, and as no cable is there its wires agree.
 pub use Rattle.cable_world.proofs.tables.AtPowerOn.{power-on-apart}
 -- An end of a cable: its node, its port and its wire are there.

@@ -2,6 +2,7 @@
 -- cites these files.
 pub mod Ages
 pub mod Rows
+pub mod Tally
 pub mod Rest
 pub mod Hearing
 pub mod Steps

@@ -14,8 +14,10 @@ mod nodes;
 pub mod parts;
 mod rows;
 mod run;
+mod signals;
 mod start;
 mod steps;
+mod tally;
 mod time_laws;
 mod wire;
 mod world;
@@ -28,6 +30,7 @@ pub use laws::{
     worlds_stay_reached,
 };
 pub use run::{ShowsWires, WorldRun};
+pub use signals::Signals;
 pub use time_laws::times_suit;
 pub use wire::Travelling;
 pub use world::World;

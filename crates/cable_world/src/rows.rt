@@ -1,5 +1,5 @@
 //! The wires that leave a node, and what arrives at their far ends.
-ghost use Rattle.std.specs.Prelude.{◌≡◌, ◌<◌, ◌≤◌, ◌-◌, ℕ, false, [], ◌&&◌, nat_lt, length, map, replicate, take, slice_get, slice_set, slice_index, slice_index_or, All, OnOk, IfOk, ◌↔◌, IsTrue, IsFalse, if◌then◌else◌};
+ghost use Rattle.std.specs.Prelude.{◌≡◌, ◌<◌, ◌≤◌, ◌-◌, ℕ, false, [], ◌&&◌, nat_lt, length, map, replicate, take, drop, slice_set, slice_index, slice_index_or, All, OnOk, IfOk, ◌↔◌, IsTrue, IsFalse, if◌then◌else◌};
 ghost use Rattle.port_state.specs.Ports.{PortNumber};
 ghost use Rattle.port_state.specs.PortSet.{has_port, all_sent};
 ghost use Rattle.cable_world.specs.Wire.{empty_wire, arrives, stays};
@@ -8,10 +8,11 @@ ghost use Rattle.cable_world.specs.Still.{IsSilent, hold_less};
 ghost use Rattle.cable_world.specs.running.Ages.{AreYoung};
 ghost use Rattle.cable_world.specs.running.Rest.{AreAtRest, AreNone};
 ghost use Rattle.cable_world.specs.running.Rows.{on_port, signals_on, keeps};
+ghost use Rattle.cable_world.specs.running.Tally.{IsTally};
 
-use crate::wire::{
-    Travelling, UnderWay, add_all, clear_port, count_on, is_due, part, ports_of, signal_on,
-};
+use crate::signals::Signals;
+use crate::tally::Tally;
+use crate::wire::{UnderWay, add_all, clear_port, is_due, part, ports_of};
 use cabling::OutOfMemory;
 use port_state::{PortSet, Sent};
 use std::alloc::Global;
@@ -32,10 +33,13 @@ pub struct WireRow {
     // For each port a place in `sent` before which nothing is under way on its wire: what was cleared
     // isn't looked at again.
     cleared: [u32; 16],
+    // What is counted of `sent`.
+    counted: Tally,
     ghost free: { IsFalse holds → All (λ h. h ≡ 0) held.items },
     ghost row: { (k : ℕ) → has_port ports k ≡ (nat_lt k 16 && nat_lt k (length held.items)) },
     ghost gone: { (p : ℕ) → (slice_index cleared p ≤ length sent.items)
         × (on_port p (take (slice_index cleared p) sent.items) ≡ []) },
+    ghost tally: { IsTally counted sent.items },
 }
 
 impl Model for WireRow {
@@ -137,15 +141,22 @@ fn count_down(held: &mut [u16], turns: u32) -> bool
 /// What is under way arrives, in place of what did before, and nothing is under way. Mostly nothing
 /// was, and then only what arrived before goes.
 #[inline(always)]
-fn hand_over(sent: &mut Vec<UnderWay>, cleared: &mut [u32; 16], arrivals: &mut Vec<UnderWay>)
+fn hand_over(
+    sent: &mut Vec<UnderWay>,
+    cleared: &mut [u32; 16],
+    counted: &mut u32,
+    arrivals: &mut Vec<UnderWay>,
+)
     ensures none { sent.new.items ≡ [] }
     ensures arrives { arrivals.new.items ≡ sent.old.items }
     ensures cleared { (p : ℕ) → slice_index cleared.old p ≤ length sent.old.items
         → slice_index cleared.new p ≡ 0 }
+    ensures counted { counted.old ≤ length sent.old.items → counted.new ≡ 0 }
 {
     arrivals.clear();
     if !sent.is_empty() {
         *cleared = [0; 16];
+        *counted = 0;
         swap(sent, arrivals);
     }
 }
@@ -167,6 +178,7 @@ impl WireRow {
             ports: row,
             holds: false,
             cleared: [0; 16],
+            counted: Tally::none(),
         })
     }
 
@@ -189,6 +201,7 @@ impl WireRow {
         if at < 16 {
             clear_port(&mut self.sent, self.cleared[at] as usize, port);
             self.cleared[at] = self.sent.len().min(u32::MAX as usize) as u32;
+            self.counted.counts[at] = 0;
         }
     }
 
@@ -213,7 +226,12 @@ impl WireRow {
         ensures ports { length self.new ≡ length self.old }
         ensures rows { length arrivals.new ≡ length arrivals.old }
     {
-        hand_over(&mut self.sent, &mut self.cleared, &mut arrivals.sent);
+        hand_over(
+            &mut self.sent,
+            &mut self.cleared,
+            &mut self.counted.entries,
+            &mut arrivals.sent,
+        );
         if !self.holds {
             return Ok(());
         }
@@ -230,18 +248,26 @@ impl WireRow {
         if usize::from(port) >= self.held.len() {
             return 0;
         }
-        count_on(&self.sent, port)
+        self.counted.count(&self.sent, port)
     }
 
-    /// What is under way on the wire of a port: the oldest at place 0, and none past the last or where
-    /// the port doesn't exist.
-    pub fn under_way(&self, port: u8, at: usize) -> Option<Travelling>
-        ensures { result ≡ slice_get (slice_index_or self.now port empty_wire).signals at }
+    /// What is under way on the wire of a port, behind so many of the oldest: nothing where the port
+    /// doesn't exist.
+    pub fn under_way(&self, port: u8, past: usize) -> Signals<'_>
+        ensures { result ≡ drop past (slice_index_or self.now port empty_wire).signals }
     {
         if usize::from(port) >= self.held.len() {
-            return None;
+            return Signals::none();
         }
-        signal_on(&self.sent, port, at)
+        self.counted.signals(&self.sent, port, past)
+    }
+
+    /// Counts what is under way on each wire: `count`, and `under_way` behind what is counted, then go
+    /// over what is sent later alone.
+    pub fn tally(&mut self)
+        ensures { self.new ≡ self.old }
+    {
+        self.counted.count_all(&self.sent);
     }
 
     /// Whether nothing is under way on the wires.

@@ -1,5 +1,5 @@
 //! What every world does.
-ghost use Rattle.std.specs.Prelude.{◌≡◌, ◌+◌, ◌<◌, ◌≤◌, ◌↔◌, Bool, Some, None, length, slice_get, IsTrue, IsFalse, IsErr, IsSomeAnd, OnOk};
+ghost use Rattle.std.specs.Prelude.{◌≡◌, ◌+◌, ◌<◌, ◌≤◌, ◌↔◌, Bool, Some, None, length, drop, slice_get, IsTrue, IsFalse, IsErr, IsSomeAnd, OnOk};
 ghost use Rattle.port_state.specs.Group.{shown_attrs};
 ghost use Rattle.cable_world.specs.World.{CableWorld, wire_of};
 ghost use Rattle.cable_world.specs.Turn.{turn, turns_after};
@@ -9,7 +9,7 @@ ghost use Rattle.cable_world.specs.Unchanged.{TurnsPass};
 ghost use Rattle.cable_world.specs.Answer.{IfFault, IsMemory};
 
 use crate::act::{Act, ActStop};
-use crate::wire::Travelling;
+use crate::signals::Signals;
 use cabling::{Cabling, End, OutOfMemory};
 use port_state::{Timing, View};
 use self_id::Attrs;
@@ -134,8 +134,16 @@ pub trait ShowsWires: WorldRun {
     fn count_under_way(&self, end: End) -> usize
         ensures { result ≡ length (wire_of (Self.world self.now) end).signals };
 
-    /// What is under way on the wire that leaves an end, with the number of turns for which it has
-    /// been: the oldest at place 0, and none from `count_under_way` on.
-    fn under_way(&self, end: End, at: usize) -> Option<Travelling>
-        ensures { result ≡ slice_get (wire_of (Self.world self.now) end).signals at };
+    /// What is under way on the wire that leaves an end, behind the `past` oldest signals: the oldest
+    /// first, each with the number of turns for which it has been. It is nothing from `count_under_way`
+    /// on.
+    fn under_way(&self, end: End, past: usize) -> Signals<'_>
+        ensures { result ≡ drop past (wire_of (Self.world self.now) end).signals };
+
+    /// Counts what is under way on the wires that leave a node, if there is such a node, and changes
+    /// nothing that is told of the world. Until the next turn `count_under_way`, and `under_way` behind
+    /// what is counted, then go over what came later alone.
+    fn tally(&mut self, node: u8)
+        ensures same { Self.world self.new ≡ Self.world self.old }
+        ensures spent { Self.is_spent self.new ≡ Self.is_spent self.old };
 }

@@ -1,6 +1,6 @@
 //! What is under way on the wires of a node, as entries: a signal that was sent on some ports at once is
 //! one entry, and an older entry comes before a later one.
-ghost use Rattle.std.specs.Prelude.{◌≡◌, ◌==◌, ◌↔◌, ℕ, false, [], ◌++◌, map, length, take, slice_get, OnOk, if◌then◌else◌};
+ghost use Rattle.std.specs.Prelude.{◌≡◌, ◌==◌, ◌↔◌, ℕ, false, [], ◌++◌, map, length, take, OnOk, if◌then◌else◌};
 ghost use Rattle.port_state.specs.PortSet.{has_port, all_sent};
 ghost use Rattle.port_state.specs.Sends.{sent_on};
 ghost use Rattle.cable_world.specs.Wire.{new_signal, age_signal, front_is_due};
@@ -54,26 +54,6 @@ pub fn count_on(sent: &[UnderWay], port: u8) -> usize
         }
     }
     count
-}
-
-/// What is under way on the wire of a port: the oldest at place 0, and none past the last.
-pub fn signal_on(sent: &[UnderWay], port: u8, at: usize) -> Option<Travelling>
-    ensures { result ≡ slice_get (on_port port sent.now) at }
-{
-    let mut left = at;
-    for entry in sent {
-        if !entry.ports.has(port) {
-            continue;
-        }
-        if left == 0 {
-            return Some(Travelling {
-                signal: entry.signal,
-                age: entry.age,
-            });
-        }
-        left -= 1;
-    }
-    None
 }
 
 /// Whether the oldest signal on the wire of a port is due once it is a turn older, where a cable delays

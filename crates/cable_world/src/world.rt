@@ -13,8 +13,8 @@ use crate::acting::{act_world, hold_fault, is_memory};
 use crate::all_nodes::turn_world;
 use crate::rows::{ArrivalRow, WireRow};
 use crate::run::{ShowsWires, WorldRun};
+use crate::signals::Signals;
 use crate::start::{arrival_rows, no_changes, port_counts, wire_rows};
-use crate::wire::Travelling;
 use arrayvec::ArrayVec;
 use cabling::{Cabling, End, OutOfMemory};
 use port_state::{PortMachine, Sends, TimeRanges, Timing, View};
@@ -207,10 +207,17 @@ impl<M: PortMachine> ShowsWires for World<M> {
         }
     }
 
-    fn under_way(&self, end: End, at: usize) -> Option<Travelling> {
+    fn under_way(&self, end: End, past: usize) -> Signals<'_> {
         match self.wires.get(end.node as usize) {
-            None => None,
-            Some(row) => row.under_way(end.port, at),
+            None => Signals::none(),
+            Some(row) => row.under_way(end.port, past),
+        }
+    }
+
+    fn tally(&mut self, node: u8) {
+        let at = usize::from(node);
+        if at < self.wires.len() {
+            self.wires[at].tally();
         }
     }
 }

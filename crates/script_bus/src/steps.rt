@@ -104,7 +104,7 @@ impl Bus {
         let seen = self.tell_before(alloc, command, touched, listener)?;
         let bus = self.act(act)?;
         bus.tell_after(touched, &seen, listener)?;
-        Ok(bus)
+        Ok(bus.tallied(touched, &*listener))
     }
 
     /// Does the act that a command says, which a listener hears.

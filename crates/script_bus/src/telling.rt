@@ -6,11 +6,20 @@ ghost use Rattle.script_trace.specs.Event.{Seen};
 ghost use Rattle.script_trace.specs.News.{picked, IsEnough};
 
 use crate::bus::{Bus, buses_are_sound};
+use cable_world::ShowsWires;
 use cabling::NodeSet;
 use script_lines::Command;
-use script_trace::{Listener, Seen, see_before_act};
+use script_trace::{Listener, Seen, see_before_act, tally_after_act};
 use std::alloc::Global;
 use topology_stack::OutOfMemory;
+
+/// Has a world in a box count what is under way at the nodes of a set, as `tally_after_act` does.
+fn tally_boxed<W: ShowsWires, L: Listener>(world: &mut Box<W>, touched: NodeSet, listener: &L)
+    ensures same { W.world world.new.value ≡ W.world world.old.value }
+    ensures spent { W.is_spent world.new.value ≡ W.is_spent world.old.value }
+{
+    tally_after_act(&mut **world, touched, listener);
+}
 
 impl Bus {
     /// An act comes. Answers what the nodes of a set show before it, where the listener looks at it.
@@ -48,5 +57,15 @@ impl Bus {
         buses_are_sound(self);
         listener.since(&self.legend(), touched, seen, self.world())?;
         Ok(())
+    }
+
+    /// The same bus, after an act that touched the nodes of a set: its world has counted what is under
+    /// way there, where the listener hears anything.
+    pub(crate) fn tallied<L: Listener>(self, touched: NodeSet, listener: &L) -> Bus
+        ensures { result ≡ self }
+    {
+        let Bus { mut world, notes } = self;
+        tally_boxed(&mut world, touched, listener);
+        Bus { world, notes }
     }
 }

@@ -1,7 +1,6 @@
 -- Lists that are gone through by number.
 use Rattle.std.proofs.Common.{◌≡◌, ◌++◌, ◌+◌, ◌<◌, ◌≤◌, ℕ, List, [], ◌∷◌, length, drop, map, get_or, Option, Some, None, zero, suc, refl, sym, ◌∙◌, ap, append_assoc, add-one, arith}
 use Rattle.std.specs.Prelude.{codes, slice_get, slice_index_or}
-use Rattle.std.specs.Option.{option_to_list}
 use Rattle.std.proofs.Math.Seq.{drop-cons}
 use Rattle.std.specs.Option.{option_map}
 use Rattle.std.proofs.lemmas.List.{append-nil}
@@ -51,11 +50,6 @@ past-end (x ∷ xs) (suc k) h = past-end xs k (omega (arith, h))
 pub all-told : (out all rest : List ℕ) → rest ≡ [] → out ++ rest ≡ all → out ≡ all
 all-told out all rest none so = sym (append-nil out) ∙ sym (ap (λ (l : List ℕ). out ++ l) none) ∙ so
 
-past-all : {A : Type 0} → (xs : List A) (k : ℕ) → slice_get xs k ≡ None → length xs ≤ k
-past-all [] k e = omega arith
-past-all (x ∷ xs) zero e = absurd cc
-past-all (x ∷ xs) (suc k) e = let h = past-all xs k e in omega (arith, h)
-
 -- ---- the front of a line
 
 pub front-of :
@@ -93,38 +87,19 @@ next-sent front w node k n there ports before after all h count is so =
     ∙ ap (λ (i : ℕ). sent_lines front k (drop i under) ++ rest) (sym count))
     so
 
--- one signal more of a wire, and the rest, where what is written of signals is a text for each
-pub signal-more :
-    (text : List Travelling → List ℕ) →
-    ((t : Travelling) (ts : List Travelling) → text (t ∷ ts) ≡ text (t ∷ []) ++ text ts) → text [] ≡ [] →
-    (signals : List Travelling) (at : ℕ) (o : Option Travelling) → o ≡ slice_get signals at →
-    text (drop at signals) ≡ text (option_to_list o) ++ text (drop (at + 1) signals)
-signal-more text one none signals at (Some t) is =
-    ap text (left-from signals at t (sym is)) ∙ one t (drop (at + 1) signals)
-signal-more text one none signals at None is =
-    let past : length signals ≤ at = past-all signals at (sym is) in
-    ap text (past-end signals at past) ∙ none
-    ∙ sym (rw (past-end signals (at + 1) (omega (arith, past)), none) refl)
-
+-- one signal more of a wire, and the rest
 pub lines-more :
-    (front : List ℕ) (port : ℕ) (signals : List Travelling) (at : ℕ) (o : Option Travelling)
-    (before after all : List ℕ) → o ≡ slice_get signals at →
-    after ≡ before ++ sent_lines front port (option_to_list o) →
-    before ++ sent_lines front port (drop at signals) ≡ all →
-    after ++ sent_lines front port (drop (at + 1) signals) ≡ all
-lines-more front port signals at o before after all is new so =
-    let text = sent_lines front port in
-    let one : (s : Travelling) (ss : List Travelling) → text (s ∷ ss) ≡ text (s ∷ []) ++ text ss =
-    λ s ss. ap (λ (l : List ℕ). l ++ text ss) (sym (append-nil (sent_line front port s))) in
-    one-more before after (text (option_to_list o)) (text (drop (at + 1) signals)) (text (drop at signals)) all
-    new (signal-more text one refl signals at o is) so
+    (front : List ℕ) (port : ℕ) (t : Travelling) (left rest : List Travelling) (before after all : List ℕ) → left ≡ t ∷ rest →
+    after ≡ before ++ sent_line front port t → before ++ sent_lines front port left ≡ all →
+    after ++ sent_lines front port rest ≡ all
+lines-more front port t left rest before after all is new so =
+    one-more before after (sent_line front port t) (sent_lines front port rest) (sent_lines front port left) all
+    new (ap (sent_lines front port) is) so
 
 pub no-lines-left :
-    (front : List ℕ) (port : ℕ) (signals : List Travelling) (at : ℕ) (out all : List ℕ) →
-    length signals ≤ at → out ++ sent_lines front port (drop at signals) ≡ all → out ≡ all
-no-lines-left front port signals at out all past so =
-    all-told out all (sent_lines front port (drop at signals))
-    (ap (sent_lines front port) (past-end signals at past)) so
+    (front : List ℕ) (port : ℕ) (left : List Travelling) (out all : List ℕ) → left ≡ [] →
+    out ++ sent_lines front port left ≡ all → out ≡ all
+no-lines-left front port left out all none so = all-told out all (sent_lines front port left) (ap (sent_lines front port) none) so
 
 -- ---- nodes
 

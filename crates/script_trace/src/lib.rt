@@ -32,7 +32,7 @@ pub use laws::{
     scripts_have_one_trace, turns_show_what_is_sent,
 };
 pub use legend::Legend;
-pub use listener::{Listener, see_before_act};
+pub use listener::{Listener, see_before_act, tally_after_act};
 pub use node::state_number;
 pub use steps::hear_turns;
 pub use trace_listener::Trace;

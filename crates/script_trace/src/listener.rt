@@ -77,3 +77,19 @@ pub fn see_before_act<W: ShowsWires, L: Listener>(
     }
     Ok(Vec::new(alloc))
 }
+
+/// Has the world count what is under way at the nodes of a set, where the listener hears anything: so
+/// what the next act finds there is known without counting it again.
+pub fn tally_after_act<W: ShowsWires, L: Listener>(world: &mut W, touched: NodeSet, listener: &L)
+    ensures same { W.world world.new ≡ W.world world.old }
+    ensures spent { W.is_spent world.new ≡ W.is_spent world.old }
+{
+    if !listener.hears() {
+        return;
+    }
+    for node in 0..63 {
+        if touched.has(node) {
+            world.tally(node);
+        }
+    }
+}

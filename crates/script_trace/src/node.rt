@@ -1,9 +1,8 @@
 //! What happens at a node, a line for each thing.
 ghost use Rattle.std.specs.Prelude.{◌≡◌, ◌++◌, ◌<◌, codes, length, OnOk};
-ghost use Rattle.std.specs.Option.{option_to_list};
 ghost use Rattle.port_state.specs.Ports.{port_is};
 ghost use Rattle.script_text.specs.ReportText.{numbered, spaced};
-ghost use Rattle.script_trace.specs.Event.{line_of, state_words, state_number, enters, state_line, timeout_line, parent_line, child_line, child_lines, coin_digit, coin_line, id_line, signal_words, sent_line, sent_lines};
+ghost use Rattle.script_trace.specs.Event.{line_of, state_words, state_number, enters, state_line, timeout_line, parent_line, child_line, child_lines, coin_digit, coin_line, id_line, signal_words, sent_line};
 
 use cable_world::Travelling;
 use port_state::{Phase, PortView, PortViews, Signal, View};
@@ -252,7 +251,7 @@ fn put_signal(out: &mut Vec<u8>, signal: Signal) -> Result<(), OutOfMemory>
 }
 
 /// Appends the line of a signal, if it was sent just now.
-fn put_sent_one(
+pub(crate) fn put_sent_one(
     out: &mut Vec<u8>,
     front: &[u8],
     port: u8,
@@ -268,20 +267,4 @@ fn put_sent_one(
         out.push(b'\n')?;
     }
     Ok(())
-}
-
-/// Appends the line of a signal, if there is one and it was sent just now.
-pub(crate) fn put_sent_some(
-    out: &mut Vec<u8>,
-    front: &[u8],
-    port: u8,
-    travelling: Option<Travelling>,
-) -> Result<(), OutOfMemory>
-    ensures { OnOk result (out.new.items
-        ≡ out.old.items ++ sent_lines front.now port (option_to_list travelling)) }
-{
-    match travelling {
-        None => Ok(()),
-        Some(travelling) => put_sent_one(out, front, port, travelling),
-    }
 }

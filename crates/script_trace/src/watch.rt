@@ -7,7 +7,7 @@ ghost use Rattle.script_trace.specs.News.{picked, IsEnough};
 ghost use Rattle.script_trace.specs.Step.{lines_since, seen_before_turn, seen_before_act, counts_from};
 
 use crate::node::{
-    begin_lines, put_children, put_coin, put_id, put_parent, put_sent_some, put_state, put_timeout,
+    begin_lines, put_children, put_coin, put_id, put_parent, put_sent_one, put_state, put_timeout,
 };
 use cable_world::ShowsWires;
 use cabling::{End, NodeSet};
@@ -139,8 +139,8 @@ fn put_sent<W: ShowsWires>(
         ++ sent_lines front.now end.port
         (drop there (wire_of (W.world world.now) end).signals)) }
 {
-    for at in there..world.count_under_way(end) {
-        put_sent_some(out, front, end.port, world.under_way(end, at))?;
+    for travelling in world.under_way(end, there) {
+        put_sent_one(out, front, end.port, travelling)?;
     }
     Ok(())
 }

@@ -11,7 +11,7 @@ use crate::legend::Legend;
 use crate::listener::Listener;
 use crate::watch::Seen;
 use crate::waves_node::{put_id, put_root, put_state, put_timeout};
-use crate::waves_port::{put_gone, put_role, put_sent_some, put_shown, there_at};
+use crate::waves_port::{put_gone, put_role, put_sent_one, put_shown, there_at};
 use cable_world::ShowsWires;
 use cabling::{End, NodeSet};
 use port_state::{PortView, View};
@@ -50,8 +50,8 @@ fn put_sent<W: ShowsWires>(
         ++ sent_changes end.node end.port
         (drop there (wire_of (W.world world.now) end).signals)) }
 {
-    for at in there..world.count_under_way(end) {
-        put_sent_some(out, end.node, end.port, world.under_way(end, at))?;
+    for travelling in world.under_way(end, there) {
+        put_sent_one(out, end.node, end.port, travelling)?;
     }
     Ok(())
 }

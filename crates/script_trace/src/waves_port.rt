@@ -1,9 +1,8 @@
 //! What comes to be another value of a port's variables in a dump.
 ghost use Rattle.std.specs.Prelude.{◌≡◌, ◌≤◌, ◌++◌, slice_index_or, OnOk};
-ghost use Rattle.std.specs.Option.{option_to_list};
 ghost use Rattle.port_state.specs.Ports.{is_port};
 ghost use Rattle.script_trace.specs.waves.Value.{level_number, level_value, role, role_lines, role_value, sent_value, shown_lines};
-ghost use Rattle.script_trace.specs.waves.Change.{gone_change, port_at, role_change, sent_change, sent_changes, shown_change, signal_line};
+ghost use Rattle.script_trace.specs.waves.Change.{gone_change, port_at, role_change, sent_change, shown_change, signal_line};
 
 use crate::waves_node::flag;
 use crate::waves_value::{put_port_line, put_port_number};
@@ -214,7 +213,7 @@ fn put_signal(out: &mut Vec<u8>, node: u8, port: u8, signal: Signal) -> Result<(
 }
 
 /// Appends a signal, if it was sent just now.
-fn put_sent_one(
+pub(crate) fn put_sent_one(
     out: &mut Vec<u8>,
     node: u8,
     port: u8,
@@ -228,24 +227,6 @@ fn put_sent_one(
         put_signal(out, node, port, travelling.signal)?;
     }
     Ok(())
-}
-
-/// Appends a signal, if there is one and it was sent just now.
-pub(crate) fn put_sent_some(
-    out: &mut Vec<u8>,
-    node: u8,
-    port: u8,
-    travelling: Option<Travelling>,
-) -> Result<(), OutOfMemory>
-    requires node { node ≤ 62 }
-    requires port { port ≤ 15 }
-    ensures { OnOk result (out.new.items
-        ≡ out.old.items ++ sent_changes node port (option_to_list travelling)) }
-{
-    match travelling {
-        None => Ok(()),
-        Some(travelling) => put_sent_one(out, node, port, travelling),
-    }
 }
 
 /// How many signals were there before on the wire of a port.

@@ -20,7 +20,7 @@ use cable_world::parts::{
     ArrivalRow, WireRow, arrival_rows, hold_fault, is_memory, no_changes, port_counts, wire_rows,
 };
 use cable_world::{
-    Act, ActStop, ShowsWires, Travelling, WorldRun, still_turns_pass, worlds_stay_lawful,
+    Act, ActStop, ShowsWires, Signals, WorldRun, still_turns_pass, worlds_stay_lawful,
     worlds_stay_reached,
 };
 use cabling::{Cabling, End, NodeSet, OutOfMemory};
@@ -311,10 +311,17 @@ impl<M: PortMachine> ShowsWires for AgendaWorld<M> {
         }
     }
 
-    fn under_way(&self, end: End, at: usize) -> Option<Travelling> {
+    fn under_way(&self, end: End, past: usize) -> Signals<'_> {
         match self.wires.get(end.node as usize) {
-            None => None,
-            Some(row) => row.under_way(end.port, at),
+            None => Signals::none(),
+            Some(row) => row.under_way(end.port, past),
+        }
+    }
+
+    fn tally(&mut self, node: u8) {
+        let at = usize::from(node);
+        if at < self.wires.len() {
+            self.wires[at].tally();
         }
     }
 }

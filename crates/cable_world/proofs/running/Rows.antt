@@ -41,7 +41,7 @@ on_port-has_not : (p : PortNumber) (e : UnderWay) (sent : List UnderWay) → has
     on_port p (e ∷ sent) ≡ on_port p sent
 on_port-has_not p e sent h = ap (λ b. if b then travelling e ∷ on_port p sent else on_port p sent) h
 
-on_port-append : (p : PortNumber) (first second : List UnderWay) →
+pub on_port-append : (p : PortNumber) (first second : List UnderWay) →
     on_port p (first ++ second) ≡ on_port p first ++ on_port p second
 on_port-append p [] second = refl
 on_port-append p (e ∷ first) second =

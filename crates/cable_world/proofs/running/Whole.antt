@@ -4,7 +4,7 @@ use Rattle.std.specs.Coded.{le_prop}
 use Rattle.std.specs.List.{AllByRecursion}
 use Rattle.std.specs.Prelude.{Vec, Result, Ok, Err, ◌↔◌, IsTrue, IsFalse, OnOk}
 use Rattle.std.specs.Vec.{with_items}
-use Rattle.std.proofs.lemmas.List.{get_or_default, length-map, length-set, with_items_is}
+use Rattle.std.proofs.lemmas.List.{get_or_default, length-map, length-set, set-get_or, with_items_is}
 use Rattle.std.proofs.Math.Seq.{map-set_same}
 use Rattle.std.proofs.lemmas.Bool.{lt-ltb}
 use Rattle.std.proofs.lemmas.List.Elements.{All-from_recursion}
@@ -97,6 +97,10 @@ pub parts-are :
     ≡ world_record d most c (map f ms) ws cs t
 parts-are f d most c t machines wires changed ms ws cs m w k =
     rw (with_items_is machines ms m, with_items_is wires ws w, with_items_is changed cs k) refl
+
+-- a row that is put in its own place
+pub put-back : {X : Type 0} → (xs : List X) (i : ℕ) (x y : X) → x ≡ get_or xs i x → y ≡ x → slice_set xs i y ≡ xs
+put-back xs i x y at same = ap (slice_set xs i) (same ∙ at) ∙ set-get_or xs i x
 
 -- ---- a hold
 

@@ -1,14 +1,13 @@
 -- Nodes, ports and turns that are gone through by number, and texts of several parts.
 use Rattle.std.proofs.Common.{◌≡◌, ◌++◌, ◌+◌, ◌<◌, ◌≤◌, ℕ, List, [], ◌∷◌, length, drop, Some, refl, sym, ◌∙◌, ap, append_assoc, Option, append-nil}
 use Rattle.std.specs.Prelude.{slice_get}
-use Rattle.std.specs.Option.{option_to_list}
 use Rattle.port_state.specs.declared.ports.PortView.{PortView}
 use Rattle.port_state.specs.Machine.{PortNode}
 use Rattle.cable_world.specs.declared.wire.Travelling.{Travelling}
 use Rattle.cable_world.specs.World.{CableWorld}
 use Rattle.script_text.specs.ReportText.{Names}
 use Rattle.script_trace.specs.Event.{Seen}
-use Rattle.script_trace.proofs.Walked.{all-told, left-from, one-more, past-end, signal-more, some-left}
+use Rattle.script_trace.proofs.Walked.{all-told, left-from, one-more, past-end, some-left}
 use Rattle.script_trace.specs.waves.Change.{sent_change, sent_changes}
 use Rattle.script_trace.specs.waves.Moment.{all_changes}
 use Rattle.script_trace.specs.waves.Head.{port_variables, port_values, all_port_variables, all_port_values, node_scope, node_values, all_scopes, all_values}
@@ -28,23 +27,18 @@ none-left w k seen nodes h = ap (all_changes w k (drop k seen)) (past-end nodes 
 -- ---- signals
 
 pub changes-more :
-    (node port : ℕ) (signals : List Travelling) (at : ℕ) (o : Option Travelling)
-    (before after all : List ℕ) → o ≡ slice_get signals at →
-    after ≡ before ++ sent_changes node port (option_to_list o) →
-    before ++ sent_changes node port (drop at signals) ≡ all →
-    after ++ sent_changes node port (drop (at + 1) signals) ≡ all
-changes-more node port signals at o before after all is new so =
-    let text = sent_changes node port in
-    let one : (s : Travelling) (ss : List Travelling) → text (s ∷ ss) ≡ text (s ∷ []) ++ text ss =
-    λ s ss. ap (λ (l : List ℕ). l ++ text ss) (sym (append-nil (sent_change node port s))) in
-    one-more before after (text (option_to_list o)) (text (drop (at + 1) signals)) (text (drop at signals)) all new
-    (signal-more text one refl signals at o is) so
+    (node port : ℕ) (t : Travelling) (left rest : List Travelling) (before after all : List ℕ) → left ≡ t ∷ rest →
+    after ≡ before ++ sent_change node port t → before ++ sent_changes node port left ≡ all →
+    after ++ sent_changes node port rest ≡ all
+changes-more node port t left rest before after all is new so =
+    one-more before after (sent_change node port t) (sent_changes node port rest) (sent_changes node port left) all
+    new (ap (sent_changes node port) is) so
 
 pub no-changes-left :
-    (node port : ℕ) (signals : List Travelling) (at : ℕ) (out all : List ℕ) → length signals ≤ at →
-    out ++ sent_changes node port (drop at signals) ≡ all → out ≡ all
-no-changes-left node port signals at out all past so =
-    all-told out all (sent_changes node port (drop at signals)) (ap (sent_changes node port) (past-end signals at past)) so
+    (node port : ℕ) (left : List Travelling) (out all : List ℕ) → left ≡ [] →
+    out ++ sent_changes node port left ≡ all → out ≡ all
+no-changes-left node port left out all none so =
+    all-told out all (sent_changes node port left) (ap (sent_changes node port) none) so
 
 -- ---- the head
 

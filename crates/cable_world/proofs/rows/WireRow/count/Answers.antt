@@ -17,6 +17,6 @@ returns c =
     let row = c.self.inside in
     let port = c.args.port in
     let inside : port < length row.held.items = omega (arith, c.if-from-len.false, c.from.ensures, c.len.ensures, row.held.ok.0) in
-    c.count_on.ensures ∙ ap (λ sent. length (on_port port sent)) c.deref.ensures.value
+    c.count.ensures ∙ ap (λ sent. length (on_port port sent)) c.deref.ensures.value
     ∙ sym (ap (λ (w : Wire). length w.signals) (wire-is row.sent.items row.held.items port empty_wire inside))
     ∙ ap (λ r. length (slice_index_or r port empty_wire).signals) c.self.view_is
