@@ -16,12 +16,12 @@ ghost use Rattle.script_told.specs.Step.{Acts, HoldsWire, end_of, notes_after_ac
 ghost use Rattle.script_bus.specs.Running.{notes_now, IfFault, IsBus, Stops, reported};
 
 use crate::bank::Bank;
+use crate::looks::Looks;
 use crate::table::NameTable;
 use cable_world::{Act, WorldRun};
 use cabling::{Cabling, End, Walk};
 use phy_machine::AnyMachine;
 use port_state::TimeRanges;
-use resource_manager::Seen;
 use script_lines::{Kind, LineStop, ScriptTimes};
 use script_trace::Legend;
 use settle::{Outcome, Part, Report};
@@ -43,7 +43,7 @@ pub(crate) struct Notes {
     /// The registers of each node.
     pub banks: Vec<Bank>,
     /// What each node saw of the registers, where it keeps a look.
-    pub looks: Vec<Option<Seen>>,
+    pub looks: Looks,
     /// The report of the last `settle`, where no act came since.
     pub report: Option<Report>,
     /// The number of reports that were shown.
@@ -122,17 +122,6 @@ fn first_banks(alloc: Global, nodes: usize) -> Result<Vec<Bank>, OutOfMemory>
     Ok(banks)
 }
 
-/// No looks of so many nodes.
-fn no_looks(alloc: Global, nodes: usize) -> Result<Vec<Option<Seen>>, OutOfMemory>
-    ensures { IfOk result (λ looks. looks.items ≡ replicate nodes None) }
-{
-    let mut looks = Vec::with_capacity(alloc, nodes)?;
-    for _ in 0..nodes {
-        looks.push(None)?;
-    }
-    Ok(looks)
-}
-
 impl Notes {
     /// The notes of so many nodes with these times and names.
     fn new(
@@ -148,7 +137,7 @@ impl Notes {
             times,
             names,
             banks: first_banks(alloc, nodes)?,
-            looks: no_looks(alloc, nodes)?,
+            looks: Looks::none(alloc, nodes)?,
             report: None,
             reports: 0,
             maps: 0,
@@ -213,7 +202,7 @@ impl Notes {
     fn drop_after_act(&mut self)
         ensures { notes_now self.new ≡ notes_after_act (notes_now self.old) }
     {
-        self.looks.fill(None);
+        self.looks.drop_all();
         self.report = None;
     }
 }

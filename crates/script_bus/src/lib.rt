@@ -11,6 +11,7 @@ mod bus;
 mod laws;
 mod listed;
 mod listener;
+mod looks;
 mod managed;
 mod planned;
 mod steps;

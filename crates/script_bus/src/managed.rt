@@ -130,11 +130,11 @@ impl Bus {
         ensures now { self.new
             ≡ put_look node None self.old }
     {
-        let seen = match self.notes.looks[node as usize] {
+        let seen = match self.notes.looks.of(node) {
             Some(seen) => seen,
             None => look(&self.registers(manager)),
         };
-        self.notes.looks[node as usize] = None;
+        self.notes.looks.put(node, None);
         seen
     }
 
@@ -168,7 +168,7 @@ impl Bus {
     {
         let asked = self.asked(alloc, name)?;
         let seen = look(&self.registers(asked.manager));
-        self.notes.looks[asked.node as usize] = Some(seen);
+        self.notes.looks.put(asked.node, Some(seen));
         Ok(Vec::new(alloc))
     }
 
