@@ -13,6 +13,8 @@ pub use Rattle.cabling.proofs.Counting.{in_or_not}
 pub use Rattle.cabling.proofs.Ends.{added_by_writes, bare, cabling_added, cabling_taken, cases_end, far-other, far-same, none_some, one_other, plugged, same_but, same_end, same_length, same_ports, still_end, taken_by_writes, with_far}
 -- Each node of a cabling has a component, and each set of nodes has a core.
 pub use Rattle.cabling.proofs.Existing.{component_exists}
+-- A part of a set without a core has a node with at most one cable into the part.
+pub use Rattle.cabling.proofs.Leaves.{has_leaves}
 -- The neighbours of a node, port by port.
 pub use Rattle.cabling.proofs.Near.{end_at}
 -- A seen tree holds each node of the component once.

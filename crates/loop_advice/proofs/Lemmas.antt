@@ -4,6 +4,8 @@
 pub use Rattle.loop_advice.proofs.Before.{same_low}
 -- The cables of a set of nodes are found end by end.
 pub use Rattle.loop_advice.proofs.Collecting.{rising_once}
+-- No fewer cables than the pulls of a valid advice leave no loop.
+pub use Rattle.loop_advice.proofs.Fewest.{no_fewer}
 -- Cables in lists.
 pub use Rattle.loop_advice.proofs.Listed.{lists_append, lists_left, lists_right}
 -- What marks say of the cables whose ends were marked.

@@ -1,5 +1,7 @@
 -- What crates above use of the proofs of this one, by what it is about.
 
+-- No fewer cables than those advised leave a component without a loop.
+pub use Rattle.script_advice.proofs.Fewest.{fewest-of}
 -- No script has two advices.
 pub use Rattle.script_advice.proofs.OneAdvice.{end-of}
 -- Cables are pulled one after the other.

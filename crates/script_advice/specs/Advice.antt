@@ -1,13 +1,15 @@
 -- Which cables of a script's bus are advised for pulling, and what the bus then settles on.
-use Rattle.std.specs.Prelude.{◌≡◌, ◌⊎◌, ℕ, ◌+◌, List, [], ◌∷◌, ◌++◌, All, length, map, codes, Some, Ok, Err}
+use Rattle.std.specs.Prelude.{◌≡◌, ◌⊎◌, ℕ, ◌+◌, ◌≤◌, List, [], ◌∷◌, ◌++◌, All, length, map, codes, Some, Ok, Err}
 use Rattle.cabling.specs.declared.cable.End.{End}
 use Rattle.cabling.specs.declared.cable.Cable.{Cable}
-use Rattle.cabling.specs.Wiring.{Wiring, NodeNumber}
-use Rattle.cabling.specs.NodeSet.{Nodes}
+use Rattle.cabling.specs.Wiring.{Wiring, NodeNumber, IsCabling}
+use Rattle.cabling.specs.NodeSet.{Nodes, IsEmpty}
 use Rattle.cabling.specs.Component.{IsComponent}
+use Rattle.cabling.specs.Looped.{IsCore}
 use Rattle.cable_world.specs.declared.act.Act.TheVariants.{Pull}
 use Rattle.loop_advice.specs.Advised.{AreAdvised}
 use Rattle.loop_advice.specs.Certificate.{IsCertificate}
+use Rattle.loop_advice.specs.Pulled.{ArePulled}
 use Rattle.settle.specs.declared.report.Outcome.{Outcome}
 use Rattle.settle.specs.declared.report.Outcome.TheVariants.{Loop}
 use Rattle.settle.specs.declared.report.Part.{Part}
@@ -39,12 +41,21 @@ abbrev pub loops_of : List Part → List Nodes
 loops_of [] = []
 loops_of (part ∷ parts) = if_loop part.outcome part.nodes ++ loops_of parts
 
--- the pulls are the advised cables of the component, and they are a valid advice for it
+-- Whichever cables of the bus are pulled so that the component has no loop, they are at least as many
+-- as these.
+abbrev pub AreFewest : Wiring → Nodes → List Cable → Type 0
+AreFewest c set pulls =
+    (left : Wiring) (others : List Cable) (core : Nodes) → IsCabling left → ArePulled c left others →
+    IsCore left set core → IsEmpty core → length pulls ≤ length others
+
+-- the pulls are the advised cables of the component, they are a valid advice for it, and no fewer
+-- cables do
 pub record IsAdviceFor (c : Wiring) (a : LoopAdvice) : Type 0 where
   pub node : NodeNumber
   pub component : IsComponent c node a.nodes
   pub advised : AreAdvised c a.nodes a.advice.pulls a.advice.kept
   pub valid : IsCertificate c node a.advice.pulls a.advice.kept
+  pub fewest : AreFewest c a.nodes a.advice.pulls
 
 -- there is an advice for each of these components, and they stand in this order
 pub record AreAdvices (c : Wiring) (components : List Nodes) (advices : List LoopAdvice) :

@@ -4,7 +4,7 @@ ghost use Rattle.script_text.specs.ReportText.{AreNamed};
 ghost use Rattle.script_advice.specs.Advice.{loops_of, if_loop, AreAdvices, spaced_end, pull_line, pull_lines, left_line, advice_line, loop_advice_text, advice_text};
 ghost use Rattle.script_advice.specs.Advising.{IsNamedCable, IsNamedAdvice, IsPartOf};
 
-use cabling::{Cable, Cabling, End, NodeSet, components_are_whole};
+use cabling::{Cable, Cabling, End, NodeSet, cables_are_two_ended, components_are_whole};
 use loop_advice::{Advice, advise};
 use script_text::{put_name, put_names, put_numbered};
 use settle::{Outcome, Part};
@@ -31,6 +31,7 @@ fn push_advice(
         OnOk result (AreAdvices cabling.now
         (sets ++ if_loop part.now.outcome part.now.nodes) list.new.items) }
 {
+    cables_are_two_ended(cabling);
     components_are_whole(cabling);
     let Outcome::Loop { .. } = part.outcome else {
         return Ok(());

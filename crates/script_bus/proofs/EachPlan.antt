@@ -29,7 +29,7 @@ use Rattle.script_told.specs.SomeManager.{IsManaged, ReportedTreesAreManaged}
 use Rattle.script_text.specs.ReportText.{Names, IsReportText}
 use Rattle.script_text.specs.PlanText.{plan_line}
 use Rattle.script_told.specs.PrintedTree.{PrintsTree}
-use Rattle.script_told.proofs.Lemmas.{prints-tree, tree-managed, stage-in, printed-in, sound-bus, plan-carried, IsDone, each-done}
+use Rattle.script_told.proofs.Lemmas.{one-walk, prints-tree, tree-managed, stage-in, printed-in, sound-bus, plan-carried, IsDone, each-done}
 use Rattle.script_bus.specs.codings.Standing.{StandsAs}
 use Rattle.script_bus.proofs.Standing.{reported-stands}
 use Rattle.script_bus.proofs.Planning.{its-id}
@@ -93,6 +93,9 @@ module _
         c.carried.sends.0 c.carried.sends.1 is.1 root id-is is.0.parts is.2.parts)
         (subst (λ (ns : Names). IsReportText ns after.notes.reports is.0 c.carried.report) (sym (ap (λ (n : Notes). n.names) is.3)) is.4))
 
+    in-order : is-root.tree.order ≡ c.carried.expected
+    in-order = one-walk w.cabling root is-root.tree.order c.carried.expected is-root.tree.walk c.carried.walk
+
     have-gap : HaveGap after.world c.node c.carried.plan.gap
     have-gap =
         gap-of names-one moves sets w c.carried.sent.world after.world ∣ h.reached ∣₁ l c.node c.carried.plan suit k.set k.is k.small
@@ -111,6 +114,7 @@ module _
         after_is = stages e.after e.text bus text same;
         is = carried;
         root = is-root (bus_of e.before) h name bus e.text carried;
+        order = in-order (bus_of e.before) h name bus e.text carried;
         gaps = have-gap (bus_of e.before) h name bus e.text carried;
       }
     where

@@ -26,7 +26,7 @@ use Rattle.script_told.proofs.Lemmas.{act-leads, do-act, IsEnd}
 use Rattle.script_advice.specs.declared.advice.LoopAdvice.{LoopAdvice}
 use Rattle.script_advice.specs.Advice.{RunsTo, if_loop, loops_of, IsAdviceFor, AreAdvices, all_pulls, PullsLead, advice_text, after_text, Advises, told_at_end}
 use Rattle.script_advice.specs.Advising.{ArePullable}
-use Rattle.script_advice.proofs.Lemmas.{next-pullable, reported-pullable, end-of}
+use Rattle.script_advice.proofs.Lemmas.{fewest-of, next-pullable, reported-pullable, end-of}
 use Rattle.script_bus.specs.SomeRun.{HasRun, EachScriptHasARun}
 use Rattle.script_bus.specs.SomeAdvice.{HasSomeAdvice, EachScriptHasAnAdvice}
 use Rattle.cabling.proofs.Lemmas.{can-pull}
@@ -52,7 +52,13 @@ advice-for exist w part cables is =
     let found : HasAdvice w.cabling is.node part.nodes =
     exist w.cabling is.node part.nodes cables (is.there is.node is.component.holds) is.component in (
       record { nodes = part.nodes; advice = record { pulls = found.pulls; kept = found.kept } },
-      record { node = is.node; component = is.component; advised = found.advised; valid = found.valid },
+      record {
+        node = is.node;
+        component = is.component;
+        advised = found.advised;
+        valid = found.valid;
+        fewest = fewest-of w.cabling is.node part.nodes found.pulls found.kept cables is.there is.component found.valid;
+      },
       refl,
     )
 

@@ -7,7 +7,7 @@ pub use Rattle.script_told.proofs.Turns.{AfterTurns, after-turns, nodes-after-tu
 -- Acts and turns leave cables that are a cabling, and an act leads to one world.
 pub use Rattle.script_told.proofs.told.Cables.{IsCabled, act-adds, act-cabled, act-takes}
 -- A command comes to one answer, and leaves cables that are a cabling.
-pub use Rattle.script_told.proofs.told.Commands.{acts, bus-in, not-refused, same-plan, same-sent, settles}
+pub use Rattle.script_told.proofs.told.Commands.{acts, bus-in, not-refused, one-walk, same-plan, same-sent, settles}
 -- What holds of each command that was done in a run.
 pub use Rattle.script_told.proofs.told.EachDone.{IsDone, IsEnd, each-done}
 -- Times that suit a bus.

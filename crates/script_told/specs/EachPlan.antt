@@ -17,8 +17,9 @@ pub record IsCarriedOut (bus : Bus) (name : List ℕ) (after : Bus) (text : List
   pub settled : tree_with node bus.notes ≡ Some tree
   pub carried : CarriesOut bus name node tree after text
 
--- It came out as planned: the node with the planned ID is the root of the tree that is printed, and
--- every node of that has the planned gap count.
+-- It came out as planned: the node with the planned ID is the root of the tree that is printed, the
+-- nodes of that have the IDs in which the plan's line names them, and every one has the planned gap
+-- count.
 pub record ComesOut (entry : Entry) (name : List ℕ) : Type 0 where
   pub after : Bus
   pub after_is : entry.after ≡ running after
@@ -26,6 +27,7 @@ pub record ComesOut (entry : Entry) (name : List ℕ) : Type 0 where
   pub root :
       PrintsTree (bus_of entry.before).world.cabling is.node
       (node_with is.tree is.carried.plan.root_id) after entry.text
+  pub order : root.tree.order ≡ is.carried.expected
   pub gaps : HaveGap after.world is.node is.carried.plan.gap
 
 -- each `plan` of a run comes out

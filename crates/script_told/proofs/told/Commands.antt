@@ -254,7 +254,7 @@ one-plan t p q x y =
 no-label : NodeNumber → Label
 no-label = labels []
 
-one-walk : (c : Wiring) (root : ℕ) (a b : List ℕ) → IsWalk c root a → IsWalk c root b → a ≡ b
+pub one-walk : (c : Wiring) (root : ℕ) (a b : List ℕ) → IsWalk c root a → IsWalk c root b → a ≡ b
 one-walk c root a b x y =
     let p = x no-label in
     let q = y no-label in
