@@ -43,8 +43,8 @@ use Rattle.script_told.specs.Script.{Stage, fresh, StageAnswer, running, bus_of,
 use Rattle.script_told.specs.Run.{Entry}
 use Rattle.script_told.specs.SomeAnswer.{IsReachedBus}
 use Rattle.script_told.specs.ScriptEvents.{Declares, LeavesAlone, RunsOn}
-use Rattle.script_told.specs.PrintedTree.{PrintsTree}
-use Rattle.script_told.proofs.Lemmas.{prints-tree, config-act, stage-in, printed-in, sound-bus, IsDone, each-done, runs-on}
+use Rattle.script_told.specs.PrintedTree.{PrintsGap, PrintsTree}
+use Rattle.script_told.proofs.Lemmas.{prints-gap, prints-tree, config-act, stage-in, printed-in, sound-bus, IsDone, each-done, runs-on}
 use Rattle.script_bus.specs.codings.Standing.{StandsAs}
 use Rattle.script_bus.specs.EachConfig.{ConfigComesOut, EachConfigComesOut}
 use Rattle.script_bus.proofs.Standing.{reported-stands}
@@ -330,6 +330,10 @@ module _
     have : IfSome gap (HaveGap after.world c.node)
     have = gaps keeps names-one moves sets w sent.world now.world after.world h.reached c.node there c.tree s (unwrap_or id 0) (is_some id) gap fits c.accepted c.act j rests is.1 gap refl
 
+    in-lines : IsReachedBus after → (o : Option ℕ) → IfSome o (HaveGap after.world c.node) → IfSome o (PrintsGap after c.node)
+    in-lines left None e = tt
+    in-lines left (Some g) e = prints-gap trees after left is.0 (ap (λ (n : Notes). n.report) is.3) is.2.parts c.node g e
+
   comes :
       (one two : Entry) (name : List ℕ) (id gap : Option ℕ) → IsDone one → IsDone two →
       PassesTo (bus_of one.after).world (bus_of one.after).notes.names two.before →
@@ -362,6 +366,10 @@ module _
             subst (λ t. IfSome id (λ i. i < length c.tree.order → PrintsTree (bus_of one.before).world.cabling c.node (node_with c.tree i) b.after t)) (sym b.text_is)
             (root-printed (bus_of one.before) a.after (bus_of two.before) b.after h name id gap range c time.turns rests b.text r id refl);
         gaps = have (bus_of one.before) a.after (bus_of two.before) b.after h name id gap range c time.turns rests b.text r;
+        lines =
+            in-lines (bus_of one.before) a.after (bus_of two.before) b.after h name id gap range c time.turns rests b.text r
+            (subst (λ (s : Stage). IsReachedBus (bus_of s)) b.next_is (sound-bus two.after next.left)) gap
+            (have (bus_of one.before) a.after (bus_of two.before) b.after h name id gap range c time.turns rests b.text r);
       }
 
   pub each-config : EachConfigComesOut

@@ -28,8 +28,8 @@ use Rattle.script_told.specs.SomeAnswer.{IsReachedBus}
 use Rattle.script_told.specs.SomeManager.{IsManaged, ReportedTreesAreManaged}
 use Rattle.script_text.specs.ReportText.{Names, IsReportText}
 use Rattle.script_text.specs.PlanText.{plan_line}
-use Rattle.script_told.specs.PrintedTree.{PrintsTree}
-use Rattle.script_told.proofs.Lemmas.{one-walk, prints-tree, tree-managed, stage-in, printed-in, sound-bus, plan-carried, IsDone, each-done}
+use Rattle.script_told.specs.PrintedTree.{PrintsGap, PrintsTree}
+use Rattle.script_told.proofs.Lemmas.{one-walk, prints-gap, prints-tree, tree-managed, stage-in, printed-in, sound-bus, plan-carried, IsDone, each-done}
 use Rattle.script_bus.specs.codings.Standing.{StandsAs}
 use Rattle.script_bus.proofs.Standing.{reported-stands}
 use Rattle.script_bus.proofs.Planning.{its-id}
@@ -101,6 +101,11 @@ module _
         gap-of names-one moves sets w c.carried.sent.world after.world ∣ h.reached ∣₁ l c.node c.carried.plan suit k.set k.is k.small
         c.carried.sends.0 c.carried.sends.1 c.carried.reports.1 root id-is stay-nodes
 
+    in-lines : IsReachedBus after → PrintsGap after c.node c.carried.plan.gap
+    in-lines left =
+        let is = c.carried.reports in
+        prints-gap trees after left is.0 (ap (λ (n : Notes). n.report) is.3) is.2.parts c.node c.carried.plan.gap have-gap
+
   comes :
       (e : Entry) (name : List ℕ) → IsDone e → (r : LineAnswer) → Does (bus_of e.before) (Plan name) r →
       ◌≡◌ {A = StageAnswer} (Ok (e.after, e.text)) (onwards r) → ComesOut e name
@@ -109,13 +114,16 @@ module _
       let carried : IsCarriedOut (bus_of e.before) name bus e.text =
       subst (IsCarriedOut (bus_of e.before) name bus) (sym said) (plan-carried (bus_of e.before) name bus text does) in
       let h : IsReachedBus (bus_of e.before) = sound-bus e.before is.sound in
+      let after_is : e.after ≡ running bus = stages e.after e.text bus text same in
+      let left : IsReachedBus bus = subst (λ (s : Stage). IsReachedBus (bus_of s)) after_is (sound-bus e.after is.left) in
       record {
         after = bus;
-        after_is = stages e.after e.text bus text same;
+        after_is = after_is;
         is = carried;
         root = is-root (bus_of e.before) h name bus e.text carried;
         order = in-order (bus_of e.before) h name bus e.text carried;
         gaps = have-gap (bus_of e.before) h name bus e.text carried;
+        lines = in-lines (bus_of e.before) h name bus e.text carried left;
       }
     where
       texts : (next : Stage) (t : List ℕ) (b : Bus) (u : List ℕ) → ◌≡◌ {A = StageAnswer} (Ok (next, t)) (Ok (running b, u)) → t ≡ u

@@ -8,7 +8,7 @@ use Rattle.script_told.specs.Step.{node_with}
 use Rattle.script_told.specs.Script.{running, bus_of}
 use Rattle.script_told.specs.Run.{Entry, ScriptRun, IsRun}
 use Rattle.script_told.specs.ScriptEvents.{LeavesAlone}
-use Rattle.script_told.specs.PrintedTree.{PrintsTree}
+use Rattle.script_told.specs.PrintedTree.{PrintsTree, PrintsGap}
 
 -- The bus settles at the second command, and those between the two take time or ask: they neither act
 -- nor report.
@@ -22,7 +22,7 @@ pub record SettlesNext (run : ScriptRun) (one two : Entry) : Type 0 where
 
 -- The node with this name stood settled in a tree and sent the packet, and the bus settled. Where a
 -- node of the tree had the ID, it is the root of the tree that is printed, with the cables as they
--- were. Where a gap count was given, every node has it.
+-- were. Where a gap count was given, every node has it, on the bus and in its line.
 pub record ConfigComesOut
     (one two : Entry) (name : List ℕ) (id gap : Option ℕ) : Type 0 where
   pub node : NodeNumber
@@ -35,6 +35,7 @@ pub record ConfigComesOut
       IfSome id (λ i. i < length tree.order →
       PrintsTree (bus_of one.before).world.cabling node (node_with tree i) after two.text)
   pub gaps : IfSome gap (HaveGap after.world node)
+  pub lines : IfSome gap (PrintsGap after node)
 
 -- each `config` comes out that a settling follows next
 abbrev pub ConfigsComeOut : ScriptRun → Type 0

@@ -23,7 +23,7 @@ pub use Rattle.script_told.proofs.told.Ends.{not-both, same-end, same-fault}
 -- The events of each command.
 pub use Rattle.script_told.proofs.told.EntryRuns.{scripts-are-runs, runs-on}
 -- A tree of a report stands in its text.
-pub use Rattle.script_told.proofs.told.PrintedTree.{prints-tree}
+pub use Rattle.script_told.proofs.told.PrintedTree.{prints-gap, prints-tree, same-report}
 -- A plan that has an answer was carried out.
 pub use Rattle.script_told.proofs.told.PlanCarried.{plan-carried}
 -- A command leaves a bus whose world comes of power-on, and so does each line of a script.

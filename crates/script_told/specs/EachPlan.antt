@@ -7,7 +7,7 @@ use Rattle.script_told.specs.Bus.{Bus, ReportedTree, node_named, tree_with}
 use Rattle.script_told.specs.Step.{CarriesOut, node_with}
 use Rattle.script_told.specs.Script.{running, bus_of}
 use Rattle.script_told.specs.Run.{Entry, ScriptRun, IsRun}
-use Rattle.script_told.specs.PrintedTree.{PrintsTree}
+use Rattle.script_told.specs.PrintedTree.{PrintsTree, PrintsGap}
 
 -- the plan for the tree of the node with this name was carried out
 pub record IsCarriedOut (bus : Bus) (name : List ℕ) (after : Bus) (text : List ℕ) : Type 0 where
@@ -19,7 +19,7 @@ pub record IsCarriedOut (bus : Bus) (name : List ℕ) (after : Bus) (text : List
 
 -- It came out as planned: the node with the planned ID is the root of the tree that is printed, the
 -- nodes of that have the IDs in which the plan's line names them, and every one has the planned gap
--- count.
+-- count, on the bus and in its line.
 pub record ComesOut (entry : Entry) (name : List ℕ) : Type 0 where
   pub after : Bus
   pub after_is : entry.after ≡ running after
@@ -29,6 +29,7 @@ pub record ComesOut (entry : Entry) (name : List ℕ) : Type 0 where
       (node_with is.tree is.carried.plan.root_id) after entry.text
   pub order : root.tree.order ≡ is.carried.expected
   pub gaps : HaveGap after.world is.node is.carried.plan.gap
+  pub lines : PrintsGap after is.node is.carried.plan.gap
 
 -- each `plan` of a run comes out
 abbrev pub AllPlansComeOut : ScriptRun → Type 0

@@ -2,6 +2,8 @@
 
 -- What is reported of a component that came to a tree from a root.
 pub use Rattle.settle.proofs.Found.{found}
+-- The gap count of the nodes of a tree is read from its list.
+pub use Rattle.settle.proofs.GapsRead.{part-reads}
 -- A world has one report at most.
 pub use Rattle.settle.proofs.OneReport.{one-over-cabling}
 -- Trees that are seen with different labels have their nodes in one order.

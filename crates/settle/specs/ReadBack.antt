@@ -1,6 +1,7 @@
 -- What a report says of trees is read back.
 use Rattle.std.specs.Prelude.{◌≡◌, ℕ, ◌<◌, None, List, All, length}
 use Rattle.self_id.specs.declared.standard.Standard.TheVariants.{Ieee2000}
+use Rattle.self_id.specs.Node.{Node}
 use Rattle.topology_stack.specs.Tree.{Tree, IsBusTreeOf, walk, emits}
 use Rattle.cabling.specs.Labels.{labels}
 use Rattle.cabling.specs.Sees.{Sees, numbers}
@@ -33,6 +34,12 @@ pub record IsReadBack
 abbrev pub IsTheCables : CableWorld → NodeNumber → List ℕ → Type 0
 IsTheCables w root list =
     (t u : Tree) → IsBusTreeOf Ieee2000 t → emits t ≡ list → IsSeen w root u → t ≡ u
+
+-- each node that is read from the list has this gap count
+abbrev pub ReadsGap : List ℕ → ℕ → Type 0
+ReadsGap list gap =
+    (tree : Tree) → IsBusTreeOf Ieee2000 tree → emits tree ≡ list →
+    All (λ (n : Node). n.attrs.gap ≡ gap) (walk tree)
 
 -- this holds of an outcome that is a tree
 abbrev pub IfTree : (NodeNumber → List ℕ → List NodeNumber → Type 0) → Outcome → Type 0

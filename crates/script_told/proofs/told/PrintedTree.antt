@@ -1,16 +1,21 @@
 -- A part of a report is told by a piece of its text.
-use Rattle.std.proofs.Common.{◌≡◌, inl, inr, ℕ, List, [], ◌∷◌, ◌++◌, Some, length, refl, sym, subst, ◌∙◌, ap, arith, append-nil, append_assoc}
-use Rattle.std.specs.Prelude.{Any}
+use Rattle.std.proofs.Common.{◌≡◌, inl, inr, ℕ, List, [], ◌∷◌, ◌++◌, Option, Some, length, refl, sym, subst, ◌∙◌, ap, arith, append-nil, append_assoc}
+use Rattle.std.specs.Prelude.{All, Any}
 use Rattle.std.proofs.lemmas.Bool.{cases_lt}
 use Rattle.std.proofs.lemmas.List.{length-append, get_or_append_left, get_or_push}
 use Rattle.std.proofs.lemmas.List.Quantifiers.{Any-push}
+use Rattle.topology_stack.specs.OneAnswer.{NoListHasTwoTrees}
 use Rattle.cabling.specs.Wiring.{Wiring}
+use Rattle.cable_world.proofs.Lemmas.{reached-lawful}
 use Rattle.settle.specs.declared.report.Part.{Part}
 use Rattle.settle.specs.declared.report.Report.{Report}
-use Rattle.settle.specs.Report.{IsTreeFrom}
+use Rattle.settle.specs.Planned.{HaveGap}
+use Rattle.settle.specs.Report.{AreParts, IsPart, IsTreeFrom}
+use Rattle.settle.proofs.Lemmas.{part-reads}
 use Rattle.script_text.specs.ReportText.{Names, report_line, IsPartText, ArePartTexts, none, more, IsReportText}
 use Rattle.script_told.specs.Bus.{Bus}
-use Rattle.script_told.specs.PrintedTree.{IsPieceOf, PrintsTree}
+use Rattle.script_told.specs.PrintedTree.{IsPieceOf, PrintsGap, PrintsTree}
+use Rattle.script_told.specs.SomeAnswer.{IsReachedBus}
 
 -- the part that passes, and its text in that of all
 record Found (names : Names) (P : Part → Type 0) (parts : List Part) (text : List ℕ) : Type 0 where
@@ -90,3 +95,26 @@ prints-tree c from root after report text front number kept has told =
             ∙ sym (append_assoc front (line ++ f.stands.0) (f.part_text ++ f.stands.1)),
       );
     }
+
+-- ---- gap counts
+
+-- what holds of each part holds of one among them
+among-all : (P : Part → Type 0) (parts : List Part) (part : Part) → All P parts →
+    Any (λ p. p ≡ part) parts → P part
+among-all P parts part all any = subst P any.4 (subst P any.3 (all any.0 any.1 any.2))
+
+-- a report that is kept is one
+pub same-report : (o : Option Report) (a b : Report) → o ≡ Some a → o ≡ Some b → a ≡ b
+same-report o a b x y = cc
+
+-- the lines of a tree that is printed say the gap count that its nodes have
+pub prints-gap :
+    NoListHasTwoTrees → (after : Bus) → IsReachedBus after → (said : Report) →
+    after.notes.report ≡ Some said → AreParts after.world said.parts → (from gap : ℕ) →
+    HaveGap after.world from gap → PrintsGap after from gap
+prints-gap trees after h said kept parts from gap have report part root list order is among inside outcome =
+    let same : said ≡ report = same-report after.notes.report said report kept is in
+    part-reads trees after.world (reached-lawful after.world h.reached).well_formed from gap have part
+    (among-all (IsPart after.world) report.parts part
+    (subst (λ (r : Report). All (IsPart after.world) r.parts) same parts.each) among)
+    inside root list order outcome
