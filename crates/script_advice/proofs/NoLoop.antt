@@ -32,8 +32,8 @@ use Rattle.script_advice.specs.OneAdvice.{AdvicesLeaveNoLoop, AdvicesEndWithoutL
 use Rattle.script_advice.specs.Advising.{ArePullable, EndsWith}
 use Rattle.script_advice.proofs.Pulling.{pull-taken, next-pullable}
 use Rattle.script_advice.proofs.Settled.{reported-pullable}
-use Rattle.script_told.proofs.Lemmas.{text-in, IsCabled, bus-in, do-act, do-settle, Says, is-none, settles-say, settled-so}
-use Rattle.script_advice.proofs.OneAdvice.{end-of, end-cabled, no-fault, same-report}
+use Rattle.script_told.proofs.Lemmas.{text-in, IsCabled, bus-in, do-act, do-settle, Says, is-none, same-report, settles-say, settled-so}
+use Rattle.script_advice.proofs.OneAdvice.{end-of, end-cabled, no-fault}
 use Rattle.script_told.specs.SomeAnswer.{IsReachedBus}
 use Rattle.settle.specs.ReadBack.{ListsAreReadBack}
 use Rattle.settle.specs.ReportedOutcome.{ReportedIsOutcome}

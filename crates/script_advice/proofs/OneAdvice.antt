@@ -22,7 +22,7 @@ use Rattle.script_told.specs.Script.{ScriptResult}
 use Rattle.script_told.specs.Run.{ScriptRun, IsResult, printed, unless_stopped, result_of}
 use Rattle.script_advice.specs.Advice.{RunsTo, loops_of, IsAdviceFor, all_pulls, PullsLead, advice_text, after_text, Advises, told_at_end, AdvisesAtEnd}
 use Rattle.script_advice.specs.OneAdvice.{ScriptsHaveOneAdvice}
-use Rattle.script_told.proofs.Lemmas.{IsCabled, acts, settles, bus-in, one-run, one-told, IsEnd, each-done}
+use Rattle.script_told.proofs.Lemmas.{IsCabled, acts, settles, bus-in, one-run, one-told, same-report, IsEnd, each-done}
 
 -- ---- the bus at the end
 
@@ -161,10 +161,6 @@ same-advices c (x ∷ xs) (y ∷ ys) p q e =
     ap (λ (a : LoopAdvice). a ∷ xs) (same-advice c x y head (p 0 x (omega arith)) (q 0 y (omega arith)))
     ∙ ap (λ (zs : List LoopAdvice). y ∷ zs)
     (same-advices c xs ys (All-tail (IsAdviceFor c) x xs p) (All-tail (IsAdviceFor c) y ys q) tail)
-
--- a report that is kept is one
-pub same-report : (o : Option Report) (a b : Report) → o ≡ Some a → o ≡ Some b → a ≡ b
-same-report o a b x y = cc
 
 one-advices : (bus : Bus) (r s : LineAnswer) → (x : Advises bus r) → (y : Advises bus s) →
     x.advices ≡ y.advices
