@@ -20,4 +20,5 @@ pub mod Whole
 pub mod Pulling
 pub mod OneTree
 pub mod Existing
+pub mod Leaves
 pub mod Lemmas

@@ -12,4 +12,5 @@ pub mod Splitting
 pub mod Without
 pub mod SomeAdvice
 pub mod Pulled
+pub mod Fewest
 pub mod Lemmas

@@ -1,15 +1,14 @@
 -- The gap count of the nodes of a tree is read from its list.
-use Rattle.std.proofs.Common.{◌≡◌, ℕ, ◌^◌, ◌<◌, inl, inr, None, Option, List, [], ◌∷◌, length, map, refl, sym, ◌∙◌, ap, subst, arith}
+use Rattle.std.proofs.Common.{◌≡◌, ℕ, inl, inr, Option, List, [], ◌∷◌, map, refl, sym, ◌∙◌, ap, subst, arith}
 use Rattle.std.specs.Prelude.{All, slice_get, option_map}
 use Rattle.std.proofs.lemmas.List.Elements.{All-cons, All-head, All-nil, All-map, All-tail}
-use Rattle.std.proofs.lemmas.List.{get_or_from_slice_get, slice_get-map}
+use Rattle.std.proofs.lemmas.Option.{slice_get-map, get_or_from_slice_get}
 use Rattle.self_id.specs.declared.standard.Standard.TheVariants.{Ieee2000}
 use Rattle.self_id.specs.Node.{Node}
 use Rattle.topology_stack.specs.Tree.{Tree, walk}
 use Rattle.topology_stack.specs.OneAnswer.{NoListHasTwoTrees}
 use Rattle.port_state.specs.Group.{shown_attrs}
 use Rattle.port_state.specs.Machine.{PortNode}
-use Rattle.cabling.specs.declared.visits.Visit.{Visit}
 use Rattle.cabling.specs.Component.{IsComponent}
 use Rattle.cabling.specs.Labels.{labels, no_attrs}
 use Rattle.cabling.specs.NodeSet.{Holds}
@@ -17,9 +16,8 @@ use Rattle.cabling.specs.Sees.{numbers}
 use Rattle.cabling.proofs.Lemmas.{In, Loopless, at_root, loopless, node_of, nodes-visits, shared, shown_node, small-set, tree_within, visits, walk_seen}
 use Rattle.cable_world.specs.World.{CableWorld}
 use Rattle.cable_world.specs.Lawful.{IsWellFormed}
-use Rattle.cable_world.specs.Outcome.{IsTree, AtView, attrs_now}
+use Rattle.cable_world.specs.Outcome.{AtView, attrs_now}
 use Rattle.cable_world.proofs.Lemmas.{some-of}
-use Rattle.settle.specs.declared.report.Outcome.{Outcome}
 use Rattle.settle.specs.declared.report.Outcome.TheVariants as reported
 use Rattle.settle.specs.declared.report.Part.{Part}
 use Rattle.settle.specs.Planned.{HaveGap}
@@ -33,12 +31,12 @@ all-in : (P : ℕ → Type 0) (xs : List ℕ) → ((x : ℕ) → In x xs → P x
 all-in P [] h = All-nil P
 all-in P (x ∷ xs) h = All-cons P x xs (h x (inl refl)) (all-in P xs (λ y i. h y (inr i)))
 
--- and what holds of the nodes of visits holds of the visits
-all-visits : (P : ℕ → Type 0) (vs : List Visit) → All P (map node_of vs) → All (λ (v : Visit). P v.node) vs
-all-visits P [] h = All-nil (λ (v : Visit). P v.node)
-all-visits P (v ∷ vs) h =
-    All-cons (λ (v : Visit). P v.node) v vs (All-head P v.node (map node_of vs) h)
-    (all-visits P vs (All-tail P v.node (map node_of vs) h))
+-- and what holds of what items come to holds so of the items
+all-back : {X : Type 0} (P : ℕ → Type 0) (f : X → ℕ) (xs : List X) → All P (map f xs) → All (λ x. P (f x)) xs
+all-back P f [] h = All-nil (λ x. P (f x))
+all-back P f (x ∷ xs) h =
+    All-cons (λ y. P (f y)) x xs (All-head P (f x) (map f xs) h)
+    (all-back P f xs (All-tail P (f x) (map f xs) h))
 
 module _ (trees : NoListHasTwoTrees) (w : CableWorld) (formed : IsWellFormed w) (from gap : ℕ) (have : HaveGap w from gap) where
   abbrev Has : ℕ → Type 0
@@ -75,7 +73,7 @@ module _ (trees : NoListHasTwoTrees) (w : CableWorld) (formed : IsWellFormed w) 
         subst (All (λ (n : Node). n.attrs.gap ≡ gap))
         (sym (walk_seen w.cabling label (at_root root) r.tree formed.cabling no-loop.there r.is.seen))
         (All-map (λ (n : Node). n.attrs.gap ≡ gap) (shown_node w.cabling label) (visits w.cabling (at_root root) r.tree)
-        (all-visits Has (visits w.cabling (at_root root) r.tree)
+        (all-back Has node_of (visits w.cabling (at_root root) r.tree)
         (subst (All Has) (sym (nodes-visits w.cabling (at_root root) r.tree)) each)))
 
     reads : ReadsGap list gap

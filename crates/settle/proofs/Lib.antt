@@ -31,4 +31,5 @@ pub mod SameHops
 pub mod Suited
 pub mod Chosen
 pub mod Carried
+pub mod GapsRead
 pub mod Lemmas

@@ -16,7 +16,7 @@ returns c = λ sets so.
       advised = c.in_ok-advice.ensures.advised c.args.part.now.nodes component;
       valid = c.in_ok-advice.ensures.valid;
       fewest = fewest-of c.args.cabling.now c.in-Some.node a.nodes a.advice.pulls a.advice.kept
-      c.cables_are_two_ended.ensures c.requires.there component c.in_ok-advice.ensures.valid;
+          c.cables_are_two_ended.ensures c.requires.there component c.in_ok-advice.ensures.valid;
     } in
     one-advice c.args.cabling.now sets c.args.part.now.outcome c.in-Loop.nodes
     c.args.list.now.items c.push.new.self.items a c.in-Loop.is for c.in_ok-push.ensures.items so
