@@ -1,12 +1,8 @@
--- Which words are options, and how many files a form takes.
-use Rattle.std.specs.Prelude.{◌≡◌, ◌≢◌, ◌⊎◌, ⊤, ℕ, ◌≤◌, List, [], ◌∷◌, Some, codes, slice_get, string_bytes, String, length}
+-- How many files a form takes.
+use Rattle.std.specs.Prelude.{◌≡◌, ◌≢◌, ◌⊎◌, ⊤, ◌≤◌, List, [], ◌∷◌, codes, string_bytes, String, length}
 use Rattle.std.specs.Global.{Global}
 use Rattle.program_edges.specs.declared.files.FileCount.{FileCount}
 use Rattle.program_edges.specs.declared.files.FileCount.TheVariants as count
-
--- a word is an option: it begins with `-`, and isn't `-` alone, which stands for standard input
-abbrev pub IsOption : List ℕ → Type 0
-IsOption word = (word ≢ codes "-") × (slice_get word 0 ≡ Some 45)
 
 -- two files, of which one at most is standard input
 abbrev pub AreTwoFiles : List (String Global) → Type 0

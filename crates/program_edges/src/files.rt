@@ -1,6 +1,8 @@
 //! The files that words name.
 ghost use Rattle.std.specs.Prelude.{◌≡◌, ◌↔◌, codes, IsOk, IsTrue};
-ghost use Rattle.program_edges.specs.Files.{AreTaken, AreTwoFiles, IsOption};
+ghost use Rattle.std.specs.Str.{bytes_eq};
+ghost use Rattle.program_edges.specs.Files.{AreTaken, AreTwoFiles};
+ghost use Rattle.program_edges.specs.Words.{begins_with_dash, is_end, is_option};
 
 use crate::words::WordsFault;
 
@@ -19,16 +21,33 @@ pub enum FileCount {
 
 /// Whether a word stands for standard input.
 pub(crate) fn is_input(word: &str) -> bool
-    ensures { IsTrue result ↔ (word.now ≡ codes "-") }
+    ensures value { result ≡ bytes_eq word.now (codes "-") }
+    ensures input { IsTrue result ↔ (word.now ≡ codes "-") }
 {
     word == "-"
 }
 
+/// Whether a word is `--`.
+pub(crate) fn is_end(word: &str) -> bool
+    ensures { result ≡ is_end word.now }
+{
+    word == "--"
+}
+
+fn begins_with_dash(word: &[u8]) -> bool
+    ensures { result ≡ begins_with_dash word.now }
+{
+    match word {
+        [] => false,
+        [first, ..] => *first == b'-',
+    }
+}
+
 /// Whether a word is an option: it begins with `-`, and isn't `-` alone, which stands for standard input.
 pub(crate) fn is_option(word: &str) -> bool
-    ensures { IsTrue result ↔ IsOption word.now }
+    ensures { result ≡ is_option word.now }
 {
-    !is_input(word) && word.as_bytes().first() == Some(&b'-')
+    begins_with_dash(word.as_bytes()) && !is_input(word)
 }
 
 /// Judges the files of a form of two files.

@@ -255,13 +255,22 @@ fn harms_terminal<P: Program>(rt: &HostRuntime, form: &P::Form) -> bool {
     P::writes_bytes(form) && rt.stdout().is_terminal()
 }
 
+/// How many words behind the command belong to it.
+fn behind_command<P: Program>(words: &[String]) -> usize {
+    match words {
+        [command, ..] => P::own_words(command.as_str()).saturating_sub(1),
+        [] => 0,
+    }
+}
+
 /// Answers the words after the program's name, and answers the exit status.
 fn status_of<P: Program>(rt: &HostRuntime) -> u8 {
     let words = match words_of(rt) {
         Ok(words) => words,
         Err(error) => return unworded::<P>(rt, error),
     };
-    let Ok(words) = sort_words::<P>(rt.alloc(), words) else {
+    let behind = behind_command::<P>(&words);
+    let Ok(words) = sort_words(rt.alloc(), words, behind) else {
         return no_memory::<P>(rt);
     };
     if let Some(command) = words.helped_command::<P>() {
