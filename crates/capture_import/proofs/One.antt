@@ -1,16 +1,21 @@
--- An input names one list.
-use Rattle.std.proofs.Common.{◌≡◌, ◌∙◌, ℕ, List, ◌∷◌, Option, Some, drop, ap, sym, subst}
+-- An input names one list, and then it isn't refused.
+use Rattle.std.proofs.Common.{◌≡◌, ◌∙◌, ◌⊎◌, inl, inr, ℕ, ◌+◌, ◌*◌, ◌/◌, ◌%◌, ◌^◌, ◌≤◌, Bool, true, false, List, [], ◌∷◌, Option, Some, None, drop, length, take, ap, sym, subst, arith}
 use Rattle.quad_lanes.specs.Pairs.{quads_of}
-use Rattle.topology_map.specs.Map.{IsMap}
-use Rattle.capture_import.specs.Image.{HasList, image_of}
-use Rattle.capture_import.specs.Import.{Names, bytes_in}
-use Rattle.capture_import.specs.List.{HasPackets, NamesList, layout_of, order_in, to_its_end, packets_in}
-use Rattle.capture_import.specs.OneImport.{NoInputNamesTwoLists}
+use Rattle.topology_map.specs.declared.fault.ImageFault.{ImageFault}
+use Rattle.topology_map.specs.declared.fault.ImageFault.TheVariants.{Length, Crc, Counts, Memory}
+use Rattle.topology_map.specs.Crc.{IsCrc}
+use Rattle.topology_map.specs.Map.{IsMap, Refused, HasLength, counts_of}
+use Rattle.topology_map.proofs.Lemmas.{joined, one_crc}
+use Rattle.capture_import.specs.Image.{HasList, IsBadImage, image_of}
+use Rattle.capture_import.specs.Import.{Names, NamesBytes, IsBadText, IsCut, AreBadBytes, are_quadlets, bytes_in, is_good_text}
+use Rattle.capture_import.specs.List.{HasPackets, HasNoPackets, NamesList, IsBadList, are_good, layout_of, order_in, to_its_end, packets_in}
+use Rattle.capture_import.specs.OneImport.{NoInputNamesTwoLists, NoInputIsNamedAndRefused}
 use Rattle.capture_import.specs.declared.taken.Container.{Container}
 use Rattle.capture_import.specs.declared.taken.Layout.{Layout}
 use Rattle.capture_import.specs.declared.taken.Layout.TheVariants.{Pairs, Firsts, Buffer, Map}
 use Rattle.capture_import.specs.declared.taken.Order.{Order}
 use Rattle.capture_import.specs.declared.taken.Taken.{Taken}
+use Rattle.capture_import.specs.declared.fault.ImportFault.{ImportFault}
 
 some_same : {A : Type 0} (x y : A) → Some x ≡ Some y → x ≡ y
 some_same x y e = cc
@@ -45,3 +50,68 @@ one_list input t u a b h i =
     let layouts : t.layout ≡ u.layout = h.layout_is ∙ (ap layout_of quads ∙ sym i.layout_is) in
     let rest = moved t.layout u.layout t.order u.order (quads_of h.bytes) (quads_of i.bytes) a b layouts quads h.list_is i.list_is in
     (containers, layouts, rest.0, rest.1)
+
+-- ---- named and refused
+
+apart_tests : (b : Bool) → b ≡ true → b ≡ false → ⊥
+apart_tests b t f = absurd cc
+
+apart_options : {A : Type 0} (o : Option A) (x : A) → o ≡ Some x → o ≡ None → ⊥
+apart_options o x s n = absurd cc
+
+-- an image of a map has no fault
+told_length : (first : ℕ) (body : List ℕ) → first / 2 ^ 16 ≡ length body → 2 ≤ length body → HasLength (first ∷ body)
+told_length first body told two = record { three = omega arith; told = omega arith }
+
+image_apart : (generation first crc : ℕ) (list : List ℕ) (f : ImageFault) →
+    first / 2 ^ 16 ≡ length (generation ∷ counts_of list ∷ list) → first % 2 ^ 16 ≡ crc →
+    IsCrc (generation ∷ counts_of list ∷ list) crc → Refused (first ∷ generation ∷ counts_of list ∷ list) f → ⊥
+image_apart generation first crc list (Length fnd) long kept is r =
+    r.0 (told_length first (generation ∷ counts_of list ∷ list) long (omega arith))
+image_apart generation first crc list (Crc kept' computed) long kept is r =
+    r.3 (r.1 ∙ (kept ∙ one_crc (generation ∷ counts_of list ∷ list) crc computed is r.2))
+image_apart generation first crc list (Counts kept' fnd) long kept is r = r.4 (r.2 ∙ sym r.3)
+image_apart generation first crc list (Memory e) long kept is r = r
+
+map_apart : (generation nodes : ℕ) (list quads : List ℕ) (f : ImageFault) → IsMap generation nodes list quads →
+    Refused quads f → ⊥
+map_apart generation nodes list quads f h r =
+    let body : List ℕ = generation ∷ counts_of list ∷ list in
+    let i = h.image in
+    let j = joined (length body) i.crc i.crc_is.degree in
+    image_apart generation (2 ^ 16 * length body + i.crc) i.crc list f j.0 j.1 i.crc_is
+    (subst (λ (q : List ℕ). Refused q f) i.quads_are r)
+
+packets_apart : (layout : Layout) (order : Order) (quads list : List ℕ) (f : ImportFault) →
+    HasPackets layout order quads list → HasNoPackets layout quads f → ⊥
+packets_apart layout order quads list f h n = apart_options (order_in layout quads) order h.order_is (n.order_is h.good)
+
+lists_apart : (layout : Layout) (order : Order) (quads list : List ℕ) (f : ImportFault) →
+    NamesList layout order quads list → IsBadList layout quads f → ⊥
+lists_apart Pairs order quads list f h n = packets_apart Pairs order quads list f h n
+lists_apart Buffer order quads list f h n = packets_apart Buffer order quads list f h n
+lists_apart Firsts order quads list f h n = packets_apart Firsts order quads list f h n
+lists_apart Map order quads list f h n = map_apart h.0.generation h.0.nodes list (image_of quads) n.fault h.0.map n.refused
+
+-- of the bytes that an input names
+bytes_apart : (t : Taken) (bytes list : List ℕ) (f : ImportFault) → are_quadlets bytes ≡ true →
+    t.layout ≡ layout_of (quads_of bytes) → NamesList t.layout t.order (quads_of bytes) list →
+    IsCut bytes f ⊎ IsBadList (layout_of (quads_of bytes)) (quads_of bytes) f → ⊥
+bytes_apart t bytes list f whole layout names (inl cut) = apart_tests (are_quadlets bytes) whole cut.bad
+bytes_apart t bytes list f whole layout names (inr bad) =
+    lists_apart (layout_of (quads_of bytes)) t.order (quads_of bytes) list f
+    (subst (λ (x : Layout). NamesList x t.order (quads_of bytes) list) layout names) bad
+
+-- an input names the same bytes, whatever it is taken for
+same_bytes : (c e : Container) (input a b : List ℕ) → NamesBytes c input a → NamesBytes e input b → a ≡ b
+same_bytes c e input a b h i =
+    h.bytes_are ∙ (ap (λ (x : Container). bytes_in x input) (h.container_is ∙ sym i.container_is) ∙ sym i.bytes_are)
+
+pub named_apart : NoInputIsNamedAndRefused
+named_apart input t list f h (inl bad) =
+    apart_tests (is_good_text t.container input) h.names.good
+    (ap (λ (x : Container). is_good_text x input) (h.names.container_is ∙ sym bad.1.container_is) ∙ bad.1.bad)
+named_apart input t list f h (inr bad) =
+    let same : bad.bytes ≡ h.bytes = same_bytes bad.container t.container input bad.bytes h.bytes bad.names h.names in
+    bytes_apart t h.bytes list f h.whole h.layout_is h.list_is
+    (subst (λ (x : List ℕ). IsCut x f ⊎ IsBadList (layout_of (quads_of x)) (quads_of x) f) same bad.bad)

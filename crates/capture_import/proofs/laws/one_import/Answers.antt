@@ -1,5 +1,8 @@
-use Rattle.capture_import.proofs.One.{one_list}
+use Rattle.capture_import.proofs.One.{one_list, named_apart}
 use Rattle.capture_import.proofs.laws.one_import.Goals as goal
 
-pub returns : goal.returns
-returns c = one_list
+pub returns-clause-list : goal.returns-clause-list
+returns-clause-list c = one_list
+
+pub returns-clause-apart : goal.returns-clause-apart
+returns-clause-apart c = named_apart
