@@ -5,10 +5,8 @@ use Rattle.topology_stack.specs.Tree.{Tree}
 use Rattle.capture_reading.specs.declared.fault.CaptureFault.{CaptureFault}
 use Rattle.capture_reading.specs.Capture.{Spells, CaptureRefused}
 use Rattle.capture_reading.specs.Line.{fault_line}
-use Rattle.bus_diff.specs.declared.pair.Pair.{Pair}
 use Rattle.bus_diff.specs.declared.change.Change.{Change}
-use Rattle.bus_diff.specs.Matching.{IsMatching}
-use Rattle.bus_diff.specs.Listed.{changes}
+use Rattle.bus_diff.specs.Difference.{AreDifferences}
 use Rattle.bus_diff.specs.Text.{changes_text}
 use Rattle.json.specs.Json.{Json, string, array, object, Items, no_items, item, no_members, member}
 use Rattle.bus_json.specs.Text.{json_line}
@@ -25,13 +23,6 @@ use Rattle.diff_form.specs.declared.outcome.Outcome.TheVariants.{Same, Differs, 
 abbrev pub IsReading : Standard → List ℕ → Result Tree CaptureFault → Type 0
 IsReading standard bytes (Ok t) = Spells standard bytes t
 IsReading standard bytes (Err f) = CaptureRefused standard bytes f
-
--- the list of what differs between two buses, by a matching of their nodes; a bus doesn't differ from itself
-pub record AreDifferences (old new : Tree) (told : List Change) : Type 0 where
-  pub pairs : List Pair
-  pub matching : IsMatching old new pairs
-  pub list : told ≡ changes old new pairs
-  pub same : old ≡ new → told ≡ []
 
 abbrev pub outcome_of : List Change → Outcome
 outcome_of [] = Same
