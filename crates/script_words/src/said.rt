@@ -1,10 +1,11 @@
 //! What the first lines of a script say of its delay and of the times of its nodes.
 ghost use Rattle.std.specs.Prelude.{◌≡◌, ◌≤◌, [], IfOk, drop, slice_index_or};
-ghost use Rattle.script_words.specs.Before.{words_in, from_first, is_delay, delay_said, delay_of, standard_named, ranges_by, times_said, or_profile, ranges_of};
+ghost use Rattle.script_words.specs.Before.{words_in, from_first, is_delay, delay_number, says_delay, delay_said, delay_of, standard_named, ranges_by, is_times, times_said, any_ranges, or_any, is_opening, ranges_said, ranges_of};
 
 use crate::before::words_in;
+use crate::fit::furthest;
 use crate::text::{Text, same, word_at};
-use port_state::{Misfit, TimeRanges};
+use port_state::{Misfit, TimeRanges, Timing};
 use script_lines::{number_of, says_nothing};
 use self_id::Standard;
 use std::alloc::Global;
@@ -58,15 +59,27 @@ fn is_delay(words: &[Text]) -> bool
     same(word_at(words, 0), b"delay")
 }
 
+fn delay_number(words: &[Text]) -> u32
+    ensures { result ≡ delay_number words.now }
+{
+    number_of(word_at(words, 1)).unwrap_or(0)
+}
+
+/// Whether words say a delay, and none is at fault.
+fn says_delay(words: &[Text]) -> bool
+    ensures { result ≡ says_delay words.now }
+{
+    is_delay(words) && words.len() == 2 && (1..=16).contains(&delay_number(words))
+}
+
 /// The delay that a line says, or the usual one.
 fn delay_said(words: &[Text]) -> u8
     ensures value { result ≡ delay_said words.now }
     ensures some { 1 ≤ result }
     ensures few { result ≤ 16 }
 {
-    let n = number_of(word_at(words, 1)).unwrap_or(0);
-    if is_delay(words) && (1..=16).contains(&n) {
-        n as u8
+    if says_delay(words) {
+        delay_number(words) as u8
     } else {
         4
     }
@@ -103,29 +116,78 @@ fn ranges_by(
     }
 }
 
+fn is_times(words: &[Text]) -> bool
+    ensures { result ≡ is_times words.now }
+{
+    same(word_at(words, 0), b"times")
+}
+
 /// The ranges that a line says, or why they don't suit.
 pub(crate) fn times_said(d: u8, words: &[Text]) -> Option<Result<TimeRanges, Misfit>>
     requires some { 1 ≤ d }
     requires few { d ≤ 16 }
     ensures { result ≡ times_said d words.now }
 {
-    if !same(word_at(words, 0), b"times") {
+    if !is_times(words) || words.len() != 3 {
         return None;
     }
     let nanoseconds = number_of(word_at(words, 2)).unwrap_or(0);
     ranges_by(d, standard_named(word_at(words, 1)), nanoseconds)
 }
 
-/// The ranges, where they suit, or else the profile's.
-fn or_profile(d: u8, said: Option<Result<TimeRanges, Misfit>>) -> TimeRanges
-    requires some { 1 ≤ d }
-    requires few { d ≤ 16 }
-    ensures { result ≡ or_profile d said }
+/// Every time that a timer counts.
+fn any_ranges() -> TimeRanges
+    ensures { result ≡ any_ranges }
+{
+    let least = Timing {
+        hold: 1,
+        force: 1,
+        timeout: 1,
+        short: 1,
+        long: 1,
+    };
+    let most = Timing {
+        hold: 65_535,
+        force: 65_535,
+        timeout: 65_535,
+        short: 65_535,
+        long: 65_535,
+    };
+    TimeRanges { least, most }
+}
+
+/// The ranges that are said, if they suit. Otherwise the times may be any.
+fn or_any(said: Option<Result<TimeRanges, Misfit>>) -> TimeRanges
+    ensures { result ≡ or_any said }
 {
     match said {
         Some(Ok(ranges)) => ranges,
-        _ => TimeRanges::profile(d),
+        _ => any_ranges(),
     }
+}
+
+/// Whether words ought to say the delay or times: they begin with that verb, or with none, which may be one of these
+/// two misspelt.
+fn is_opening(alloc: Global, words: &[Text]) -> Result<bool, OutOfMemory>
+    ensures { IfOk result (λ opening. opening ≡ is_opening words.now) }
+{
+    if is_delay(words) || is_times(words) {
+        return Ok(true);
+    }
+    let fitting = furthest(alloc, words)?;
+    Ok(fitting == 0)
+}
+
+/// The ranges by a line behind which no other says them. If it ought to and is at fault, the times may be any.
+fn ranges_said(alloc: Global, d: u8, words: &[Text]) -> Result<TimeRanges, OutOfMemory>
+    requires some { 1 ≤ d }
+    requires few { d ≤ 16 }
+    ensures { IfOk result (λ ranges. ranges ≡ ranges_said d words.now) }
+{
+    if is_opening(alloc, words)? {
+        return Ok(or_any(times_said(d, words)));
+    }
+    Ok(TimeRanges::profile(d))
 }
 
 /// What a script of these lines says.
@@ -138,11 +200,11 @@ pub(crate) fn said(alloc: Global, lines: &[Text]) -> Result<Opening, OutOfMemory
     let lines = from_first(lines);
     let words = words_of_first(alloc, lines)?;
     let delay = delay_said(words.as_slice());
-    let words = if is_delay(words.as_slice()) {
+    let words = if says_delay(words.as_slice()) {
         words_of_first(alloc, from_first(behind_first(lines)))?
     } else {
         words
     };
-    let times = or_profile(delay, times_said(delay, words.as_slice()));
+    let times = ranges_said(alloc, delay, words.as_slice())?;
     Ok(Opening { delay, times })
 }
