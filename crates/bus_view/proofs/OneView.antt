@@ -9,16 +9,14 @@ use Rattle.self_id.specs.declared.standard.Standard.{Standard}
 use Rattle.topology_stack.specs.Tree.{Tree}
 use Rattle.capture_reading.specs.declared.fault.CaptureFault.{CaptureFault}
 use Rattle.capture_reading.specs.OneReading.{NoCaptureHasTwoTrees, NoCaptureHasATreeAndAFault, NoCaptureHasTwoFaults}
-use Rattle.script_run.specs.Line.{kind_word, script_line}
-use Rattle.bus_json.specs.Text.{json_line}
-use Rattle.bus_json.specs.Refusal.{line_refusal_value}
+use Rattle.script_run.specs.Line.{script_line}
 use Rattle.script_lines.specs.declared.kind.ScriptFault.{ScriptFault}
 use Rattle.script_words.specs.Before.{feed_lines}
 use Rattle.script_told.specs.Script.{ScriptResult, script_lines}
 use Rattle.script_told.specs.Run.{ScriptRun, IsResult}
 use Rattle.script_run.specs.Listed.{listed_at, IsListed}
 use Rattle.script_run.specs.Viewed.{IsPictured, AreReported}
-use Rattle.script_run.specs.OneViewed.{ScriptsHaveOnePicture, PicturedScriptsAreTold, ScriptsHaveOneReporting, ReportedScriptsAreTold}
+use Rattle.script_run.specs.OneViewed.{TellsOneThing, IsToldOfTexts, ScriptsHaveOnePicture, PicturedScriptsAreTold, ScriptsHaveOneReporting, ReportedScriptsAreTold}
 use Rattle.script_told.specs.OneTold.{ScriptsHaveOneRun, ScriptsTellOneThing}
 use Rattle.script_told.proofs.Lemmas.{same-fault}
 use Rattle.script_trace.specs.Trace.{IsTrace}
@@ -31,7 +29,7 @@ use Rattle.bus_view.specs.declared.form.CaptureView.{CaptureView}
 use Rattle.bus_view.specs.declared.form.CaptureView.TheVariants.{Packets, Tree as Drawn, Dot, Json}
 use Rattle.bus_view.specs.declared.form.ViewForm.{ViewForm}
 use Rattle.bus_view.specs.declared.form.ViewForm.TheVariants.{Capture, Trace, Waves, DotRun, JsonRun, Script, ListOf, Explain, Resets, Nosy, OfItself}
-use Rattle.bus_view.specs.Answer.{Reading, spelt, refused, IsReading, status_of, ShowsPackets, HasText, IsCaptureView, IsTraceView, traced, at_fault, IsWavesView, dumped, not_dumped, IsGraphView, pictured, not_pictured, IsReportsView, reported, not_reported, IsListView, has_list, has_none, IsView, IsExplainView, has_text, has_fault}
+use Rattle.bus_view.specs.Answer.{Reading, spelt, refused, IsReading, status_of, ShowsPackets, HasText, IsCaptureView, IsShown, shown, at_fault, json_refusal, IsListView, has_list, has_none, IsView, IsExplainView, has_text, has_fault}
 use Rattle.reset_log.specs.OneText.{NoLogHasTwoTexts}
 use Rattle.nosy_dump.specs.OneText.{NoDumpHasTwoTexts}
 use Rattle.bus_view.specs.Explained.{explanation, IsExplained}
@@ -110,7 +108,7 @@ same_capture one view standard bytes s r a b x y =
     let same : x.reading ≡ y.reading = same_reading one standard bytes x.reading y.reading x.reads y.reads in
     (x.status_is ∙ ap status_of same ∙ sym y.status_is, same_text view standard bytes y.reading a b (subst (λ (v : Reading). HasText view standard bytes v a) same x.text_is) y.text_is)
 
--- ---- a script has one trace
+-- ---- a script has one trace, one dump, one graph and one list of reports
 
 trace-text : ScriptResult → List ℕ
 trace-text (Ok text) = text
@@ -126,23 +124,20 @@ no-fault : HasOneReading → (bytes text : List ℕ) (fault : ScriptFault) → I
 unfolding is-ok
 no-fault one bytes text fault x y = let e = ap is-ok (one.told bytes (Ok text) (Err fault) x y) in cc
 
--- nor has one with a trace
-apart : HasOneReading → (bytes lines : List ℕ) (fault : ScriptFault) → IsTrace bytes (Ok lines) →
-    IsResult bytes (Err fault) → ⊥
-apart one bytes lines fault x y =
-    let text = one.texts bytes lines x in no-fault one bytes text.0 fault text.1 y
-
-same_trace : HasOneReading → (bytes : List ℕ) (s r : ℕ) (a b : List ℕ) → IsTraceView bytes s a →
-    IsTraceView bytes r b → (s ≡ r) × (a ≡ b)
+-- what is shown of a script in some way
+same_told : HasOneReading →
+    (Tells : List ℕ → ScriptResult → Type 0) (said : ScriptFault → List ℕ) → TellsOneThing Tells → IsToldOfTexts Tells →
+    (bytes : List ℕ) (s r : ℕ) (a b : List ℕ) → IsShown Tells said bytes s a →
+    IsShown Tells said bytes r b → (s ≡ r) × (a ≡ b)
 unfolding trace-text
-same_trace one bytes s r a b (traced e x) (traced f y) =
-    (e ∙ sym f, ap trace-text (one.traces bytes (Ok a) (Ok b) x y))
-same_trace one bytes s r a b (traced e x) (at_fault g f y t) = absurd (apart one bytes a g x y)
-same_trace one bytes s r a b (at_fault g e x t) (traced f y) = absurd (apart one bytes b g y x)
-same_trace one bytes s r a b (at_fault g e x t) (at_fault h f y u) = (
-  e ∙ sym f,
-  t ∙ ap (explanation bytes) (same-fault g h (one.told bytes (Err g) (Err h) x y)) ∙ sym u,
-)
+same_told one Tells said tells texts bytes s r a b (shown e x) (shown f y) =
+    (e ∙ sym f, ap trace-text (tells bytes (Ok a) (Ok b) x y))
+same_told one Tells said tells texts bytes s r a b (shown e x) (at_fault g f y t) =
+    absurd (let text = texts bytes a x in no-fault one bytes text.0 g text.1 y)
+same_told one Tells said tells texts bytes s r a b (at_fault g e x t) (shown f y) =
+    absurd (let text = texts bytes b y in no-fault one bytes text.0 g text.1 x)
+same_told one Tells said tells texts bytes s r a b (at_fault g e x t) (at_fault h f y u) =
+    (e ∙ sym f, t ∙ ap said (same-fault g h (one.told bytes (Err g) (Err h) x y)) ∙ sym u)
 
 -- ---- a script has one fault or none
 
@@ -160,62 +155,6 @@ same_explanation one bytes s r a b (has_fault g e x t) (has_text p f y u) =
 same_explanation one bytes s r a b (has_fault g e x t) (has_fault h f y u) =
     let same : g ≡ h = same-fault g h (one.told bytes (Err g) (Err h) x y) in
     (e ∙ sym f, one_explained (feed_lines bytes) h a b (subst (λ (k : ScriptFault). IsExplained (feed_lines bytes) k a) same t) u)
-
--- ---- a script has one dump
-
-dump-apart : HasOneReading → (bytes dump : List ℕ) (fault : ScriptFault) → IsWaves bytes (Ok dump) →
-    IsResult bytes (Err fault) → ⊥
-dump-apart one bytes dump fault x y =
-    let text = one.dumped_texts bytes dump x in no-fault one bytes text.0 fault text.1 y
-
-same_waves : HasOneReading → (bytes : List ℕ) (s r : ℕ) (a b : List ℕ) → IsWavesView bytes s a →
-    IsWavesView bytes r b → (s ≡ r) × (a ≡ b)
-unfolding trace-text
-same_waves one bytes s r a b (dumped e x) (dumped f y) =
-    (e ∙ sym f, ap trace-text (one.dumps bytes (Ok a) (Ok b) x y))
-same_waves one bytes s r a b (dumped e x) (not_dumped g f y t) = absurd (dump-apart one bytes a g x y)
-same_waves one bytes s r a b (not_dumped g e x t) (dumped f y) = absurd (dump-apart one bytes b g y x)
-same_waves one bytes s r a b (not_dumped g e x t) (not_dumped h f y u) = (
-  e ∙ sym f,
-  t ∙ ap (explanation bytes) (same-fault g h (one.told bytes (Err g) (Err h) x y)) ∙ sym u,
-)
-
--- ---- a script has one graph
-
-graph-apart : HasOneReading → (bytes graph : List ℕ) (fault : ScriptFault) → IsPictured bytes (Ok graph) →
-    IsResult bytes (Err fault) → ⊥
-graph-apart one bytes graph fault x y =
-    let text = one.pictured_texts bytes graph x in no-fault one bytes text.0 fault text.1 y
-
-same_graph : HasOneReading → (bytes : List ℕ) (s r : ℕ) (a b : List ℕ) → IsGraphView bytes s a →
-    IsGraphView bytes r b → (s ≡ r) × (a ≡ b)
-unfolding trace-text
-same_graph one bytes s r a b (pictured e x) (pictured f y) =
-    (e ∙ sym f, ap trace-text (one.pictures bytes (Ok a) (Ok b) x y))
-same_graph one bytes s r a b (pictured e x) (not_pictured g f y t) = absurd (graph-apart one bytes a g x y)
-same_graph one bytes s r a b (not_pictured g e x t) (pictured f y) = absurd (graph-apart one bytes b g y x)
-same_graph one bytes s r a b (not_pictured g e x t) (not_pictured h f y u) = (
-  e ∙ sym f,
-  t ∙ ap (explanation bytes) (same-fault g h (one.told bytes (Err g) (Err h) x y)) ∙ sym u,
-)
-
--- ---- a script has one list of reports
-
-reports-apart : HasOneReading → (bytes lines : List ℕ) (fault : ScriptFault) → AreReported bytes (Ok lines) →
-    IsResult bytes (Err fault) → ⊥
-reports-apart one bytes lines fault x y =
-    let text = one.reported_texts bytes lines x in no-fault one bytes text.0 fault text.1 y
-
-same_reports : HasOneReading → (bytes : List ℕ) (s r : ℕ) (a b : List ℕ) → IsReportsView bytes s a →
-    IsReportsView bytes r b → (s ≡ r) × (a ≡ b)
-unfolding trace-text
-same_reports one bytes s r a b (reported e x) (reported f y) =
-    (e ∙ sym f, ap trace-text (one.reports bytes (Ok a) (Ok b) x y))
-same_reports one bytes s r a b (reported e x) (not_reported g f y t) = absurd (reports-apart one bytes a g x y)
-same_reports one bytes s r a b (not_reported g e x t) (reported f y) = absurd (reports-apart one bytes b g y x)
-same_reports one bytes s r a b (not_reported g e x t) (not_reported h f y u) =
-    let same : g ≡ h = same-fault g h (one.told bytes (Err g) (Err h) x y) in
-    (e ∙ sym f, t ∙ ap (λ (k : ScriptFault). json_line (line_refusal_value k.line (kind_word k.kind))) same ∙ sym u)
 
 -- ---- a script lists one thing of a node
 
@@ -243,10 +182,14 @@ same_list one name bytes s r a b (has_none g e x t) (has_none h f y u) = (
 
 same_view : HasOneReading → (form : ViewForm) (bytes : List ℕ) (s r : ℕ) (a b : List ℕ) →
     IsView form bytes s a → IsView form bytes r b → (s ≡ r) × (a ≡ b)
-same_view one Trace bytes s r a b x y = same_trace one bytes s r a b x y
-same_view one Waves bytes s r a b x y = same_waves one bytes s r a b x y
-same_view one DotRun bytes s r a b x y = same_graph one bytes s r a b x y
-same_view one JsonRun bytes s r a b x y = same_reports one bytes s r a b x y
+same_view one Trace bytes s r a b x y =
+    same_told one IsTrace (explanation bytes) one.traces one.texts bytes s r a b x y
+same_view one Waves bytes s r a b x y =
+    same_told one IsWaves (explanation bytes) one.dumps one.dumped_texts bytes s r a b x y
+same_view one DotRun bytes s r a b x y =
+    same_told one IsPictured (explanation bytes) one.pictures one.pictured_texts bytes s r a b x y
+same_view one JsonRun bytes s r a b x y =
+    same_told one AreReported json_refusal one.reports one.reported_texts bytes s r a b x y
 same_view one Explain bytes s r a b x y = same_explanation one bytes s r a b x y
 same_view one (Capture view standard) bytes s r a b x y =
     same_capture one view standard bytes s r a b x y

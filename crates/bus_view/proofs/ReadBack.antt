@@ -12,7 +12,7 @@ use Rattle.script_told.specs.Bus.{Bus}
 use Rattle.script_told.specs.Script.{Stage, bus_of}
 use Rattle.script_told.specs.Run.{Entry}
 use Rattle.script_bus.specs.Viewed.{IsReadLineOf}
-use Rattle.script_run.specs.Viewed.{IsReadAfter, AreReadLines, AreReadBack, prints_report}
+use Rattle.script_run.specs.Viewed.{AllWritten, IsReadAfter, AreReadBack, prints_report}
 use Rattle.bus_view.specs.declared.form.ViewForm.{ViewForm}
 use Rattle.bus_view.specs.ReadBack.{AreReports, ReadsBack}
 
@@ -36,17 +36,14 @@ of-bus bus line = by bus.notes.report
           read_back = h.read_back;
         }
 
-of-command : (command : Command) (after : Stage) (line : List ℕ) → IsReadAfter command after line → AreJsonLines line
-of-command command after line = by (prints_report command)
-  where
-    by : (b : Bool) → MatchBool b (IsReadLineOf (bus_of after) line) (line ≡ []) → AreJsonLines line
-    by true h = of-bus (bus_of after) line h
-    by false h = no-lines line h
+of-command : (prints : Bool) (after : Stage) (text line : List ℕ) → IsReadAfter prints after text line → AreJsonLines line
+of-command true after text line h = of-bus (bus_of after) line h
+of-command false after text line h = no-lines line h
 
-of-entries : (entries : List Entry) (text : List ℕ) → AreReadLines entries text → AreJsonLines text
+of-entries : (entries : List Entry) (text : List ℕ) → AllWritten IsReadAfter entries text → AreJsonLines text
 of-entries [] text h = no-lines text h
 of-entries (e ∷ entries) text h =
-    subst AreJsonLines (sym h.4) (all_lines h.0 h.1 (of-command e.command e.after h.0 h.2) (of-entries entries h.1 h.3))
+    subst AreJsonLines (sym h.4) (all_lines h.0 h.1 (of-command (prints_report e.command) e.after e.text h.0 h.2) (of-entries entries h.1 h.3))
 
 -- lines that are read back as the values of reports are lines of JSON
 pub report_lines : (bytes text : List ℕ) → AreReadBack bytes text → AreJsonLines text

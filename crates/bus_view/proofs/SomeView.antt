@@ -5,7 +5,8 @@ use Rattle.quad_lanes.specs.Pairs.{quads_of}
 use Rattle.self_id.specs.declared.standard.Standard.{Standard}
 use Rattle.capture_reading.specs.OneReading.{EachCaptureHasATreeOrAFault}
 use Rattle.capture_reading.specs.Line.{fault_line}
-use Rattle.script_run.specs.Line.{kind_word, script_line}
+use Rattle.script_lines.specs.declared.kind.ScriptFault.{ScriptFault}
+use Rattle.script_run.specs.Line.{script_line}
 use Rattle.script_made.specs.Made.{made_script}
 use Rattle.script_told.specs.Script.{ScriptResult, script_lines}
 use Rattle.script_told.specs.Run.{ScriptRun, IsRun, printed, unless_stopped, result_of}
@@ -22,7 +23,7 @@ use Rattle.view_text.specs.Pairs.{pairs_text}
 use Rattle.view_text.specs.Graph.{graph}
 use Rattle.bus_json.specs.Text.{json_line}
 use Rattle.bus_json.specs.Bus.{bus_value}
-use Rattle.bus_json.specs.Refusal.{fault_value, line_refusal_value}
+use Rattle.bus_json.specs.Refusal.{fault_value}
 use Rattle.bus_view.specs.declared.form.CaptureView.{CaptureView}
 use Rattle.bus_view.specs.declared.form.CaptureView.TheVariants.{Packets, Tree as Drawn, Dot, Json}
 use Rattle.bus_view.specs.declared.form.ViewForm.{ViewForm}
@@ -34,7 +35,7 @@ use Rattle.bus_view.specs.declared.help.TheConstants.{VIEW_HELP}
 use Rattle.bus_view.specs.Form.{Asks}
 use Rattle.bus_view.specs.Log.{status_if}
 use Rattle.bus_view.specs.Sentence.{place, note}
-use Rattle.bus_view.specs.Answer.{Reading, spelt, refused, IsReading, status_of, HasText, IsCaptureView, IsTraceView, traced, at_fault, IsWavesView, dumped, not_dumped, IsGraphView, pictured, not_pictured, IsReportsView, reported, not_reported, IsListView, has_list, has_none, IsView, IsExplainView, has_text, has_fault}
+use Rattle.bus_view.specs.Answer.{Reading, spelt, refused, IsReading, status_of, HasText, IsCaptureView, IsShown, shown, at_fault, json_refusal, IsListView, has_list, has_none, IsView, IsExplainView, has_text, has_fault}
 use Rattle.script_words.specs.Before.{feed_lines}
 use Rattle.bus_view.specs.Explained.{explanation}
 use Rattle.bus_view.specs.OneAnswer.{EachInputHasAView}
@@ -90,16 +91,20 @@ module _ (have : HasSomeReading) where
       let t = some-text view standard bytes r.0 fit in
       (status_of r.0, t.0, record { reading = r.0; reads = r.1; status_is = refl; text_is = t.1 })
 
-  some-trace : (bytes : List ℕ) → HasSome (IsTraceView bytes)
-  some-trace bytes =
+  some-told : (Tells : ScriptRun → ScriptResult → Type 0) (said : ScriptFault → List ℕ) →
+      ((bytes : List ℕ) (run : ScriptRun) → IsRun bytes run → (told : ScriptResult) × Tells run told) →
+      ((run : ScriptRun) (fault : ScriptFault) → Tells run (Err fault) → run.end ≡ Err fault) → (bytes : List ℕ) →
+      HasSome (IsShown (λ b told. (run : ScriptRun) × IsRun b run × Tells run told) said bytes)
+  some-told Tells said some fails bytes =
       let r = have.run bytes in
-      let t = have.traces bytes r.run r.is in
-      go r.run r.is t.told t.is
+      let t = some bytes r.run r.is in
+      go r.run r.is t.0 t.1
     where
-      go : (run : ScriptRun) → IsRun bytes run → (told : ScriptResult) → IsTraceOf run told →
-          HasSome (IsTraceView bytes)
-      go run is (Ok text) traces = (0, text, traced refl (run, is, traces))
-      go run is (Err f) e = (1, explanation bytes f, at_fault f refl (run, is, sym (ap (unless_stopped (printed run.entries)) e)) refl)
+      go : (run : ScriptRun) → IsRun bytes run → (told : ScriptResult) → Tells run told →
+          HasSome (IsShown (λ b told. (run : ScriptRun) × IsRun b run × Tells run told) said bytes)
+      go run is (Ok text) tells = (0, text, shown refl (run, is, tells))
+      go run is (Err f) tells =
+          (1, said f, at_fault f refl (run, is, sym (ap (unless_stopped (printed run.entries)) (fails run f tells))) refl)
 
   some-explanation : (bytes : List ℕ) → HasSome (IsExplainView bytes)
   some-explanation bytes =
@@ -111,41 +116,6 @@ module _ (have : HasSomeReading) where
       go run is (Ok text) e = (0, codes "no fault\n", has_text text refl (run, is, e) refl)
       go run is (Err f) e =
           let x = some_explained (feed_lines bytes) f in (1, x.0, has_fault f refl (run, is, e) x.1)
-
-  some-waves : (bytes : List ℕ) → HasSome (IsWavesView bytes)
-  some-waves bytes =
-      let r = have.run bytes in
-      let t = have.dumps bytes r.run r.is in
-      go r.run r.is t.told t.is
-    where
-      go : (run : ScriptRun) → IsRun bytes run → (told : ScriptResult) → IsWavesOf run told →
-          HasSome (IsWavesView bytes)
-      go run is (Ok text) dumps = (0, text, dumped refl (run, is, dumps))
-      go run is (Err f) e = (1, explanation bytes f, not_dumped f refl (run, is, sym (ap (unless_stopped (printed run.entries)) e)) refl)
-
-  some-graph : (bytes : List ℕ) → HasSome (IsGraphView bytes)
-  some-graph bytes =
-      let r = have.run bytes in
-      let t = have.pictures bytes r.run r.is in
-      go r.run r.is t.told t.is
-    where
-      go : (run : ScriptRun) → IsRun bytes run → (told : ScriptResult) → IsPictureOf run told →
-          HasSome (IsGraphView bytes)
-      go run is (Ok text) graph = (0, text, pictured refl (run, is, graph))
-      go run is (Err f) e = (1, explanation bytes f, not_pictured f refl (run, is, sym (ap (unless_stopped (printed run.entries)) e)) refl)
-
-  some-reports : (bytes : List ℕ) → HasSome (IsReportsView bytes)
-  some-reports bytes =
-      let r = have.run bytes in
-      let t = have.reportings bytes r.run r.is in
-      go r.run r.is t.told t.is
-    where
-      go : (run : ScriptRun) → IsRun bytes run → (told : ScriptResult) → AreLinesOf run told →
-          HasSome (IsReportsView bytes)
-      go run is (Ok text) lines = (0, text, reported refl (run, is, lines))
-      go run is (Err f) e =
-          let told = sym (ap (unless_stopped (printed run.entries)) e) in
-          (1, json_line (line_refusal_value f.line (kind_word f.kind)), not_reported f refl (run, is, told) refl)
 
   some-list : (name bytes : List ℕ) → HasSome (IsListView name bytes)
   some-list name bytes =
@@ -161,10 +131,14 @@ module _ (have : HasSomeReading) where
   some-view : (form : ViewForm) (bytes : List ℕ) → All (λ b. b < 256) bytes →
       HasSome (IsView form bytes)
   some-view (Capture view standard) bytes fit = some-capture view standard bytes fit
-  some-view Trace bytes fit = some-trace bytes
-  some-view Waves bytes fit = some-waves bytes
-  some-view DotRun bytes fit = some-graph bytes
-  some-view JsonRun bytes fit = some-reports bytes
+  some-view Trace bytes fit =
+      some-told IsTraceOf (explanation bytes) (λ b run is. let t = have.traces b run is in (t.told, t.is)) (λ run fault e. e) bytes
+  some-view Waves bytes fit =
+      some-told IsWavesOf (explanation bytes) (λ b run is. let t = have.dumps b run is in (t.told, t.is)) (λ run fault e. e) bytes
+  some-view DotRun bytes fit =
+      some-told IsPictureOf (explanation bytes) (λ b run is. let t = have.pictures b run is in (t.told, t.is)) (λ run fault e. e) bytes
+  some-view JsonRun bytes fit =
+      some-told AreLinesOf json_refusal (λ b run is. let t = have.reportings b run is in (t.told, t.is)) (λ run fault e. e) bytes
   some-view Explain bytes fit = some-explanation bytes
   some-view (Script nodes seed) bytes fit = (0, made_script nodes seed, (refl, refl))
   some-view (ListOf name) bytes fit = some-list name bytes

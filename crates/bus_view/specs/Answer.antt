@@ -15,6 +15,7 @@ use Rattle.script_run.specs.Line.{kind_word, script_line}
 use Rattle.script_lines.specs.declared.kind.ScriptFault.{ScriptFault}
 use Rattle.script_words.specs.Before.{feed_lines}
 use Rattle.script_made.specs.Made.{made_script}
+use Rattle.script_told.specs.Script.{ScriptResult}
 use Rattle.script_told.specs.Run.{IsResult}
 use Rattle.script_run.specs.Listed.{IsListed}
 use Rattle.script_run.specs.Viewed.{IsPictured, AreReported}
@@ -83,30 +84,33 @@ pub record IsCaptureView (view : CaptureView) (standard : Standard) (bytes : Lis
   pub status_is : status ≡ status_of reading
   pub text_is : HasText view standard bytes reading text
 
--- a script that has a text is traced; one at fault is refused as `busconf run` refuses it
-pub data IsTraceView (bytes : List ℕ) (status : ℕ) (text : List ℕ) : Type 0 where
-  traced : status ≡ 0 → IsTrace bytes (Ok text) → IsTraceView bytes status text
-  at_fault : (fault : ScriptFault) → status ≡ 1 → IsResult bytes (Err fault) →
-      text ≡ explanation bytes fault → IsTraceView bytes status text
+-- What is told of a script in some way is shown. One at fault is refused as `busconf run` refuses it, and
+-- this is said of the fault.
+pub data IsShown (Tells : List ℕ → ScriptResult → Type 0) (said : ScriptFault → List ℕ)
+    (bytes : List ℕ) (status : ℕ) (text : List ℕ) : Type 0 where
+  shown : status ≡ 0 → Tells bytes (Ok text) → IsShown Tells said bytes status text
+  at_fault : (fault : ScriptFault) → status ≡ 1 → IsResult bytes (Err fault) → text ≡ said fault →
+      IsShown Tells said bytes status text
 
--- and so is its dump
-pub data IsWavesView (bytes : List ℕ) (status : ℕ) (text : List ℕ) : Type 0 where
-  dumped : status ≡ 0 → IsWaves bytes (Ok text) → IsWavesView bytes status text
-  not_dumped : (fault : ScriptFault) → status ≡ 1 → IsResult bytes (Err fault) →
-      text ≡ explanation bytes fault → IsWavesView bytes status text
+-- so is the trace of a script
+abbrev pub IsTraceView : List ℕ → ℕ → List ℕ → Type 0
+IsTraceView bytes = IsShown IsTrace (explanation bytes) bytes
 
--- and so is the graph of its last report
-pub data IsGraphView (bytes : List ℕ) (status : ℕ) (text : List ℕ) : Type 0 where
-  pictured : status ≡ 0 → IsPictured bytes (Ok text) → IsGraphView bytes status text
-  not_pictured : (fault : ScriptFault) → status ≡ 1 → IsResult bytes (Err fault) →
-      text ≡ explanation bytes fault → IsGraphView bytes status text
+-- and its dump
+abbrev pub IsWavesView : List ℕ → ℕ → List ℕ → Type 0
+IsWavesView bytes = IsShown IsWaves (explanation bytes) bytes
 
--- and so are the lines of its reports, with the fault as a line of JSON
-pub data IsReportsView (bytes : List ℕ) (status : ℕ) (text : List ℕ) : Type 0 where
-  reported : status ≡ 0 → AreReported bytes (Ok text) → IsReportsView bytes status text
-  not_reported : (fault : ScriptFault) → status ≡ 1 → IsResult bytes (Err fault) →
-      text ≡ json_line (line_refusal_value fault.line (kind_word fault.kind)) →
-      IsReportsView bytes status text
+-- and the graph of its last report
+abbrev pub IsGraphView : List ℕ → ℕ → List ℕ → Type 0
+IsGraphView bytes = IsShown IsPictured (explanation bytes) bytes
+
+-- the fault of a script as a line of JSON
+abbrev pub json_refusal : ScriptFault → List ℕ
+json_refusal fault = json_line (line_refusal_value fault.line (kind_word fault.kind))
+
+-- the lines of the reports of a script, with the fault as a line of JSON
+abbrev pub IsReportsView : List ℕ → ℕ → List ℕ → Type 0
+IsReportsView = IsShown AreReported json_refusal
 
 -- a script has no fault, or the one for which `busconf run` refuses it and those that are told behind it
 pub data IsExplainView (bytes : List ℕ) (status : ℕ) (text : List ℕ) : Type 0 where

@@ -1,8 +1,6 @@
 pub mod ScriptLines
 pub mod Going
-pub mod Listing
-pub mod AdviceEnds
-pub mod Tracing
-pub mod Viewing
+pub mod Answering
+pub mod Told
 pub mod NamedEnd
 pub mod OneView

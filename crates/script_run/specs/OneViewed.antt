@@ -5,56 +5,56 @@ use Rattle.script_told.specs.Script.{ScriptResult}
 use Rattle.script_told.specs.Run.{ScriptRun, IsRun, IsResult}
 use Rattle.script_run.specs.Viewed.{IsPictureOf, IsPictured, AreLinesOf, AreReported}
 
+-- ---- what is told of a script in some way
+
+-- there is one thing at most
+abbrev pub TellsOneThing : (List ℕ → ScriptResult → Type 0) → Type 0
+TellsOneThing Tells =
+    (bytes : List ℕ) (one other : ScriptResult) → Tells bytes one → Tells bytes other → one ≡ other
+
+-- a script of which something is told has a text
+abbrev pub IsToldOfTexts : (List ℕ → ScriptResult → Type 0) → Type 0
+IsToldOfTexts Tells =
+    (bytes told : List ℕ) → Tells bytes (Ok told) → (text : List ℕ) × IsResult bytes (Ok text)
+
+-- and its fault is the same
+abbrev pub TellsTheFault : (List ℕ → ScriptResult → Type 0) → Type 0
+TellsTheFault Tells =
+    (bytes : List ℕ) (fault : ScriptFault) → Tells bytes (Err fault) → IsResult bytes (Err fault)
+
+-- something is told of a run
+pub record HasTold (Tells : ScriptRun → ScriptResult → Type 0) (run : ScriptRun) : Type 0 where
+  pub told : ScriptResult
+  pub is : Tells run told
+
+-- and of each run of a script
+abbrev pub TellsOfEachRun : (ScriptRun → ScriptResult → Type 0) → Type 0
+TellsOfEachRun Tells = (bytes : List ℕ) (run : ScriptRun) → IsRun bytes run → HasTold Tells run
+
 -- ---- the picture
 
 abbrev pub ScriptsHaveOnePicture : Type 0
-ScriptsHaveOnePicture =
-    (bytes : List ℕ) (one other : ScriptResult) → IsPictured bytes one → IsPictured bytes other →
-    one ≡ other
+ScriptsHaveOnePicture = TellsOneThing IsPictured
 
--- a script with a picture has a text
 abbrev pub PicturedScriptsAreTold : Type 0
-PicturedScriptsAreTold =
-    (bytes picture : List ℕ) → IsPictured bytes (Ok picture) →
-    (text : List ℕ) × IsResult bytes (Ok text)
+PicturedScriptsAreTold = IsToldOfTexts IsPictured
 
--- and its fault is the same
 abbrev pub PictureFaultsAreTold : Type 0
-PictureFaultsAreTold =
-    (bytes : List ℕ) (fault : ScriptFault) → IsPictured bytes (Err fault) →
-    IsResult bytes (Err fault)
-
--- each run has a picture
-pub record HasPicture (run : ScriptRun) : Type 0 where
-  pub told : ScriptResult
-  pub is : IsPictureOf run told
+PictureFaultsAreTold = TellsTheFault IsPictured
 
 abbrev pub RunsHavePictures : Type 0
-RunsHavePictures = (bytes : List ℕ) (run : ScriptRun) → IsRun bytes run → HasPicture run
+RunsHavePictures = TellsOfEachRun IsPictureOf
 
 -- ---- the lines of the reports
 
 abbrev pub ScriptsHaveOneReporting : Type 0
-ScriptsHaveOneReporting =
-    (bytes : List ℕ) (one other : ScriptResult) → AreReported bytes one → AreReported bytes other →
-    one ≡ other
+ScriptsHaveOneReporting = TellsOneThing AreReported
 
--- a script whose reports have lines has a text
 abbrev pub ReportedScriptsAreTold : Type 0
-ReportedScriptsAreTold =
-    (bytes lines : List ℕ) → AreReported bytes (Ok lines) →
-    (text : List ℕ) × IsResult bytes (Ok text)
+ReportedScriptsAreTold = IsToldOfTexts AreReported
 
--- and its fault is the same
 abbrev pub ReportingFaultsAreTold : Type 0
-ReportingFaultsAreTold =
-    (bytes : List ℕ) (fault : ScriptFault) → AreReported bytes (Err fault) →
-    IsResult bytes (Err fault)
-
--- the reports of each run have lines
-pub record HasReporting (run : ScriptRun) : Type 0 where
-  pub told : ScriptResult
-  pub is : AreLinesOf run told
+ReportingFaultsAreTold = TellsTheFault AreReported
 
 abbrev pub RunsHaveReportings : Type 0
-RunsHaveReportings = (bytes : List ℕ) (run : ScriptRun) → IsRun bytes run → HasReporting run
+RunsHaveReportings = TellsOfEachRun AreLinesOf

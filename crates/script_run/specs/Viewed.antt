@@ -7,14 +7,16 @@ use Rattle.script_lines.specs.declared.command.Command.{Command}
 use Rattle.script_lines.specs.declared.command.Command.TheVariants.{Settle, Plan}
 use Rattle.script_bus.specs.Viewed.{IsGraphOf, IsLineOf, IsReadLineOf}
 
--- the graph of the report at the end of a run, or the run's fault
-abbrev pub IsPictureOf : ScriptRun → ScriptResult → Type 0
-IsPictureOf run (Ok text) = (bus : Bus) × (run.end ≡ Ok bus) × IsGraphOf bus text
-IsPictureOf run (Err fault) = run.end ≡ Err fault
+-- ---- what is told of a run
 
--- The graph of a script: that of the report of the `settle` behind its last line.
-abbrev pub IsPictured : List ℕ → ScriptResult → Type 0
-IsPictured bytes told = (run : ScriptRun) × IsRun bytes run × IsPictureOf run told
+-- what is told of a run that ends with a bus, and else the run's fault
+abbrev pub IsToldOf : (ScriptRun → Bus → List ℕ → Type 0) → ScriptRun → ScriptResult → Type 0
+IsToldOf Tells run (Ok text) = (bus : Bus) × (run.end ≡ Ok bus) × Tells run bus text
+IsToldOf Tells run (Err fault) = run.end ≡ Err fault
+
+-- the same of the run of a script
+abbrev pub IsTold : (ScriptRun → Bus → List ℕ → Type 0) → List ℕ → ScriptResult → Type 0
+IsTold Tells bytes told = (run : ScriptRun) × IsRun bytes run × IsToldOf Tells run told
 
 -- `settle` and `plan` print a report
 abbrev pub prints_report : Command → Bool
@@ -22,40 +24,55 @@ prints_report Settle = true
 prints_report (Plan name) = true
 prints_report command = false
 
--- the line of the report that a command printed which led to this stage, and else nothing
-abbrev pub IsLineAfter : Command → Stage → List ℕ → Type 0
-IsLineAfter command after line =
-    MatchBool (prints_report command) (IsLineOf (bus_of after) line) (line ≡ [])
+-- What is written of a command: by whether it prints a report, the stage to which it leads, and what
+-- it prints.
+abbrev pub Writing : Type 1
+Writing = Bool → Stage → List ℕ → List ℕ → Type 0
 
--- the lines of commands, one after the other
-abbrev pub AreLines : List Entry → List ℕ → Type 0
-AreLines [] text = text ≡ []
-AreLines (entry ∷ entries) text =
-    (one : List ℕ) × (more : List ℕ) × IsLineAfter entry.command entry.after one
-    × AreLines entries more × (text ≡ one ++ more)
+-- what is written of commands, one after the other
+abbrev pub AllWritten : Writing → List Entry → List ℕ → Type 0
+AllWritten Writes [] text = text ≡ []
+AllWritten Writes (entry ∷ entries) text =
+    (one : List ℕ) × (more : List ℕ)
+    × Writes (prints_report entry.command) entry.after entry.text one
+    × AllWritten Writes entries more × (text ≡ one ++ more)
 
--- the lines of the reports of a run, or the run's fault
+-- ---- the picture
+
+-- the graph of the report at the end of a run
+abbrev pub is_picture : ScriptRun → Bus → List ℕ → Type 0
+is_picture run = IsGraphOf
+
+abbrev pub IsPictureOf : ScriptRun → ScriptResult → Type 0
+IsPictureOf = IsToldOf is_picture
+
+-- The graph of a script: that of the report of the `settle` behind its last line.
+abbrev pub IsPictured : List ℕ → ScriptResult → Type 0
+IsPictured = IsTold is_picture
+
+-- ---- the lines of the reports
+
+-- the line of a report, and nothing where none is printed
+abbrev pub IsLineAfter : Writing
+IsLineAfter prints after text line = MatchBool prints (IsLineOf (bus_of after) line) (line ≡ [])
+
+-- the lines of the reports of a run
+abbrev pub are_lines : ScriptRun → Bus → List ℕ → Type 0
+are_lines run bus = AllWritten IsLineAfter run.entries
+
 abbrev pub AreLinesOf : ScriptRun → ScriptResult → Type 0
-AreLinesOf run (Ok text) = (bus : Bus) × (run.end ≡ Ok bus) × AreLines run.entries text
-AreLinesOf run (Err fault) = run.end ≡ Err fault
+AreLinesOf = IsToldOf are_lines
 
 -- The reports of a script as JSON: a line for each that it prints.
 abbrev pub AreReported : List ℕ → ScriptResult → Type 0
-AreReported bytes told = (run : ScriptRun) × IsRun bytes run × AreLinesOf run told
+AreReported = IsTold are_lines
 
 -- ---- lines that are read back
 
--- the line behind a command, which is read back as the value of its report
-abbrev pub IsReadAfter : Command → Stage → List ℕ → Type 0
-IsReadAfter command after line =
-    MatchBool (prints_report command) (IsReadLineOf (bus_of after) line) (line ≡ [])
-
--- the lines of commands, each of which is read back
-abbrev pub AreReadLines : List Entry → List ℕ → Type 0
-AreReadLines [] text = text ≡ []
-AreReadLines (entry ∷ entries) text =
-    (one : List ℕ) × (more : List ℕ) × IsReadAfter entry.command entry.after one
-    × AreReadLines entries more × (text ≡ one ++ more)
+-- the line of a report, which is read back as the value of the report
+abbrev pub IsReadAfter : Writing
+IsReadAfter prints after text line =
+    MatchBool prints (IsReadLineOf (bus_of after) line) (line ≡ [])
 
 -- the lines are those of the reports of a script, and each is read back as the value of its report
 pub record AreReadBack (bytes text : List ℕ) : Type 0 where
@@ -63,4 +80,4 @@ pub record AreReadBack (bytes text : List ℕ) : Type 0 where
   pub is : IsRun bytes run
   pub bus : Bus
   pub end : run.end ≡ Ok bus
-  pub lines : AreReadLines run.entries text
+  pub lines : AllWritten IsReadAfter run.entries text

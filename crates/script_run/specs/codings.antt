@@ -1,4 +1,3 @@
 pub mod Going
 pub mod Declaring
-pub mod Listing
-pub mod Viewing
+pub mod Reading

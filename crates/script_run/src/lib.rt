@@ -6,29 +6,23 @@
 //! through, from the first to the end.
 #![tactic(auto)]
 
-mod advise;
 mod draft;
 mod laws;
 mod line;
-mod listed;
+mod reading;
+mod readings;
 mod run;
 mod script;
 mod stage;
-mod trace;
-mod viewed;
-mod waves;
 
-pub use advise::advise_script;
 pub use laws::scripts_have_one_view;
 pub use line::{kind_word, script_line};
-pub use listed::list_script;
-pub use script::run_script;
+pub use readings::{
+    advise_script, dump_script, graph_script, json_script, list_script, run_script, trace_script,
+};
 pub use script_lines::{
     Command, Kind, LineStop, ScriptFault, ScriptStop, parse_line, parse_line_with,
 };
 pub use script_made::make_script;
 pub use script_text::{maps_text, report_text, summary};
 pub use topology_stack::OutOfMemory;
-pub use trace::trace_script;
-pub use viewed::{graph_script, json_script};
-pub use waves::dump_script;

@@ -1,17 +1,14 @@
-//! A whole script.
-ghost use Rattle.std.specs.Prelude.{◌≡◌, ◌≤◌, ◌<◌, ◌+◌, ◌∷◌, ◌++◌, [], Ok, IfOk, IfErr, length};
-ghost use Rattle.script_told.specs.Script.{ScriptResult, script_lines};
-ghost use Rattle.script_told.specs.Run.{IsResult};
-ghost use Rattle.script_run.specs.Answered.{IsRefused, IsOnlyFault};
+//! The lines of a script, which are taken one after the other.
+ghost use Rattle.std.specs.Prelude.{◌≡◌, ◌≤◌, ◌<◌, ◌∷◌, [], IfOk, IfErr, length};
+ghost use Rattle.script_told.specs.Script.{script_lines};
+ghost use Rattle.script_run.specs.Answered.{IsRefused};
 ghost use Rattle.script_run.specs.codings.Going.{HaveGone, stop_at};
 
+use crate::reading::Reading;
 use crate::stage::Stage;
-use script_bus::{Listener, Silent};
 use script_lines::{LineStop, ScriptFault, ScriptStop};
 use script_text::first_feed;
-use script_told::scripts_tell_one_thing;
 use std::alloc::Global;
-use topology_stack::OutOfMemory;
 
 /// The first line of what is left of a script, without its line feed, and what stands behind it.
 pub(crate) fn cut_line(rest: &[u8]) -> (&[u8], &[u8])
@@ -42,21 +39,21 @@ pub(crate) struct Taken {
     pub stage: Stage,
     /// The number of lines and 1.
     pub number: u32,
-    /// What the lines printed.
+    /// What was written of the lines.
     pub text: Vec<u8>,
 }
 
-/// Takes the lines of a script, of 1,048,576 bytes at most. The listener hears what happens at them.
-pub(crate) fn take_lines<L: Listener>(
+/// Takes the lines of a script, of 1,048,576 bytes at most. What happens at them is heard by who has
+/// heard nothing yet.
+pub(crate) fn take_lines<R: Reading>(
     alloc: Global,
     bytes: &[u8],
-    listener: &mut L,
+    heard: &mut R::Hears,
 ) -> Result<Taken, ScriptStop>
-    requires { length bytes.now ≤ 1048576 }
-    ensures lines { IfOk result (λ taken. HaveGone L.voice bytes.now taken.text.items
-        (L.written listener.old) (L.written listener.new) taken.number [] taken.stage) }
-    ensures number { IfOk result (λ taken. taken.number
-        ≡ length (script_lines bytes.now) + 1) }
+    requires few { length bytes.now ≤ 1048576 }
+    requires none { R.Hears.written heard.old ≡ [] }
+    ensures lines { IfOk result (λ taken. HaveGone R.Hears.voice R.Writes.writes bytes.now
+        taken.text.items (R.Hears.written heard.new) taken.number [] taken.stage) }
     ensures refused { IfErr result (IsRefused bytes.now) }
 {
     let mut text = Vec::new(alloc);
@@ -65,7 +62,7 @@ pub(crate) fn take_lines<L: Listener>(
     let mut number = 1;
     while !rest.is_empty() {
         let (line, behind) = cut_line(rest);
-        match stage.take(alloc, line, listener, &mut text) {
+        match stage.take::<R>(alloc, line, heard, &mut text) {
             Ok(()) => {}
             Err(stop) => return Err(at_line(number, stop)),
         }
@@ -77,41 +74,4 @@ pub(crate) fn take_lines<L: Listener>(
         number,
         text,
     })
-}
-
-/// A text, and a report behind it.
-fn with_report(mut text: Vec<u8>, report: Vec<u8>) -> Result<Vec<u8>, OutOfMemory>
-    ensures { IfOk result (λ whole. whole.items ≡ text.items ++ report.items) }
-{
-    if text.is_empty() {
-        return Ok(report);
-    }
-    text.extend_from_slice(report.as_slice())?;
-    Ok(text)
-}
-
-/// The text of a script, of 1,048,576 bytes at most: what its lines print, in order, and the report
-/// of the `settle` that stands behind its last line.
-///
-/// A script is refused for the fault of its first bad line, by the number of that line from 1. The
-/// last `settle` has the number of lines and 1.
-pub fn run_script(alloc: Global, bytes: &[u8]) -> Result<Vec<u8>, ScriptStop>
-    requires { length bytes.now ≤ 1048576 }
-    ensures told { IfOk result (λ text. IsResult bytes.now (Ok text.items)) }
-    ensures refused { IfErr result (IsRefused bytes.now) }
-    ensures only { IfOk result (λ text. (told : ScriptResult) → IsResult bytes.now told
-        → told ≡ Ok text.items) }
-    ensures exact { IfErr result (λ stop. (told : ScriptResult) → IsResult bytes.now told
-        → IsOnlyFault told stop) }
-{
-    scripts_tell_one_thing();
-    let Taken {
-        stage,
-        number,
-        text,
-    } = take_lines(alloc, bytes, &mut Silent)?;
-    match stage.last_report(alloc, &mut Silent) {
-        Ok(report) => Ok(with_report(text, report)?),
-        Err(stop) => Err(at_line(number, stop)),
-    }
 }

@@ -2,9 +2,11 @@
 -- file.
 use Rattle.std.specs.Prelude.{◌≡◌, ◌⊎◌, ℕ, List, [], Bool, true, false}
 use Rattle.std.proofs.Common.{inl, inr}
+use Rattle.script_lines.specs.declared.kind.ScriptFault.{ScriptFault}
+use Rattle.script_told.specs.Script.{ScriptResult}
 use Rattle.bus_view.specs.declared.form.ViewForm.{ViewForm}
 use Rattle.bus_view.specs.declared.form.ViewForm.TheVariants.{Capture, Trace, Waves, DotRun, JsonRun, Script, ListOf, Explain, Resets, Nosy, OfItself}
-use Rattle.bus_view.specs.Answer.{Reading, spelt, refused, status_of, traced, at_fault, dumped, not_dumped, pictured, not_pictured, reported, not_reported, has_list, has_none, IsView, has_text, has_fault}
+use Rattle.bus_view.specs.Answer.{Reading, spelt, refused, status_of, IsShown, shown, at_fault, has_list, has_none, IsView, has_text, has_fault}
 use Rattle.bus_view.specs.Log.{status_if}
 use Rattle.bus_view.specs.Form.{IsUnread}
 
@@ -16,19 +18,21 @@ of_log : (bad : Bool) (status : ℕ) → status ≡ status_if bad → (status �
 of_log true status is = inr is
 of_log false status is = inl is
 
+of_shown :
+    (Tells : List ℕ → ScriptResult → Type 0) (said : ScriptFault → List ℕ) (bytes : List ℕ)
+    (status : ℕ) (text : List ℕ) → IsShown Tells said bytes status text → (status ≡ 0) ⊎ (status ≡ 1)
+of_shown Tells said bytes status text (shown e x) = inl e
+of_shown Tells said bytes status text (at_fault fault e x t) = inr e
+
 -- each form's status is 0 or 1
 pub few_status : (form : ViewForm) (bytes : List ℕ) (status : ℕ) (text : List ℕ) →
     IsView form bytes status text → (status ≡ 0) ⊎ (status ≡ 1)
 few_status (Capture view standard) bytes status text shows =
     of_reading shows.reading status shows.status_is
-few_status Trace bytes status text (traced e x) = inl e
-few_status Trace bytes status text (at_fault fault e x t) = inr e
-few_status Waves bytes status text (dumped e x) = inl e
-few_status Waves bytes status text (not_dumped fault e x t) = inr e
-few_status DotRun bytes status text (pictured e x) = inl e
-few_status DotRun bytes status text (not_pictured fault e x t) = inr e
-few_status JsonRun bytes status text (reported e x) = inl e
-few_status JsonRun bytes status text (not_reported fault e x t) = inr e
+few_status Trace bytes status text is = of_shown _ _ bytes status text is
+few_status Waves bytes status text is = of_shown _ _ bytes status text is
+few_status DotRun bytes status text is = of_shown _ _ bytes status text is
+few_status JsonRun bytes status text is = of_shown _ _ bytes status text is
 few_status Explain bytes status text (has_text printed e x t) = inl e
 few_status Explain bytes status text (has_fault fault e x t) = inr e
 few_status (Script nodes seed) bytes status text is = inl is.0

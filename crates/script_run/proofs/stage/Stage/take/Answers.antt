@@ -7,11 +7,8 @@ use Rattle.script_run.proofs.Going.{done-fails}
 use Rattle.script_run.proofs.stage.Stage.take.Goals as goal
 
 pub returns-then-says_nothing-clause-done : goal.returns-then-says_nothing-clause-done
-returns-then-says_nothing-clause-done g c = (
-  [],
-  inl (c.says_nothing.ensures.nothing c.if-says_nothing.true (ranges_of c.args.self.now), refl, refl, refl),
-  sym (append-nil c.args.out.now.items),
-)
+returns-then-says_nothing-clause-done g c =
+    inl (c.says_nothing.ensures.nothing c.if-says_nothing.true (ranges_of c.args.self.now), refl, refl, refl)
 
 pub returns-in_err-pass-in-Some-clause-stop : goal.returns-in_err-pass-in-Some-clause-stop
 returns-in_err-pass-in-Some-clause-stop g c =
@@ -20,8 +17,14 @@ returns-in_err-pass-in-Some-clause-stop g c =
     (c.in-Some.ensures.reads (ranges_of c.args.self.now)) c.in_err-pass-in-Some.ensures.stop)
 
 pub returns-in_ok-pass-in-Some-clause-done : goal.returns-in_ok-pass-in-Some-clause-done
-returns-in_ok-pass-in-Some-clause-done g c = (
-  [],
-  inr (command.Turn c.in-Some.count, c.in-Some.ensures.reads (ranges_of c.args.self.now), c.in_ok-pass-in-Some.ensures.done, c.in_ok-pass-in-Some.ensures.heard),
-  sym (append-nil c.args.out.now.items),
-)
+returns-in_ok-pass-in-Some-clause-done g c =
+    inr (
+      command.Turn c.in-Some.count,
+      c.in-Some.ensures.reads (ranges_of c.args.self.now),
+      record {
+        text = [];
+        does = c.in_ok-pass-in-Some.ensures.done;
+        written = record { added = []; is = g.met.R.Writes.Writer.nothing _; after_is = sym (append-nil c.args.out.now.items) };
+        heard = c.in_ok-pass-in-Some.ensures.heard;
+      },
+    )
