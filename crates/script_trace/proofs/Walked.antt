@@ -1,5 +1,5 @@
 -- Lists that are gone through by number.
-use Rattle.std.proofs.Common.{◌≡◌, ◌++◌, ◌+◌, ◌<◌, ◌≤◌, ℕ, List, [], ◌∷◌, length, drop, map, get_or, Option, Some, None, zero, suc, refl, sym, ◌∙◌, ap, append_assoc, add-one, arith}
+use Rattle.std.proofs.Common.{◌≡◌, ◌++◌, ◌+◌, ◌<◌, ◌≤◌, ℕ, List, [], ◌∷◌, length, drop, map, get_or, Some, zero, suc, refl, sym, ◌∙◌, ap, append_assoc, add-one, arith}
 use Rattle.std.specs.Prelude.{codes, slice_get, slice_index_or}
 use Rattle.std.proofs.Math.Seq.{drop-cons}
 use Rattle.std.specs.Option.{option_map}
@@ -8,10 +8,9 @@ use Rattle.std.proofs.lemmas.Option.{slice_get-map, slice_get_within, get_or_fro
 use Rattle.port_state.specs.declared.ports.PortView.{PortView}
 use Rattle.port_state.specs.declared.view.View.{View}
 use Rattle.port_state.specs.Machine.{PortNode}
-use Rattle.cable_world.specs.declared.wire.Travelling.{Travelling}
 use Rattle.cable_world.specs.World.{CableWorld, wire_of}
 use Rattle.script_text.specs.ReportText.{Names, numbered, spaced}
-use Rattle.script_trace.specs.Event.{Seen, head, sent_line, sent_lines, all_sent_lines}
+use Rattle.script_trace.specs.Event.{Seen, head, sent_lines, all_sent_lines}
 use Rattle.script_trace.specs.Step.{counts_from, seen_before_act, seen_before_turn, all_lines}
 use Rattle.script_trace.proofs.NodeShown.{before-act}
 
@@ -86,20 +85,6 @@ next-sent front w node k n there ports before after all h count is so =
     (ap (all_sent_lines front w node there k) (some-left ports k h).1
     ∙ ap (λ (i : ℕ). sent_lines front k (drop i under) ++ rest) (sym count))
     so
-
--- one signal more of a wire, and the rest
-pub lines-more :
-    (front : List ℕ) (port : ℕ) (t : Travelling) (left rest : List Travelling) (before after all : List ℕ) → left ≡ t ∷ rest →
-    after ≡ before ++ sent_line front port t → before ++ sent_lines front port left ≡ all →
-    after ++ sent_lines front port rest ≡ all
-lines-more front port t left rest before after all is new so =
-    one-more before after (sent_line front port t) (sent_lines front port rest) (sent_lines front port left) all
-    new (ap (sent_lines front port) is) so
-
-pub no-lines-left :
-    (front : List ℕ) (port : ℕ) (left : List Travelling) (out all : List ℕ) → left ≡ [] →
-    out ++ sent_lines front port left ≡ all → out ≡ all
-no-lines-left front port left out all none so = all-told out all (sent_lines front port left) (ap (sent_lines front port) none) so
 
 -- ---- nodes
 

@@ -1,14 +1,12 @@
 -- Nodes, ports and turns that are gone through by number, and texts of several parts.
-use Rattle.std.proofs.Common.{◌≡◌, ◌++◌, ◌+◌, ◌<◌, ◌≤◌, ℕ, List, [], ◌∷◌, length, drop, Some, refl, sym, ◌∙◌, ap, append_assoc, Option, append-nil}
+use Rattle.std.proofs.Common.{◌≡◌, ◌++◌, ◌+◌, ◌<◌, ◌≤◌, ℕ, List, [], ◌∷◌, length, drop, Some, refl, sym, ◌∙◌, ap, append_assoc}
 use Rattle.std.specs.Prelude.{slice_get}
 use Rattle.port_state.specs.declared.ports.PortView.{PortView}
 use Rattle.port_state.specs.Machine.{PortNode}
-use Rattle.cable_world.specs.declared.wire.Travelling.{Travelling}
 use Rattle.cable_world.specs.World.{CableWorld}
 use Rattle.script_text.specs.ReportText.{Names}
 use Rattle.script_trace.specs.Event.{Seen}
-use Rattle.script_trace.proofs.Walked.{all-told, left-from, one-more, past-end, some-left}
-use Rattle.script_trace.specs.waves.Change.{sent_change, sent_changes}
+use Rattle.script_trace.proofs.Walked.{left-from, one-more, past-end, some-left}
 use Rattle.script_trace.specs.waves.Moment.{all_changes}
 use Rattle.script_trace.specs.waves.Head.{port_variables, port_values, all_port_variables, all_port_values, node_scope, node_values, all_scopes, all_values}
 
@@ -23,22 +21,6 @@ pub none-left :
     (w : CableWorld) (k : ℕ) (seen : List Seen) (nodes : List PortNode) → length nodes ≤ k →
     all_changes w k (drop k seen) (drop k nodes) ≡ []
 none-left w k seen nodes h = ap (all_changes w k (drop k seen)) (past-end nodes k h) ∙ no-node w k (drop k seen)
-
--- ---- signals
-
-pub changes-more :
-    (node port : ℕ) (t : Travelling) (left rest : List Travelling) (before after all : List ℕ) → left ≡ t ∷ rest →
-    after ≡ before ++ sent_change node port t → before ++ sent_changes node port left ≡ all →
-    after ++ sent_changes node port rest ≡ all
-changes-more node port t left rest before after all is new so =
-    one-more before after (sent_change node port t) (sent_changes node port rest) (sent_changes node port left) all
-    new (ap (sent_changes node port) is) so
-
-pub no-changes-left :
-    (node port : ℕ) (left : List Travelling) (out all : List ℕ) → left ≡ [] →
-    out ++ sent_changes node port left ≡ all → out ≡ all
-no-changes-left node port left out all none so =
-    all-told out all (sent_changes node port left) (ap (sent_changes node port) none) so
 
 -- ---- the head
 
