@@ -5,9 +5,9 @@ use Rattle.std.specs.Str.{bytes_eq}
 use Rattle.std.specs.Global.{Global}
 use Rattle.about.specs.declared.asked.About.TheVariants.{Help, Version}
 use Rattle.self_id.specs.declared.standard.Standard.{Standard}
-use Rattle.reset_log.specs.declared.form.LogForm.{LogForm}
-use Rattle.reset_log.specs.declared.form.LogForm.TheVariants.{Text, Json as Lines}
-use Rattle.reset_log.specs.Form.{options}
+use Rattle.reset_list.specs.declared.form.LogForm.{LogForm}
+use Rattle.reset_list.specs.declared.form.LogForm.TheVariants.{Text, Json as Lines}
+use Rattle.reset_list.specs.Form.{options}
 use Rattle.self_id.specs.declared.standard.Standard.TheVariants.{Ieee1995, Ieee2000}
 use Rattle.bus_view.specs.declared.form.CaptureView.{CaptureView}
 use Rattle.bus_view.specs.declared.form.CaptureView.TheVariants.{Packets, Tree, Dot, Json}

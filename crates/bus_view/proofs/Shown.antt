@@ -4,9 +4,9 @@ use Rattle.std.specs.Prelude.{All, IfSome, IfOk, IsErr, IsErrOf}
 use Rattle.std.specs.Io.KnownBytes.{Appends, Consumes, IsAtEnd}
 use Rattle.io_edges.specs.Faults.{Rose}
 use Rattle.io_edges.specs.Told.{AreBytes, AppendsStart, IfTold, TookOver}
-use Rattle.reset_log.specs.declared.stop.LogStop.{LogStop}
-use Rattle.reset_log.specs.declared.stop.LogStop.TheVariants.{ReadFault, WriteFault, TooLong, Memory}
-use Rattle.reset_log.specs.Answered.{IsExact, IsComplete, IsFront, IsSure}
+use Rattle.reset_list.specs.declared.stop.LogStop.{LogStop}
+use Rattle.reset_list.specs.declared.stop.LogStop.TheVariants.{ReadFault, WriteFault, TooLong, Memory}
+use Rattle.reset_list.specs.Answered.{IsExact, IsComplete, IsFront, IsSure}
 use Rattle.io_edges.specs.Streams.{IsWritten, OfTheAnswer}
 use Rattle.top_call.proofs.Lemmas.{of_answer}
 use Rattle.bus_view.specs.Log.{status_if, ShowsAsItComes}

@@ -7,7 +7,7 @@ use Rattle.self_id.specs.declared.standard.Standard.TheVariants.{Ieee1995, Ieee2
 use Rattle.script_lines.specs.Name.{is_name}
 use Rattle.script_lines.specs.Number.{number_of}
 use Rattle.top_call.specs.Asked.{AsksUnread}
-use Rattle.reset_log.specs.declared.form.LogForm.{LogForm}
+use Rattle.reset_list.specs.declared.form.LogForm.{LogForm}
 use Rattle.reset_log.specs.Form.{AreWordsBy as AreResetsWords}
 use Rattle.nosy_dump.specs.Form.{AreWordsBy as AreNosyWords}
 use Rattle.bus_view.specs.declared.form.CaptureView.TheVariants.{Packets, Tree, Dot, Json}

@@ -4,7 +4,7 @@ use Rattle.std.specs.Global.{Global}
 use Rattle.self_id.specs.declared.standard.Standard.{Standard}
 use Rattle.bus_json.specs.Lines.{IsJsonLine, AreJsonLines}
 use Rattle.script_run.specs.Viewed.{AreReadBack}
-use Rattle.reset_log.specs.declared.form.LogForm.TheVariants.{Json as Lines}
+use Rattle.reset_list.specs.declared.form.LogForm.TheVariants.{Json as Lines}
 use Rattle.bus_view.specs.declared.form.CaptureView.TheVariants.{Json}
 use Rattle.bus_view.specs.declared.form.ViewForm.{ViewForm}
 use Rattle.bus_view.specs.declared.form.ViewForm.TheVariants.{Capture, JsonRun, Resets, Nosy}

@@ -4,7 +4,7 @@ ghost use Rattle.bus_view.specs.Form.{AreWordsOf, Asks};
 ghost use Rattle.bus_view.specs.declared.form.ViewForm.{ViewForm};
 
 use about::About;
-use reset_log::LogForm;
+use reset_list::LogForm;
 use script_lines::{names_are_tested, number_of};
 use self_id::Standard;
 use topology_stack::Name;

@@ -2,14 +2,15 @@
 ghost use Rattle.std.specs.Prelude.{◌≡◌, ◌⊎◌};
 ghost use Rattle.self_id.specs.declared.standard.Standard.{Standard};
 ghost use Rattle.bus_json.specs.Lines.{WritesJsonLines};
-ghost use Rattle.reset_log.specs.declared.form.LogForm.{LogForm};
+ghost use Rattle.reset_list.specs.declared.form.LogForm.{LogForm};
 ghost use Rattle.nosy_dump.specs.Dump.{IsBegun};
 ghost use Rattle.bus_view.specs.Log.{IsLogView, IsDumpView, IsLogBegun, ShowsAsItComes};
 ghost use Rattle.bus_view.specs.codings.Log.{log_status};
 
 use io_edges::{Sink, Source};
 use nosy_dump::{dumps_have_one_text, show_dump};
-use reset_log::{LogForm, LogStop, logs_have_one_text, show_log};
+use reset_list::{LogForm, LogStop};
+use reset_log::{logs_have_one_text, show_log};
 use std::alloc::Global;
 use top_call::{NO_MEMORY, READ_FAULT, REFUSED, TOO_LONG, VALID, WRITE_FAULT};
 

@@ -4,7 +4,7 @@ ghost use Rattle.std.specs.Io.KnownBytes.{Appends};
 ghost use Rattle.script_made.specs.Made.{made_script};
 ghost use Rattle.about.specs.declared.asked.About.{About};
 ghost use Rattle.self_id.specs.declared.standard.Standard.{Standard};
-ghost use Rattle.reset_log.specs.declared.form.LogForm.{LogForm};
+ghost use Rattle.reset_list.specs.declared.form.LogForm.{LogForm};
 ghost use Rattle.nosy_dump.specs.Dump.{IsBegun};
 ghost use Rattle.io_edges.specs.Streams.{IsWritten, KeepsStreams};
 ghost use Rattle.bus_view.specs.declared.form.CaptureView.{CaptureView};

@@ -5,7 +5,7 @@ use bus_view::{CaptureView, ViewForm};
 use capture_hint::{begins_capture, hint_text, likeness_of, other_hint};
 use io_edges::{WriteSink, write_whole};
 use program_edges::Shown;
-use reset_log::LogForm;
+use reset_list::LogForm;
 use script_lines::number_of;
 use std::str;
 use topology_stack::Name;

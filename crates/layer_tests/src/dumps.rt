@@ -2,7 +2,7 @@
 
 use io_edges::{MemSink, MemSource};
 use nosy_dump::show_dump;
-use reset_log::{LogForm, LogStop};
+use reset_list::{LogForm, LogStop};
 use self_id::Standard;
 use std::test::Fail;
 

@@ -1,7 +1,9 @@
 //! Tests of lines and of logs in memory, with faults of the source and of the sink.
 
 use io_edges::{MemSink, MemSource};
-use reset_log::{LogForm, LogLine, LogStop, Origin, line_of, show_log};
+use log_line::{LogLine, Origin, line_of};
+use reset_list::{LogForm, LogStop};
+use reset_log::show_log;
 use self_id::Standard;
 use std::test::Fail;
 

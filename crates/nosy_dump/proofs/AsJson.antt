@@ -5,8 +5,8 @@ use Rattle.std.specs.Io.KnownBytes.{Appends}
 use Rattle.self_id.specs.declared.standard.Standard.{Standard}
 use Rattle.bus_json.specs.Lines.{GathersJsonLines, WritesJsonLines}
 use Rattle.bus_json.proofs.Lemmas.{gathers_none, gathers, gathers_both, writes_none, writes_both, writes_gathered}
-use Rattle.reset_log.specs.declared.form.LogForm.{LogForm}
-use Rattle.reset_log.specs.declared.form.LogForm.TheVariants.{Text, Json}
+use Rattle.reset_list.specs.declared.form.LogForm.{LogForm}
+use Rattle.reset_list.specs.declared.form.LogForm.TheVariants.{Text, Json}
 use Rattle.nosy_dump.specs.codings.Going.{AreAsJson, GathersAsJson, WritesAsJson}
 
 -- another form has none

@@ -4,13 +4,13 @@ use Rattle.std.specs.Prelude.{IfSome, IfOk, IfErr, OnErr}
 use Rattle.std.specs.Io.KnownBytes.{Appends, Consumes, IsAtEnd}
 use Rattle.io_edges.specs.Faults.{Rose}
 use Rattle.io_edges.specs.Told.{StayTold}
-use Rattle.reset_log.specs.declared.form.LogForm.{LogForm}
-use Rattle.reset_log.specs.declared.stop.LogStop.{LogStop}
-use Rattle.reset_log.specs.InOrder.{AreTold}
-use Rattle.reset_log.specs.Cause.{StoppedWriting}
-use Rattle.reset_log.specs.Answered.{IsExact, IsComplete}
-use Rattle.reset_log.specs.Wrote.{Wrote, WroteFront, WroteFrontOf}
-use Rattle.reset_log.proofs.Lemmas.{told_once, told_first, wrote_then, front_then, front_more, front_whole, all_came, log_left, exact_of, complete_of}
+use Rattle.reset_list.specs.declared.form.LogForm.{LogForm}
+use Rattle.reset_list.specs.declared.stop.LogStop.{LogStop}
+use Rattle.reset_list.specs.InOrder.{AreTold}
+use Rattle.reset_list.specs.Cause.{StoppedWriting}
+use Rattle.reset_list.specs.Answered.{IsExact, IsComplete}
+use Rattle.reset_list.specs.Wrote.{Wrote, WroteFront, WroteFrontOf}
+use Rattle.reset_list.proofs.Lemmas.{told_once, told_first, wrote_then, front_then, front_more, front_whole, all_came, log_left, exact_of, complete_of}
 use Rattle.nosy_dump.specs.declared.dump.DumpReader.{DumpReader}
 use Rattle.nosy_dump.specs.declared.record.Record.{Record}
 use Rattle.nosy_dump.specs.declared.record.Record.TheVariants.{Reset, SelfId, Other}

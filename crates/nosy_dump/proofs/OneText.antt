@@ -6,12 +6,12 @@ use Rattle.std.proofs.lemmas.List.{take_at, drop_at}
 use Rattle.std.proofs.lemmas.Nat.{from_le_bytes-to_le_bytes_4}
 use Rattle.json.specs.Json.{Members}
 use Rattle.bus_json.specs.Text.{json_line}
-use Rattle.reset_log.specs.declared.form.LogForm.{LogForm}
-use Rattle.reset_log.specs.declared.form.LogForm.TheVariants.{Text, Json}
+use Rattle.reset_list.specs.declared.form.LogForm.{LogForm}
+use Rattle.reset_list.specs.declared.form.LogForm.TheVariants.{Text, Json}
 use Rattle.topology_stack.specs.Tree.{Tree}
-use Rattle.reset_log.specs.declared.line.Origin.TheVariants.{Core}
-use Rattle.reset_log.specs.InOrder.{AreTold}
-use Rattle.reset_log.proofs.Lemmas.{AreSame, told_once, same_list, same_told}
+use Rattle.log_line.specs.declared.line.Origin.TheVariants.{Core}
+use Rattle.reset_list.specs.InOrder.{AreTold}
+use Rattle.reset_list.proofs.Lemmas.{AreSame, told_once, same_list, same_told}
 use Rattle.nosy_dump.specs.declared.record.DumpReset.{DumpReset}
 use Rattle.nosy_dump.specs.declared.record.DumpFault.{DumpFault}
 use Rattle.nosy_dump.specs.declared.record.DumpFault.TheVariants.{Cut, BadLength}

@@ -3,8 +3,8 @@ use Rattle.std.proofs.Common.{◌≡◌, ◌∙◌, ℕ, ◌+◌, ◌-◌, ◌<�
 use Rattle.std.specs.Prelude.{IfSome, IfOk, OnErr}
 use Rattle.std.specs.Io.KnownBytes.{Consumes, Keeps, IsAtEnd}
 use Rattle.io_edges.specs.Told.{StayTold}
-use Rattle.reset_log.specs.declared.form.LogForm.{LogForm}
-use Rattle.reset_log.proofs.Lemmas.{consumes_then, nothing_came, all_came, still_came}
+use Rattle.reset_list.specs.declared.form.LogForm.{LogForm}
+use Rattle.reset_list.proofs.Lemmas.{consumes_then, nothing_came, all_came, still_came}
 use Rattle.nosy_dump.specs.declared.dump.DumpReader.{DumpReader}
 use Rattle.nosy_dump.specs.declared.record.DumpFault.{DumpFault}
 use Rattle.nosy_dump.specs.declared.record.DumpFault.TheVariants.{BadLength}

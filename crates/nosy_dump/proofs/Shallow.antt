@@ -4,11 +4,11 @@ use Rattle.self_id.specs.declared.standard.Standard.{Standard}
 use Rattle.topology_stack.specs.Tree.{Tree}
 use Rattle.json.specs.Json.{Members, max_depth}
 use Rattle.json.specs.Tree.{depth, members_depth}
-use Rattle.reset_log.specs.declared.line.Origin.{Origin}
-use Rattle.reset_log.specs.declared.counts.Tally.{Tally}
-use Rattle.reset_log.specs.Noted.{most_of}
-use Rattle.reset_log.specs.Json.{IsListTold}
-use Rattle.reset_log.proofs.Lemmas.{told_shallow}
+use Rattle.log_line.specs.declared.line.Origin.{Origin}
+use Rattle.reset_list.specs.declared.counts.Tally.{Tally}
+use Rattle.reset_list.specs.Counts.{most_of}
+use Rattle.reset_list.specs.Json.{IsListTold}
+use Rattle.reset_list.proofs.Lemmas.{told_shallow}
 use Rattle.nosy_dump.specs.declared.record.DumpReset.{DumpReset}
 use Rattle.nosy_dump.specs.declared.record.DumpFault.{DumpFault}
 use Rattle.nosy_dump.specs.declared.record.DumpFault.TheVariants.{Cut, BadLength}

@@ -3,10 +3,10 @@ use Rattle.std.proofs.Common.{◌≡◌, ◌∙◌, ℕ, ◌-◌, ◌+◌, ◌<�
 use Rattle.std.specs.Prelude.{◌==◌}
 use Rattle.std.proofs.lemmas.Bool.Decides.{nat_tests}
 use Rattle.self_id.specs.declared.standard.Standard.{Standard}
-use Rattle.reset_log.specs.declared.line.Origin.TheVariants.{Core}
-use Rattle.reset_log.specs.Shown.{IsListShown}
-use Rattle.reset_log.specs.declared.form.LogForm.{LogForm}
-use Rattle.reset_log.specs.declared.form.LogForm.TheVariants.{Text}
+use Rattle.log_line.specs.declared.line.Origin.TheVariants.{Core}
+use Rattle.reset_list.specs.Shown.{IsListShown}
+use Rattle.reset_list.specs.declared.form.LogForm.{LogForm}
+use Rattle.reset_list.specs.declared.form.LogForm.TheVariants.{Text}
 use Rattle.topology_stack.specs.Tree.{Tree}
 use Rattle.nosy_dump.specs.declared.record.DumpReset.{DumpReset}
 use Rattle.nosy_dump.specs.Texts.{head}

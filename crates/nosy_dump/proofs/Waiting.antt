@@ -1,8 +1,8 @@
 -- The reset that waits is shown.
 use Rattle.std.proofs.Common.{◌≡◌, ◌∙◌, ℕ, ◌-◌, ◌+◌, ◌<◌, ◌≤◌, ◌^◌, Bool, ◌||◌, Option, Some, None, List, [], ◌∷◌, ◌++◌, length, refl, sym, ap, subst, append_assoc, length-append, arith}
-use Rattle.reset_log.specs.declared.form.LogForm.{LogForm}
-use Rattle.reset_log.specs.InOrder.{AreTold}
-use Rattle.reset_log.proofs.Lemmas.{one_more}
+use Rattle.reset_list.specs.declared.form.LogForm.{LogForm}
+use Rattle.reset_list.specs.InOrder.{AreTold}
+use Rattle.reset_list.proofs.Lemmas.{one_more}
 use Rattle.nosy_dump.specs.declared.record.DumpReset.{DumpReset}
 use Rattle.nosy_dump.specs.Resets.{resets_from}
 use Rattle.nosy_dump.specs.Noted.{Noted, nothing}

@@ -1,12 +1,12 @@
 -- What is shown of a dump.
 use Rattle.std.specs.Prelude.{◌≡◌, ℕ, ◌-◌, ◌||◌, Bool, is_some, is_none, Option, List, ◌++◌, length, take}
 use Rattle.std.specs.Io.KnownBytes.{Appends}
-use Rattle.reset_log.specs.declared.form.LogForm.{LogForm}
-use Rattle.reset_log.specs.declared.form.LogForm.TheVariants.{Text, Json}
+use Rattle.reset_list.specs.declared.form.LogForm.{LogForm}
+use Rattle.reset_list.specs.declared.form.LogForm.TheVariants.{Text, Json}
 use Rattle.topology_stack.specs.Tree.{Tree}
-use Rattle.reset_log.specs.declared.line.Origin.TheVariants.{Core}
-use Rattle.reset_log.specs.InOrder.{AreTold}
-use Rattle.reset_log.specs.Shown.{IsListShown}
+use Rattle.log_line.specs.declared.line.Origin.TheVariants.{Core}
+use Rattle.reset_list.specs.InOrder.{AreTold}
+use Rattle.reset_list.specs.Shown.{IsListShown}
 use Rattle.nosy_dump.specs.declared.record.DumpReset.{DumpReset}
 use Rattle.nosy_dump.specs.declared.record.DumpFault.{DumpFault}
 use Rattle.nosy_dump.specs.Record.{dump_of, AreSized, IsOpen, EndsSo}

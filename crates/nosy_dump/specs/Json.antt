@@ -6,10 +6,10 @@ use Rattle.json.specs.Json.{Json, string, object, Members, no_members, member}
 use Rattle.bus_json.specs.Text.{numeral, json_line}
 use Rattle.bus_json.specs.Bus.{with_schema}
 use Rattle.bus_json.specs.Refusal.{with_refusal}
-use Rattle.reset_log.specs.declared.line.Origin.TheVariants.{Core}
-use Rattle.reset_log.specs.declared.counts.Tally.{Tally}
-use Rattle.reset_log.specs.Noted.{most_of}
-use Rattle.reset_log.specs.Json.{IsListTold}
+use Rattle.log_line.specs.declared.line.Origin.TheVariants.{Core}
+use Rattle.reset_list.specs.declared.counts.Tally.{Tally}
+use Rattle.reset_list.specs.Counts.{most_of}
+use Rattle.reset_list.specs.Json.{IsListTold}
 use Rattle.nosy_dump.specs.declared.record.DumpReset.{DumpReset}
 use Rattle.nosy_dump.specs.declared.record.DumpFault.{DumpFault}
 use Rattle.nosy_dump.specs.declared.record.DumpFault.TheVariants.{Cut, BadLength}

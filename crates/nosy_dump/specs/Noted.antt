@@ -1,9 +1,9 @@
 -- What is noted behind the resets of a dump so far: the tree that was heard last, and what is counted.
 use Rattle.std.specs.Prelude.{false, is_none, Option, Some, None, List, []}
 use Rattle.topology_stack.specs.Tree.{Tree}
-use Rattle.reset_log.specs.declared.counts.Counts.{Counts}
-use Rattle.reset_log.specs.declared.counts.Tally.{Tally}
-use Rattle.reset_log.specs.Noted.{counted, tallied_by}
+use Rattle.reset_list.specs.declared.counts.Counts.{Counts}
+use Rattle.reset_list.specs.declared.counts.Tally.{Tally}
+use Rattle.reset_list.specs.Counts.{counted, tallied_by}
 
 pub record Noted : Type 0 where
   pub tree : Option Tree

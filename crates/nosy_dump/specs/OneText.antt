@@ -1,6 +1,6 @@
 -- Each dump has one text, and one answer to whether anything is at fault.
 use Rattle.std.specs.Prelude.{◌≡◌, ◌<◌, ℕ, All, Bool, List}
-use Rattle.reset_log.specs.declared.form.LogForm.{LogForm}
+use Rattle.reset_list.specs.declared.form.LogForm.{LogForm}
 use Rattle.nosy_dump.specs.Dump.{IsDumpShown}
 
 abbrev pub NoDumpHasTwoTexts : Type 0

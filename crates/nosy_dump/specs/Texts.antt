@@ -1,8 +1,8 @@
 -- The texts of a dump's resets and of its fault.
 use Rattle.std.specs.Prelude.{ℕ, Option, Some, None, List, [], ◌++◌, codes}
 use Rattle.view_text.specs.Packet.{field}
-use Rattle.reset_log.specs.declared.counts.Tally.{Tally}
-use Rattle.reset_log.specs.Noted.{most_of}
+use Rattle.reset_list.specs.declared.counts.Tally.{Tally}
+use Rattle.reset_list.specs.Counts.{most_of}
 use Rattle.nosy_dump.specs.Noted.{Noted}
 use Rattle.nosy_dump.specs.declared.record.DumpReset.{DumpReset}
 use Rattle.nosy_dump.specs.declared.record.DumpFault.{DumpFault}

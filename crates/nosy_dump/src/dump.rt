@@ -4,9 +4,9 @@ ghost use Rattle.std.specs.Io.KnownBytes.{IsAtEnd, Consumes};
 ghost use Rattle.bus_json.specs.Lines.{WritesJsonLines};
 ghost use Rattle.io_edges.specs.Faults.{Rose};
 ghost use Rattle.io_edges.specs.Told.{IfTold, TookOver};
-ghost use Rattle.reset_log.specs.Cause.{StoppedWriting};
-ghost use Rattle.reset_log.specs.Answered.{IsExact, IsComplete, IsFront, IsSure};
-ghost use Rattle.reset_log.specs.Wrote.{Wrote, WroteFront, WroteFrontOf};
+ghost use Rattle.reset_list.specs.Cause.{StoppedWriting};
+ghost use Rattle.reset_list.specs.Answered.{IsExact, IsComplete, IsFront, IsSure};
+ghost use Rattle.reset_list.specs.Wrote.{Wrote, WroteFront, WroteFrontOf};
 ghost use Rattle.nosy_dump.specs.Record.{record_bytes, is_size, IsOpen, EndsSo};
 ghost use Rattle.self_id.specs.declared.standard.Standard.{Standard};
 ghost use Rattle.std.specs.Option.{option_copied};
@@ -19,8 +19,9 @@ use crate::record::{DumpFault, DumpReset, Record, front_record, is_size, record_
 use crate::texts::{end_text, head};
 use crate::values::{end_lines, reset_line};
 use io_edges::{Sink, Source, write_whole};
+use log_line::Origin;
 use quad_lanes::QuadList;
-use reset_log::{ListShown, LogForm, LogStop, MAX_LOG, Origin, show_list};
+use reset_list::{ListShown, LogForm, LogStop, MAX_LOG, show_list};
 use std::alloc::{AllocError, Global};
 use topology_stack::BusTree;
 

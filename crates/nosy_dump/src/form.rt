@@ -1,9 +1,9 @@
 //! The words that ask for the resets of a dump.
 ghost use Rattle.std.specs.Prelude.{◌≡◌, ◌∷◌, [], ◌↔◌};
-ghost use Rattle.reset_log.specs.declared.form.LogForm.{LogForm};
+ghost use Rattle.reset_list.specs.declared.form.LogForm.{LogForm};
 ghost use Rattle.nosy_dump.specs.Form.{AreWordsBy, AsksDump};
 
-use reset_log::LogForm;
+use reset_list::LogForm;
 use self_id::Standard;
 
 /// The form by which this word asks.

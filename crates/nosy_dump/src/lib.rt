@@ -2,7 +2,7 @@
 //! kernel writes it: its records, what is shown of them, and the call that shows it as it comes.
 //!
 //! A dump is records, each behind its length. Between two bus resets stand the self-ID packets of one
-//! list (`Record`, `DumpReset`), which is shown as `reset_log` shows that of a log's reset (`show_dump`).
+//! list (`Record`, `DumpReset`), which is shown as `reset_list` shows one (`show_dump`).
 #![tactic(auto)]
 
 mod dump;

@@ -1,11 +1,11 @@
 //! What is noted behind the resets of a dump so far.
 ghost use Rattle.std.specs.Prelude.{◌≡◌, OnOk};
 ghost use Rattle.std.specs.Option.{option_copied};
-ghost use Rattle.reset_log.specs.Noted.{tallied_by};
+ghost use Rattle.reset_list.specs.Counts.{tallied_by};
 ghost use Rattle.nosy_dump.specs.Noted.{nothing, last_heard, after};
 ghost use Rattle.nosy_dump.specs.Notes.{noted};
 
-use reset_log::{Counts, Tally, count_begun, count_reset};
+use reset_list::{Counts, Tally, count_begun, count_reset};
 use std::alloc::{AllocError, Global};
 use topology_stack::BusTree;
 

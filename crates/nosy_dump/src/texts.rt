@@ -5,7 +5,7 @@ ghost use Rattle.nosy_dump.specs.Notes.{noted};
 
 use crate::notes::Notes;
 use crate::record::{DumpFault, DumpReset};
-use reset_log::{Tally, most_of};
+use reset_list::{Tally, most_of};
 use std::alloc::{AllocError, Global};
 use view_text::put_field;
 

@@ -10,7 +10,8 @@ ghost use Rattle.nosy_dump.specs.Json.{IsResetTold, found_members, fault_value, 
 use crate::notes::Notes;
 use crate::record::{DumpFault, DumpReset};
 use bus_json::JsonText;
-use reset_log::{ListShown, Origin, Tally, most_of, put_list};
+use log_line::Origin;
+use reset_list::{ListShown, Tally, most_of, put_list};
 use self_id::Standard;
 use std::alloc::{AllocError, Global};
 

@@ -1,27 +1,24 @@
 -- What stands written where a log wasn't shown to its end: the front of its text.
-use Rattle.std.proofs.Common.{◌≡◌, ◌∙◌, inl, inr, ℕ, zero, suc, ◌+◌, ◌-◌, ◌<◌, ◌≤◌, ◌==◌, Bool, true, false, ◌||◌, Option, Result, Ok, Err, List, [], ◌∷◌, ◌++◌, length, take, drop, refl, sym, ap, subst, append_assoc, append-nil, length-append, length-take-le, arith}
-use Rattle.std.specs.Prelude.{if◌then◌else◌, IfSome, IfOk, IfErr, OnErr, slice_index}
+use Rattle.std.proofs.Common.{◌≡◌, ◌∙◌, inl, inr, ℕ, ◌+◌, ◌-◌, ◌≤◌, ◌==◌, Bool, true, false, ◌||◌, Option, Result, Ok, Err, List, [], ◌∷◌, ◌++◌, length, refl, sym, ap, subst, append_assoc, append-nil, arith}
+use Rattle.std.specs.Prelude.{if◌then◌else◌, IfSome, IfOk, IfErr, OnErr}
 use Rattle.std.specs.Io.KnownBytes.{Appends, Consumes, IsAtEnd}
 use Rattle.io_edges.specs.Faults.{Rose}
 use Rattle.io_edges.specs.Told.{StayTold}
-use Rattle.reset_log.specs.declared.form.LogForm.{LogForm}
+use Rattle.reset_list.specs.declared.form.LogForm.{LogForm}
 use Rattle.reset_log.specs.Noted.{Noted, nothing}
 use Rattle.reset_log.specs.Notes.{noted}
 use Rattle.reset_log.specs.declared.log.LogReader.{LogReader}
-use Rattle.reset_log.specs.declared.stop.LogStop.{LogStop}
-use Rattle.reset_log.specs.Shown.{IsLineShown}
+use Rattle.reset_list.specs.declared.stop.LogStop.{LogStop}
+use Rattle.reset_log.specs.Shown.{IsLineShown, totals_text}
 use Rattle.reset_log.specs.Log.{onto_first, parted, open_lines, lines_of, AreLinesShown, IsLogShown, AreWritten}
-use Rattle.reset_log.specs.Cause.{StoppedWriting}
-use Rattle.reset_log.specs.Answered.{IsExact, IsComplete}
-use Rattle.reset_log.specs.Wrote.{Wrote, WroteFront, WroteFrontOf}
+use Rattle.reset_list.specs.Cause.{StoppedWriting}
+use Rattle.reset_list.specs.Answered.{IsExact, IsComplete}
+use Rattle.reset_list.specs.Wrote.{Wrote, WroteFront, WroteFrontOf}
 use Rattle.reset_log.specs.codings.Going.{HasShown, HasWritten, ShowsLine, Begun, BreaksOff, BreaksText, Broke, ShowsLines, ShowsAll, ReadsLog}
-use Rattle.reset_log.specs.Shown.{totals_text}
-use Rattle.reset_log.proofs.InOrder.{one_more, told_once, told_first}
-use Rattle.reset_log.proofs.Wrote.{wrote_then, front_then, front_more, front_whole}
+use Rattle.reset_list.proofs.Lemmas.{one_more, told_once, told_first, wrote_then, front_then, front_more, front_whole, consumes_then, all_came, log_left, exact_of, complete_of}
 use Rattle.reset_log.proofs.Standing.{by_front}
-use Rattle.reset_log.proofs.Reading.{consumes_then, all_came, front_of_none, some_open}
+use Rattle.reset_log.proofs.Reading.{front_of_none, some_open}
 use Rattle.reset_log.proofs.OneText.{same_line, one_lines}
-use Rattle.reset_log.proofs.Answered.{log_left, exact_of, complete_of}
 
 -- ---- lines
 
@@ -210,15 +207,6 @@ broke_last {w = w} {f = f} {t = t} old done start was is st off some =
     (sym (some_open done (λ e. some (ap (λ (l : List ℕ). length l) (st.holds.line_is ∙ front_of_none 65536 (parted done).open_line e)))))
     (broke_off old done start was is st off)
 
--- bytes up to one of them, it, and what is behind it
-pub split_at : (bytes : List ℕ) (at : ℕ) → at < length bytes →
-    bytes ≡ (take at bytes ++ slice_index bytes at ∷ []) ++ drop (at + 1) bytes
-split_at [] at h = absurd (omega (arith, h))
-split_at (b ∷ bytes) zero h = refl
-split_at (b ∷ bytes) (suc at) h =
-    let next : suc at + 1 ≡ suc (at + 1) = omega arith in
-    rw next (ap (λ (l : List ℕ). b ∷ l) (split_at bytes at (omega (arith, h))))
-
 -- a front of lines is a front of the text of all
 pub front_of : {K : Type 0} {w : K → Option (List ℕ)} {f : K → ℕ} {t : K → ℕ → Type 0} (form : LogForm) (lines : List (List ℕ)) (old new : K) →
     Broke w f t form lines old new → WroteFrontOf w f t (IsLogShown form lines) old new
@@ -257,16 +245,6 @@ front_all {w = w} {f = f} {t = t} form lines bad old new all = λ text c is.
     front_whole old new text (subst (λ (l : List ℕ). Wrote w f t old new l) same.0 all.wrote)
 
 -- ---- a call
-
-pub few_front : (done bytes : List ℕ) (at : ℕ) → length done + length bytes ≤ 9223372036854775807 →
-    at < length bytes → length (done ++ take at bytes) < 9223372036854775807
-few_front done bytes at few within =
-    let front : length (take at bytes) ≡ at = length-take-le at bytes (omega (arith, within)) in
-    omega (arith, length-append done (take at bytes), front, few, within)
-
-pub on_err : {A E : Type 0} (r : Result A E) (P : Type 0) → P → OnErr r P
-on_err (Ok x) P p = tt
-on_err (Err x) P p = p
 
 -- no more was read
 pub front_left : {K : Type 0} {w : K → Option (List ℕ)} {f : K → ℕ} {t : K → ℕ → Type 0} (r : LogReader) (form : LogForm) (first now : Option (List ℕ)) (was is : K) (a b : ℕ) →

@@ -3,7 +3,7 @@ use Rattle.std.proofs.Common.{◌≡◌, ◌∙◌, ℕ, zero, suc, ◌+◌, ◌
 use Rattle.std.specs.Prelude.{if◌then◌else◌}
 use Rattle.std.proofs.lemmas.Bool.Decides.{nat_tests}
 use Rattle.memchr.specs.Find.{Nowhere, Passes, is_byte}
-use Rattle.reset_log.specs.Line.{line_of}
+use Rattle.log_line.specs.Line.{line_of}
 use Rattle.reset_log.specs.Log.{Parted, onto_first, with_byte, parted}
 use Rattle.reset_log.specs.codings.Going.{IsOneLine}
 

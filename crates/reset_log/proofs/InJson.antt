@@ -1,12 +1,12 @@
 -- What is shown in the form for programs is lines of JSON.
-use Rattle.std.proofs.Common.{◌≡◌, ℕ, Option, Result, Ok, Err, List, [], ◌++◌, sym, subst}
+use Rattle.std.proofs.Common.{◌≡◌, ℕ, Option, Result, Ok, Err, List, [], sym, subst}
 use Rattle.std.specs.Prelude.{IfOk, OnOk}
 use Rattle.std.specs.Io.KnownBytes.{Appends}
 use Rattle.self_id.specs.declared.standard.Standard.{Standard}
 use Rattle.bus_json.specs.Lines.{IsJsonLine, AreJsonLines, none, GathersJsonLines, WritesJsonLines}
-use Rattle.bus_json.proofs.Lemmas.{one_line, gathers_none, gathers, gathers_both, writes_none, writes_both, writes_gathered}
-use Rattle.reset_log.specs.declared.form.LogForm.{LogForm}
-use Rattle.reset_log.specs.declared.form.LogForm.TheVariants.{Text, Json}
+use Rattle.bus_json.proofs.Lemmas.{one_line, gathers_none, gathers_both, writes_none, writes_both, writes_gathered}
+use Rattle.reset_list.specs.declared.form.LogForm.{LogForm}
+use Rattle.reset_list.specs.declared.form.LogForm.TheVariants.{Text, Json}
 use Rattle.reset_log.specs.codings.InJson.{IfJson}
 
 pub in_json : (form : LogForm) (standard : Standard) (P : Type 0) → form ≡ Json standard → IfJson form P → P
@@ -37,11 +37,6 @@ in_lines_if text form (Err e) is = tt
 pub gathered_none : (form : LogForm) (was is : List ℕ) → is ≡ was → IfJson form (GathersJsonLines was is)
 gathered_none (Text standard) was is e = tt
 gathered_none (Json standard) was is e = subst (GathersJsonLines was) (sym e) (gathers_none was)
-
-pub gathered_on : (form : LogForm) (was is text : List ℕ) → IfJson form (AreJsonLines text) →
-    is ≡ was ++ text → IfJson form (GathersJsonLines was is)
-gathered_on (Text standard) was is text lines e = tt
-gathered_on (Json standard) was is text lines e = gathers was is text lines e
 
 -- behind what was gathered in the same form
 pub gathered_next : (form now : LogForm) (a b c : List ℕ) → now ≡ form →

@@ -1,15 +1,15 @@
 -- A reset whose list was judged.
-use Rattle.std.proofs.Common.{◌≡◌, ℕ, Bool, true, false, is_none, is_some, Option, Some, None, List, refl, subst}
-use Rattle.std.specs.Prelude.{not}
+use Rattle.std.proofs.Common.{◌≡◌, ℕ, Bool, false, is_none, Option, List, subst}
 use Rattle.self_id.specs.declared.standard.Standard.{Standard}
-use Rattle.reset_log.specs.declared.form.LogForm.{LogForm}
-use Rattle.reset_log.specs.declared.form.LogForm.TheVariants.{Text}
+use Rattle.reset_list.specs.declared.form.LogForm.{LogForm}
+use Rattle.reset_list.specs.declared.form.LogForm.TheVariants.{Text}
 use Rattle.topology_stack.specs.Tree.{Tree}
-use Rattle.reset_log.specs.declared.line.Reset.{Reset}
+use Rattle.log_line.specs.declared.line.Reset.{Reset}
 use Rattle.reset_log.specs.declared.cards.Known.{Known}
 use Rattle.reset_log.specs.Noted.{Noted, is_repeated, compared, after}
 use Rattle.reset_log.specs.Texts.{head}
-use Rattle.reset_log.specs.Shown.{IsListShown, IsJudged, IsResetShown, is_judged}
+use Rattle.reset_list.specs.Shown.{IsListShown}
+use Rattle.reset_log.specs.Shown.{IsJudged, IsResetShown, is_judged}
 
 pub judged : (form : LogForm) (number : ℕ) (before : Option Known) (n next : Noted) (r : Reset) (text : List ℕ) (heard : Option Tree) (bad : Bool) →
     is_repeated before r ≡ false → r.is_error ≡ false → IsJudged form number before r text heard →
@@ -27,9 +27,3 @@ in_text standard number before r front list text old heard is_front is_list is_o
     subst (λ (f : List ℕ). IsListShown standard r.origin f r.list (compared before r) text heard) is_front
     (subst (λ (l : List ℕ). IsListShown standard r.origin front l (compared before r) text heard) is_list
     (subst (λ (b : Option Tree). IsListShown standard r.origin front list b text heard) is_old shown))
-
-pub none_is : (heard : Option Tree) (bad : Bool) → is_some heard ≡ not bad → bad ≡ is_none heard
-none_is None true e = refl
-none_is None false e = absurd cc
-none_is (Some t) true e = absurd cc
-none_is (Some t) false e = refl

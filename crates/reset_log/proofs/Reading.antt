@@ -1,21 +1,18 @@
 -- A log as its reader goes over it, to the end.
-use Rattle.std.proofs.Common.{◌≡◌, ◌∙◌, ℕ, zero, suc, ◌+◌, ◌-◌, ◌<◌, ◌≤◌, ◌==◌, Bool, true, false, ◌||◌, Option, Some, None, List, [], ◌∷◌, ◌++◌, length, take, refl, sym, ap, subst, append_assoc, append-nil, length-append, arith}
-use Rattle.std.specs.Prelude.{IfSome}
+use Rattle.std.proofs.Common.{◌≡◌, ◌∙◌, ℕ, zero, suc, ◌+◌, ◌-◌, ◌<◌, ◌≤◌, ◌==◌, Bool, true, false, ◌||◌, Option, List, [], ◌∷◌, ◌++◌, length, take, refl, sym, ap, subst, append-nil, length-append, arith}
 use Rattle.std.proofs.lemmas.Bool.Decides.{nat_tests}
-use Rattle.std.specs.Io.KnownBytes.{Consumes, IsAtEnd}
-use Rattle.io_edges.specs.Told.{StayTold, IfTold, TookOver}
-use Rattle.reset_log.specs.declared.form.LogForm.{LogForm}
+use Rattle.std.specs.Io.KnownBytes.{Consumes}
+use Rattle.io_edges.specs.Told.{StayTold}
+use Rattle.reset_list.specs.declared.form.LogForm.{LogForm}
 use Rattle.reset_log.specs.declared.log.LogReader.{LogReader}
-use Rattle.reset_log.specs.Shown.{IsLineShown}
+use Rattle.reset_log.specs.Shown.{IsLineShown, totals_text}
 use Rattle.reset_log.specs.Log.{parted, open_lines, lines_of, AreLinesShown}
 use Rattle.reset_log.specs.Notes.{noted}
 use Rattle.reset_log.specs.Noted.{nothing}
-use Rattle.reset_log.specs.Shown.{totals_text}
-use Rattle.reset_log.specs.Wrote.{Wrote}
+use Rattle.reset_list.specs.Wrote.{Wrote}
 use Rattle.reset_log.specs.codings.Going.{IsNew, HasWritten, ShowsLine, ShowsLines, ShowsAll, ReadsLog}
-use Rattle.reset_log.proofs.InOrder.{one_more}
+use Rattle.reset_list.proofs.Lemmas.{one_more, wrote_nothing, wrote_then, nothing_came, consumes_then}
 use Rattle.reset_log.proofs.Standing.{by_front, none_kept}
-use Rattle.reset_log.proofs.Wrote.{wrote_nothing, wrote_then}
 
 -- ---- the last line
 
@@ -89,10 +86,6 @@ is_some size count test e is same none = let some : (size == 0) ≡ false = sym 
 
 -- ---- reads
 
-pub nothing_came : (a : Option (List ℕ)) → Consumes a a []
-nothing_came None = tt
-nothing_came (Some xs) = refl
-
 pub at_start : {K : Type 0} {w : K → Option (List ℕ)} {f : K → ℕ} {t : K → ℕ → Type 0} (r : LogReader) (a : K) →
     IsNew r → HasWritten w f t r [] a a
 unfolding parted
@@ -119,13 +112,6 @@ at_first r form first was a new same = record {
   later = omega arith;
   wrote_later = omega arith;
 }
-
-pub consumes_then : (a b c : Option (List ℕ)) (xs ys : List ℕ) → StayTold a b → Consumes a b xs →
-    Consumes b c ys → Consumes a c (xs ++ ys)
-consumes_then None b c xs ys told p q = tt
-consumes_then (Some x) None c xs ys told p q = absurd p
-consumes_then (Some x) (Some y) None xs ys told p q = absurd q
-consumes_then (Some x) (Some y) (Some z) xs ys told p q = p ∙ ap (λ (w : List ℕ). xs ++ w) q ∙ sym (append_assoc xs ys z)
 
 pub reads_on : {K : Type 0} {w : K → Option (List ℕ)} {f : K → ℕ} {t : K → ℕ → Type 0} (r s : LogReader) (form : LogForm) (first now next : Option (List ℕ)) (was is will : K) (a b c : ℕ) (piece : List ℕ) →
     ReadsLog w f t r form first now was is a b → Consumes now next piece → StayTold now next →
@@ -156,27 +142,3 @@ less_room r s form first now was is will a b piece h some fits taken =
     let room : length h.done + length piece ≤ 9223372036854775807 = omega (arith, h.stands.holds.taken_is, fits, h.small) in
     let on = taken h.done was room h.stands in
     omega (arith, on.holds.taken_is, h.stands.holds.taken_is, length-append h.done piece, some, fits)
-
--- ---- at the end
-
--- what was read is all
-pub all_came : (first now next : Option (List ℕ)) (done : List ℕ) (P : List ℕ → Type 0) →
-    Consumes first now done → StayTold first now → Consumes now next [] → IsAtEnd next → P done →
-    IfSome first P
-all_came None now next done P came told none end p = tt
-all_came (Some xs) None next done P came told none end p = absurd came
-all_came (Some xs) (Some ys) None done P came told none end p = absurd none
-all_came (Some xs) (Some ys) (Some zs) done P came told none end p =
-    subst P (sym (came ∙ ap (λ (w : List ℕ). done ++ w) (none ∙ end) ∙ append-nil done)) p
-
--- more was taken than fits
-pub over : (first now next : Option (List ℕ)) (done piece : List ℕ) → Consumes first now done →
-    StayTold first now → Consumes now next piece → 9223372036854775807 < length done + length piece →
-    IfTold first next (λ xs ys. TookOver 9223372036854775807 xs ys)
-over None now next done piece came told more long = tt
-over (Some xs) None next done piece came told more long = absurd came
-over (Some xs) (Some ys) None done piece came told more long = tt
-over (Some xs) (Some ys) (Some zs) done piece came told more long =
-    let size : length xs ≡ length done + length ys = ap (λ (l : List ℕ). length l) came ∙ length-append done ys in
-    let rest : length ys ≡ length piece + length zs = ap (λ (l : List ℕ). length l) more ∙ length-append piece zs in
-    omega (arith, size, rest, long)

@@ -1,19 +1,21 @@
 -- The values of a log nest a few levels deep, so each of their lines is read back.
-use Rattle.std.proofs.Common.{◌≤◌, ℕ, ◌-◌, Bool, true, false, Option, Some, None, List, [], sym, subst, arith}
+use Rattle.std.proofs.Common.{◌≤◌, ℕ, ◌-◌, Bool, true, false, Option, Some, None, List, arith}
 use Rattle.std.specs.Prelude.{if◌then◌else◌, nat_lt, codes}
 use Rattle.self_id.specs.declared.standard.Standard.{Standard}
 use Rattle.topology_stack.specs.Tree.{Tree}
 use Rattle.json.specs.Json.{string, Members, member, max_depth}
 use Rattle.json.specs.Tree.{depth, members_depth}
 use Rattle.bus_json.specs.Text.{numeral}
-use Rattle.bus_json.proofs.Lemmas.{tree_shallow, refusal_shallow}
-use Rattle.reset_log.specs.declared.line.Origin.{Origin}
-use Rattle.reset_log.specs.declared.line.Reset.{Reset}
+use Rattle.log_line.specs.declared.line.Origin.{Origin}
+use Rattle.log_line.specs.declared.line.Reset.{Reset}
 use Rattle.reset_log.specs.declared.cards.Known.{Known}
-use Rattle.reset_log.specs.declared.counts.Tally.{Tally}
+use Rattle.reset_list.specs.declared.counts.Tally.{Tally}
 use Rattle.reset_log.specs.Device.{device_text}
-use Rattle.reset_log.specs.Noted.{Noted, since, missing, most_of}
-use Rattle.reset_log.specs.Json.{IsListTold, told_refused, told_heard, card_value, name_members, known_member, head_members, reset_value, most_members, totals_value}
+use Rattle.reset_log.specs.Noted.{Noted, since, missing}
+use Rattle.reset_list.specs.Counts.{most_of}
+use Rattle.reset_list.specs.Json.{IsListTold}
+use Rattle.reset_log.specs.Json.{card_value, name_members, known_member, head_members, reset_value, most_members, totals_value}
+use Rattle.reset_list.proofs.Lemmas.{told_shallow}
 
 card_shallow : (card : ℕ) → depth (card_value card) ≤ 0
 card_shallow card = go (nat_lt card 4294967296)
@@ -37,13 +39,6 @@ head_shallow n before r rest =
     let last = member (codes "missing") (numeral (missing before r)) local in
     let after = known_member (codes "after") (since before r) last in
     omega (arith, name_shallow n r (known_member (codes "time") r.time after), known_shallow (codes "time") r.time after, known_shallow (codes "after") (since before r) last, known_shallow (codes "local") r.local rest)
-
-pub told_shallow : (standard : Standard) (origin : Origin) (list : List ℕ) (members : Members) (heard : Option Tree) →
-    IsListTold standard origin list members heard → members_depth members ≤ 4
-told_shallow standard origin list ms heard (told_refused f un e none) =
-    subst (λ (m : Members). members_depth m ≤ 4) (sym e) (omega (arith, refusal_shallow f))
-told_shallow standard origin list ms heard (told_heard t is e some) =
-    subst (λ (m : Members). members_depth m ≤ 4) (sym e) (tree_shallow [] t)
 
 pub reset_shallow : (standard : Standard) (n : ℕ) (before : Option Known) (r : Reset) (origin : Origin) (list : List ℕ) (members : Members) (heard : Option Tree) →
     IsListTold standard origin list members heard → depth (reset_value n before r members) ≤ max_depth

@@ -1,17 +1,17 @@
 -- Where the reader of a log stands behind bytes.
 use Rattle.std.proofs.Common.{◌≡◌, ◌∙◌, ℕ, zero, suc, ◌+◌, ◌<◌, ◌≤◌, ◌^◌, Bool, ◌||◌, List, [], ◌∷◌, ◌++◌, length, take, refl, sym, ap, subst, append_assoc, length-append, arith}
 use Rattle.std.proofs.lemmas.List.{take_all}
-use Rattle.reset_log.specs.declared.form.LogForm.{LogForm}
+use Rattle.reset_list.specs.declared.form.LogForm.{LogForm}
 use Rattle.reset_log.specs.Noted.{Noted, nothing}
 use Rattle.reset_log.specs.Notes.{noted}
-use Rattle.reset_log.specs.declared.line.LogLine.{LogLine}
+use Rattle.log_line.specs.declared.line.LogLine.{LogLine}
 use Rattle.reset_log.specs.declared.log.LogReader.{LogReader}
-use Rattle.reset_log.specs.Line.{line_of}
+use Rattle.log_line.specs.Line.{line_of}
 use Rattle.reset_log.specs.Shown.{IsLogLineShown, IsLineShown}
 use Rattle.reset_log.specs.Log.{Parted, parted, AreLinesShown}
 use Rattle.reset_log.specs.codings.Going.{HasShown, ShowsLine, ShowsWhole, KeepsBytes, IsOneLine}
 use Rattle.reset_log.proofs.Going.{ends_line, goes_on, few_lines, same_line}
-use Rattle.reset_log.proofs.InOrder.{one_more}
+use Rattle.reset_list.proofs.Lemmas.{one_more}
 
 line_ended : (form : LogForm) (done : List ℕ) (ks next : Noted) (text more : List ℕ) (bad here : Bool) →
     AreLinesShown form 1 nothing (parted done).lines text bad ks →

@@ -5,7 +5,7 @@ use Rattle.json.specs.Json.{Members, member}
 use Rattle.json.specs.Token.{Token, key, number}
 use Rattle.json.specs.Tree.{json_tokens, members_tokens}
 use Rattle.bus_json.specs.Text.{numeral}
-use Rattle.reset_log.specs.declared.line.Reset.{Reset}
+use Rattle.log_line.specs.declared.line.Reset.{Reset}
 use Rattle.reset_log.specs.declared.cards.Known.{Known}
 use Rattle.reset_log.specs.Noted.{since, missing}
 use Rattle.reset_log.specs.Json.{card_value, name_members, known_member, head_members}

@@ -1,22 +1,8 @@
 -- The words that ask for the resets of a log.
-use Rattle.std.specs.Prelude.{◌≡◌, ℕ, List, [], ◌∷◌, map, codes, string_bytes, String}
+use Rattle.std.specs.Prelude.{◌≡◌, ℕ, List, ◌∷◌, map, codes, string_bytes, String}
 use Rattle.std.specs.Global.{Global}
-use Rattle.self_id.specs.declared.standard.Standard.{Standard}
-use Rattle.self_id.specs.declared.standard.Standard.TheVariants.{Ieee1995, Ieee2000}
-use Rattle.reset_log.specs.declared.form.LogForm.{LogForm}
-use Rattle.reset_log.specs.declared.form.LogForm.TheVariants.{Text, Json}
-
-abbrev pub standard_of : LogForm → Standard
-standard_of (Text standard) = standard
-standard_of (Json standard) = standard
-
--- what stands behind the word of the form: by IEEE 1394a-2000, or with `--1995` by IEEE Std 1394-1995; as text, or
--- with `--json` as lines of JSON
-abbrev pub options : LogForm → List (List ℕ)
-options (Text Ieee2000) = []
-options (Text Ieee1995) = codes "--1995" ∷ []
-options (Json Ieee2000) = codes "--json" ∷ []
-options (Json Ieee1995) = codes "--1995" ∷ codes "--json" ∷ []
+use Rattle.reset_list.specs.declared.form.LogForm.{LogForm}
+use Rattle.reset_list.specs.Form.{options}
 
 abbrev pub AreWordsBy : LogForm → List (List ℕ) → Type 0
 AreWordsBy form words = words ≡ codes "resets" ∷ options form

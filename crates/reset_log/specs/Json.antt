@@ -4,33 +4,15 @@ use Rattle.self_id.specs.declared.standard.Standard.{Standard}
 use Rattle.topology_stack.specs.Tree.{Tree}
 use Rattle.json.specs.Json.{Json, string, boolean, object, Members, no_members, member}
 use Rattle.bus_json.specs.Text.{numeral, json_line}
-use Rattle.bus_json.specs.Bus.{with_schema, tree_members}
-use Rattle.bus_json.specs.Refusal.{fault_members, refused_members}
-use Rattle.reset_log.specs.declared.line.Origin.{Origin}
-use Rattle.reset_log.specs.declared.line.Reset.{Reset}
+use Rattle.bus_json.specs.Bus.{with_schema}
+use Rattle.log_line.specs.declared.line.Reset.{Reset}
 use Rattle.reset_log.specs.declared.cards.Known.{Known}
-use Rattle.reset_log.specs.declared.counts.Tally.{Tally}
+use Rattle.reset_list.specs.declared.counts.Tally.{Tally}
 use Rattle.reset_log.specs.declared.notes.Pending.{Pending}
-use Rattle.capture_reading.specs.declared.fault.CaptureFault.{CaptureFault}
-use Rattle.reset_log.specs.Hear.{IsHeard, IsUnheard}
 use Rattle.reset_log.specs.Device.{device_text}
-use Rattle.reset_log.specs.Noted.{Noted, since, missing, most_of}
-
--- ---- a list
-
--- why a list is refused, as `busconf read` has it
-abbrev pub list_fault : CaptureFault → Members
-list_fault f = refused_members (fault_members f)
-
--- what a list is told as: the members of the tree that it is heard as, or of its fault
-pub data IsListTold (standard : Standard) (origin : Origin) (list : List ℕ) (members : Members)
-    (heard : Option Tree) : Type 0 where
-  told_refused : (f : CaptureFault) → IsUnheard standard origin list f → members ≡ list_fault f → heard ≡ None →
-      IsListTold standard origin list members heard
-  told_heard : (t : Tree) → IsHeard standard origin list t → members ≡ tree_members [] t → heard ≡ Some t →
-      IsListTold standard origin list members heard
-
--- ---- a reset
+use Rattle.reset_log.specs.Noted.{Noted, since, missing}
+use Rattle.reset_list.specs.Counts.{most_of}
+use Rattle.reset_list.specs.Json.{IsListTold}
 
 -- its number, or the name of its device
 abbrev pub card_value : ℕ → Json

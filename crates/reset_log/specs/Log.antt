@@ -1,10 +1,10 @@
 -- What is shown of a log: of its lines in order, with the trees that are known at each.
 use Rattle.std.specs.Prelude.{ℕ, ◌≡◌, ◌==◌, Bool, if◌then◌else◌, Option, List, [], ◌∷◌, ◌++◌}
 use Rattle.std.specs.Io.KnownBytes.{Appends}
-use Rattle.reset_log.specs.declared.form.LogForm.{LogForm}
+use Rattle.reset_list.specs.declared.form.LogForm.{LogForm}
 use Rattle.reset_log.specs.Noted.{Noted, nothing}
 use Rattle.reset_log.specs.Shown.{totals_text, IsLineShown}
-use Rattle.reset_log.specs.InOrder.{AreTold}
+use Rattle.reset_list.specs.InOrder.{AreTold}
 
 -- whole lines, each of which a line feed ends, and what stands behind the last one
 pub record Parted : Type 0 where

@@ -1,17 +1,16 @@
 -- What is noted behind the lines of a log so far: of each card its last reset, and what is counted.
 use Rattle.std.specs.Prelude.{ℕ, ◌+◌, ◌-◌, ◌%◌, ◌==◌, ◌&&◌, nat_le, not, Bool, true, false, is_some, if◌then◌else◌, Option, Some, None, List, [], ◌∷◌, ◌++◌, map}
-use Rattle.io_edges.specs.Faults.{next_count}
-use Rattle.self_id.specs.Node.{Node}
-use Rattle.topology_stack.specs.Tree.{Tree, walk}
-use Rattle.reset_log.specs.declared.line.Origin.{Origin}
-use Rattle.reset_log.specs.declared.line.Origin.TheVariants.{Controller, Core}
-use Rattle.reset_log.specs.declared.line.Reset.{Reset}
+use Rattle.topology_stack.specs.Tree.{Tree}
+use Rattle.log_line.specs.declared.line.Origin.{Origin}
+use Rattle.log_line.specs.declared.line.Origin.TheVariants.{Controller, Core}
+use Rattle.log_line.specs.declared.line.Reset.{Reset}
 use Rattle.reset_log.specs.declared.cards.Known.{Known}
-use Rattle.reset_log.specs.declared.counts.Counts.{Counts}
-use Rattle.reset_log.specs.declared.counts.Tally.{Tally}
-use Rattle.reset_log.specs.declared.line.Begun.{Begun}
+use Rattle.reset_list.specs.declared.counts.Counts.{Counts}
+use Rattle.reset_list.specs.declared.counts.Tally.{Tally}
+use Rattle.log_line.specs.declared.line.Begun.{Begun}
 use Rattle.reset_log.specs.declared.notes.Pending.{Pending}
-use Rattle.reset_log.specs.Update.{first_of, updated}
+use Rattle.reset_list.specs.Update.{first_of, updated}
+use Rattle.reset_list.specs.Counts.{counted, tallied_by}
 
 pub record Noted : Type 0 where
   pub cards : List Known
@@ -93,35 +92,6 @@ known_by r heard before = record {
   is_heard = is_some heard;
   tree = or_before heard (compared before r);
 }
-
--- it is one more, unless it is the last one by its other event, and one more that is refused
-abbrev pub counted : (second refused : Bool) → Counts → Counts
-counted second refused c = record {
-  resets = if second then c.resets else next_count c.resets;
-  refused = if refused then next_count c.refused else c.refused;
-}
-
-abbrev pub is_tally : ℕ → ℕ → Tally → Bool
-is_tally card node t = (t.card == card) && (t.node == node)
-
-abbrev pub one_more_of : ℕ → ℕ → Option Tally → Tally
-one_more_of card node None = record { card = card; node = node; count = 1 }
-one_more_of card node (Some t) =
-    record { card = card; node = node; count = next_count t.count }
-
-abbrev pub tallied_if : Bool → ℕ → ℕ → List Tally → List Tally
-tallied_if initiated card node ts =
-    if initiated then updated (is_tally card node) (one_more_of card node) ts else ts
-
--- each node that began the reset
-abbrev pub tallied : ℕ → ℕ → List Node → List Tally → List Tally
-tallied card node [] ts = ts
-tallied card node (n ∷ ns) ts =
-    tallied card (node + 1) ns (tallied_if n.attrs.initiated card node ts)
-
-abbrev pub tallied_by : ℕ → Option Tree → List Tally → List Tally
-tallied_by card None ts = ts
-tallied_by card (Some t) ts = tallied card 0 (walk t) ts
 
 -- behind a reset, the tree that it is heard as if it is, and whether it is refused
 abbrev pub after : Noted → Reset → Option Tree → Bool → Noted
@@ -208,14 +178,3 @@ or_pending (Some p) before = Some p
 abbrev pub is_full : Option Pending → Bool
 is_full None = false
 is_full (Some p) = p.left == 0
-
--- ---- who began most resets
-
-abbrev pub greater : Option Tally → Tally → Tally
-greater None t = t
-greater (Some best) t = if nat_le t.count best.count then best else t
-
--- the first of those that began most
-abbrev pub most_of : Option Tally → List Tally → Option Tally
-most_of best [] = best
-most_of best (t ∷ ts) = most_of (Some (greater best t)) ts

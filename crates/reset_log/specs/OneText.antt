@@ -1,6 +1,6 @@
 -- Each log has one text, and one answer to whether a line of it is at fault.
 use Rattle.std.specs.Prelude.{◌≡◌, ℕ, Bool, List}
-use Rattle.reset_log.specs.declared.form.LogForm.{LogForm}
+use Rattle.reset_list.specs.declared.form.LogForm.{LogForm}
 use Rattle.reset_log.specs.Log.{lines_of, IsLogShown}
 
 abbrev pub NoLogHasTwoTexts : Type 0

@@ -1,64 +1,20 @@
--- What is shown of a reset's list: the bus, that it is as before, what changed, or the fault; and of a
--- line of the log.
-use Rattle.std.specs.Prelude.{◌≡◌, ℕ, ◌==◌, is_none, Bool, true, false, Option, Some, None, List, [], ◌++◌, codes}
-use Rattle.self_id.specs.declared.standard.Standard.{Standard}
-use Rattle.topology_stack.specs.Tree.{Tree, walk}
-use Rattle.view_text.specs.Drawing.{IsDrawing}
-use Rattle.reset_log.specs.declared.line.Origin.{Origin}
-use Rattle.reset_log.specs.declared.line.Reset.{Reset}
-use Rattle.reset_log.specs.declared.line.LogLine.{LogLine}
-use Rattle.reset_log.specs.declared.line.LogLine.TheVariants.{Other, Lost, Said, Begins, Packet, Garbled, OfReset}
-use Rattle.capture_reading.specs.declared.fault.CaptureFault.{CaptureFault}
+-- What is shown of a line of the log.
+use Rattle.std.specs.Prelude.{◌≡◌, ℕ, ◌==◌, is_none, Bool, true, false, Option, Some, None, List, []}
+use Rattle.topology_stack.specs.Tree.{Tree}
+use Rattle.log_line.specs.declared.line.Reset.{Reset}
+use Rattle.log_line.specs.declared.line.LogLine.{LogLine}
+use Rattle.log_line.specs.declared.line.LogLine.TheVariants.{Other, Lost, Said, Begins, Packet, Garbled, OfReset}
 use Rattle.reset_log.specs.declared.cards.Known.{Known}
-use Rattle.reset_log.specs.declared.line.Begun.{Begun}
+use Rattle.log_line.specs.declared.line.Begun.{Begun}
 use Rattle.reset_log.specs.declared.notes.Pending.{Pending}
-use Rattle.reset_log.specs.Line.{line_of}
-use Rattle.reset_log.specs.Hear.{IsHeard, IsUnheard}
+use Rattle.log_line.specs.Line.{line_of}
 use Rattle.reset_log.specs.Noted.{Noted, is_repeated, last_of, compared, after, behind_loss, waiting, begun_at, taken_by}
-use Rattle.reset_log.specs.Texts.{garbled, lost, told, totals, head, unjudged, numbers, changes, node_changes, initiators}
+use Rattle.reset_log.specs.Texts.{garbled, lost, told, totals, head, unjudged}
 use Rattle.bus_json.specs.Text.{json_line}
-use Rattle.reset_log.specs.declared.form.LogForm.{LogForm}
-use Rattle.reset_log.specs.declared.form.LogForm.TheVariants.{Text, Json}
+use Rattle.reset_list.specs.declared.form.LogForm.{LogForm}
+use Rattle.reset_list.specs.declared.form.LogForm.TheVariants.{Text, Json}
 use Rattle.reset_log.specs.Json.{IsResetTold, unjudged_value, garbled_value, lost_value, told_value, totals_lines}
-use Rattle.reset_log.specs.Sentence.{IsRefusalShown}
-
--- this is the drawing of the tree before, if there was one
-abbrev pub WasDrawn : Option Tree → List ℕ → Type 0
-WasDrawn before drawing = (old : Tree) × (before ≡ Some old) × IsDrawing old drawing
-
--- the tree before, if there was one, has another drawing
-abbrev pub WasOther : Option Tree → List ℕ → Type 0
-WasOther before drawing =
-    (old : Tree) → before ≡ Some old →
-    (other : List ℕ) × IsDrawing old other × (other ≡ drawing → ⊥)
-
--- the drawing of a tree, and behind it what changed node by node; or that it is as before
-pub data IsBody (before : Option Tree) (t : Tree) (text by_node : List ℕ) : Type 0 where
-  the_same : (drawing : List ℕ) → IsDrawing t drawing → WasDrawn before drawing →
-      text ≡ codes "as before\n" → by_node ≡ [] → IsBody before t text by_node
-  drawn : IsDrawing t text → WasOther before text → by_node ≡ node_changes before t →
-      IsBody before t text by_node
-
--- what is shown of a tree behind the head of its reset: its numbers, its drawing, what changed, and who
--- began the reset
-pub record IsTreeShown (head : List ℕ) (before : Option Tree) (t : Tree) (text : List ℕ) :
-    Type 0 where
-  pub body : List ℕ
-  pub by_node : List ℕ
-  pub is_body : IsBody before t body by_node
-  pub text_is :
-      text ≡ head ++ (numbers t ++ (body ++ (changes before t
-      ++ (by_node ++ initiators 0 (walk t)))))
-
--- what is shown of a reset's list behind the reset's head, where this tree was there before, and the
--- tree that it is heard as, if it is
-pub data IsListShown (standard : Standard) (origin : Origin) (head list : List ℕ)
-    (before : Option Tree) (text : List ℕ) (heard : Option Tree) : Type 0 where
-  is_refused : (f : CaptureFault) → IsUnheard standard origin list f →
-      IsRefusalShown standard origin head list f text → heard ≡ None →
-      IsListShown standard origin head list before text heard
-  is_heard : (t : Tree) → IsHeard standard origin list t → IsTreeShown head before t text →
-      heard ≡ Some t → IsListShown standard origin head list before text heard
+use Rattle.reset_list.specs.Shown.{IsListShown}
 
 -- ---- in a form: as text, or as lines of JSON
 

@@ -1,4 +1,3 @@
 pub mod Going
-pub mod Marks
 pub mod Tokens
 pub mod InJson

@@ -2,9 +2,9 @@
 ghost use Rattle.std.specs.Prelude.{◌≡◌, ◌<◌, length, position, map, Some, None, IfSome, OnOk};
 ghost use Rattle.std.specs.Option.{option_copied};
 ghost use Rattle.reset_log.specs.Noted.{is_of, last_of, same_origin, is_second, is_repeated, skipped, missing, between, since, compared, known_by, forgotten};
-ghost use Rattle.reset_log.specs.Update.{updated};
+ghost use Rattle.reset_list.specs.Update.{updated};
 
-use crate::line::{Origin, Reset};
+use log_line::{Origin, Reset};
 use std::alloc::AllocError;
 use topology_stack::BusTree;
 

@@ -1,29 +1,10 @@
-//! The words that ask for the resets of a log, and how they are shown.
+//! The words that ask for the resets of a log.
 ghost use Rattle.std.specs.Prelude.{◌≡◌, ◌∷◌, [], ◌↔◌};
-ghost use Rattle.reset_log.specs.declared.form.LogForm.{LogForm};
-ghost use Rattle.reset_log.specs.Form.{standard_of, AreWordsBy, AsksResets};
+ghost use Rattle.reset_list.specs.declared.form.LogForm.{LogForm};
+ghost use Rattle.reset_log.specs.Form.{AreWordsBy, AsksResets};
 
+use reset_list::LogForm;
 use self_id::Standard;
-
-/// How the resets of a log or a dump are shown, by a standard.
-#[derive(Clone, Copy, Debug, PartialEq, Eq)]
-pub enum LogForm {
-    /// For people: a drawing of the bus, and what changed.
-    Text(Standard),
-    /// For programs: a line of JSON for each reset.
-    Json(Standard),
-}
-
-impl LogForm {
-    /// The standard by which self-ID packets are read.
-    pub fn standard(self) -> Standard
-        ensures { result ≡ standard_of self }
-    {
-        match self {
-            LogForm::Text(standard) | LogForm::Json(standard) => standard,
-        }
-    }
-}
 
 /// The form by which this word asks.
 fn of_word(word: &str) -> Option<LogForm>

@@ -1,16 +1,26 @@
 //! The first line of what is shown of a reset, and the last line of a log.
 ghost use Rattle.std.specs.Prelude.{◌≡◌, ◌++◌, OnOk, IfOk};
 ghost use Rattle.std.specs.Option.{option_copied};
-ghost use Rattle.reset_log.specs.Texts.{lost, told, digit, seconds, if_known, if_missing, name, moments, if_local, head, unjudged, begun, most, cut_off, if_cut_off, totals};
+ghost use Rattle.reset_log.specs.Texts.{garbled, lost, told, digit, seconds, if_known, if_missing, name, moments, if_local, head, unjudged, begun, most, cut_off, if_cut_off, totals};
 ghost use Rattle.reset_log.specs.Notes.{noted};
 
 use crate::cards::{Known, missing, since};
-use crate::counts::{Tally, most_of};
 use crate::device::put_card;
-use crate::line::Reset;
 use crate::notes::{Notes, Pending};
+use log_line::Reset;
+use reset_list::{Tally, most_of};
 use std::alloc::{AllocError, Global};
 use view_text::put_field;
+
+/// Appends the line of a garbled event.
+#[tactic(auto, unfolding(crate::specs::Texts::garbled))]
+pub(crate) fn put_garbled(out: &mut Vec<u8>, number: u64) -> Result<(), AllocError>
+    ensures { OnOk result (out.new.items ≡ out.old.items ++ garbled number) }
+{
+    put_field(out, b"line ", number)?;
+    out.extend_from_slice(b" garbled\n")?;
+    Ok(())
+}
 
 /// Appends that events were lost.
 #[tactic(auto, unfolding(crate::specs::Texts::lost))]

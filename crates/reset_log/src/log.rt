@@ -5,31 +5,26 @@ ghost use Rattle.bus_json.specs.Lines.{GathersJsonLines, WritesJsonLines};
 ghost use Rattle.io_edges.specs.Faults.{Rose};
 ghost use Rattle.io_edges.specs.Told.{IfTold, TookOver};
 ghost use Rattle.self_id.specs.declared.standard.Standard.{Standard};
-ghost use Rattle.reset_log.specs.declared.form.LogForm.{LogForm};
+ghost use Rattle.reset_list.specs.declared.form.LogForm.{LogForm};
 ghost use Rattle.reset_log.specs.codings.Going.{IsNew, HasShown, HasWritten, ShowsLine, ShowsWhole, CountsWhole, KeepsBytes, IsOneLine, Begun, BreaksText, Broke, ShowsLines, ShowsAll};
 ghost use Rattle.reset_log.specs.codings.InJson.{IfJson};
-ghost use Rattle.reset_log.specs.codings.Marks.{has_mark};
-ghost use Rattle.reset_log.specs.declared.line.LogLine.{LogLine};
-ghost use Rattle.reset_log.specs.Line.{line_of};
-ghost use Rattle.reset_log.specs.Cause.{StoppedWriting};
+ghost use Rattle.log_line.specs.Marks.{has_mark};
+ghost use Rattle.log_line.specs.declared.line.LogLine.{LogLine};
+ghost use Rattle.log_line.specs.Line.{line_of};
+ghost use Rattle.reset_list.specs.Cause.{StoppedWriting};
 ghost use Rattle.reset_log.specs.Log.{parted, lines_of, IsLogShown, AreWritten, AreBegun};
-ghost use Rattle.reset_log.specs.Wrote.{Wrote, WroteFront, WroteFrontOf};
+ghost use Rattle.reset_list.specs.Wrote.{Wrote, WroteFront, WroteFrontOf};
 ghost use Rattle.reset_log.specs.Shown.{totals_text};
 ghost use Rattle.reset_log.specs.Notes.{noted};
-ghost use Rattle.reset_log.specs.Answered.{IsExact, IsComplete, IsFront, IsSure};
+ghost use Rattle.reset_list.specs.Answered.{IsExact, IsComplete, IsFront, IsSure};
 
-use crate::form::LogForm;
-use crate::line::front;
-use crate::marks::{begins_loss, has_mark};
 use crate::notes::Notes;
 use crate::shown::{show_line, totals_text};
-use crate::stop::LogStop;
 use io_edges::{Sink, Source, write_whole};
+use log_line::{begins_loss, front, has_mark};
 use memchr::memchr;
+use reset_list::{LogForm, LogStop, MAX_LOG};
 use std::alloc::{AllocError, Global};
-
-/// The most bytes of a log: as many come in 292,000 years at a megabyte a second.
-pub const MAX_LOG: usize = 9_223_372_036_854_775_807;
 
 /// The most bytes of a line that are kept.
 const MAX_LINE: usize = 65536;

@@ -1,13 +1,14 @@
 //! What is noted behind the lines of a log so far.
 ghost use Rattle.std.specs.Prelude.{◌≡◌, OnOk, IfOk, None, Some};
 ghost use Rattle.std.specs.Option.{option_copied};
-ghost use Rattle.reset_log.specs.Noted.{nothing, tallied_by, after, behind_loss, waiting, begun_at, taken_by, or_pending, is_full};
+ghost use Rattle.reset_log.specs.Noted.{nothing, after, behind_loss, waiting, begun_at, taken_by, or_pending, is_full};
+ghost use Rattle.reset_list.specs.Counts.{tallied_by};
 ghost use Rattle.reset_log.specs.Notes.{noted};
 
 use crate::cards::{Known, forget_all, is_second, keep, last_of};
-use crate::counts::{Counts, Tally, count_begun, count_reset};
-use crate::line::{Begun, Origin, Reset};
+use log_line::{Begun, Origin, Reset};
 use quad_lanes::QuadList;
+use reset_list::{Counts, Tally, count_begun, count_reset};
 use std::alloc::{AllocError, Global};
 use topology_stack::BusTree;
 

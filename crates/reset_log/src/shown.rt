@@ -1,159 +1,25 @@
-//! What is shown of a reset's list, and of a line of the log.
-ghost use Rattle.std.specs.Prelude.{◌≡◌, ◌++◌, IfOk, OnOk, None, is_none, IsTrue, ◌↔◌, true, false, Some, Option, [], codes};
+//! What is shown of a line of the log.
+ghost use Rattle.std.specs.Prelude.{◌≡◌, IfOk, None};
 ghost use Rattle.std.specs.Option.{option_copied};
-ghost use Rattle.topology_stack.specs.Tree.{Tree, walk};
 ghost use Rattle.bus_json.specs.Lines.{AreJsonLines};
 ghost use Rattle.reset_log.specs.codings.InJson.{IfJson};
 ghost use Rattle.reset_log.specs.Noted.{last_of, waiting, taken_by};
 ghost use Rattle.reset_log.specs.Notes.{noted};
-ghost use Rattle.reset_log.specs.Shown.{WasDrawn, WasOther, IsBody, IsTreeShown, IsListShown, IsJudged, unjudged_text, garbled_text, lost_text, told_text, totals_text, IsResetShown, IsPendingShown, IsBegunShown, IsPacketShown, IsLineShown};
+ghost use Rattle.reset_log.specs.Shown.{IsJudged, unjudged_text, garbled_text, lost_text, told_text, totals_text, IsResetShown, IsPendingShown, IsBegunShown, IsPacketShown, IsLineShown};
 
 use crate::cards::{Known, compared, is_repeated, last_of};
-use crate::form::LogForm;
-use crate::heads::{last_line, put_head, put_lost, put_told, put_unjudged};
-use crate::hear::hear;
-use crate::line::{Begun, LogLine, Origin, Reset, line_of};
+use crate::heads::{last_line, put_garbled, put_head, put_lost, put_told, put_unjudged};
 use crate::notes::Notes;
-use crate::same::is_before;
-use crate::sentence::refusal_text;
-use crate::texts::{node_changes, put_changes, put_garbled, put_initiators, put_numbers};
 use crate::values::{garbled_line, lost_line, reset_line, told_line, totals_lines, unjudged_line};
-use capture_reading::CaptureStop;
-use self_id::Standard;
+use log_line::{Begun, LogLine, Reset, line_of};
+use reset_list::{ListShown, LogForm, show_list};
 use std::alloc::{AllocError, Global};
-use topology_stack::BusTree;
-use view_text::tree_drawing;
-
-/// How much room for the text of a reset is made at first: enough where the bus is as before.
-const ROOM: usize = 256;
 
 /// What is shown of a line, and whether it is at fault.
 #[derive(Debug, Drop)]
 pub(crate) struct Shown {
     pub(crate) text: Vec<u8>,
     pub(crate) bad: bool,
-}
-
-/// What is shown of a reset's list.
-#[derive(Debug, Drop)]
-pub struct ListShown {
-    /// Whole lines.
-    pub text: Vec<u8>,
-    /// The tree that the list is heard as. `None` where it is refused.
-    pub tree: Option<BusTree>,
-}
-
-fn same_text(a: &[u8], b: &[u8]) -> bool
-    ensures { IsTrue result ↔ (a.now ≡ b.now) }
-{
-    a == b
-}
-
-/// Whether the tree of a card's reset before has this drawing.
-fn was_drawn(alloc: Global, before: Option<&BusTree>, drawing: &[u8]) -> Result<bool, AllocError>
-    ensures same { IfOk result (λ same.
-        same ≡ true → WasDrawn (option_copied before.entry) drawing.now) }
-    ensures other { IfOk result (λ same.
-        same ≡ false → WasOther (option_copied before.entry) drawing.now) }
-{
-    match before {
-        Some(old) => {
-            let text = tree_drawing(alloc, old)?;
-            Ok(same_text(text.as_slice(), drawing))
-        }
-        None => Ok(false),
-    }
-}
-
-/// What is shown of a tree behind its numbers.
-#[derive(Debug, Drop)]
-struct BehindNumbers {
-    /// The drawing of the tree, or that it is as before.
-    text: Vec<u8>,
-    /// What changed node by node, where it isn't as before.
-    by_node: Vec<u8>,
-}
-
-/// What stands in place of a drawing that is that of the reset before.
-fn as_before(alloc: Global) -> Result<BehindNumbers, AllocError>
-    ensures { IfOk result (λ body.
-        (body.text.items ≡ codes "as before\n") × (body.by_node.items ≡ [])) }
-{
-    let text = Vec::from_slice(alloc, b"as before\n")?;
-    let by_node = Vec::new(alloc);
-    Ok(BehindNumbers { text, by_node })
-}
-
-/// The drawing of a tree, or that it is as before.
-fn body(
-    alloc: Global,
-    before: Option<&BusTree>,
-    tree: &BusTree,
-) -> Result<BehindNumbers, AllocError>
-    ensures { IfOk result (λ body. IsBody (option_copied before.entry) tree.now
-        body.text.items body.by_node.items) }
-{
-    if is_before(before, tree) {
-        return as_before(alloc);
-    }
-    let text = tree_drawing(alloc, tree)?;
-    if was_drawn(alloc, before, &text)? {
-        as_before(alloc)
-    } else {
-        let by_node = node_changes(alloc, before, tree)?;
-        Ok(BehindNumbers { text, by_node })
-    }
-}
-
-/// What is shown of a tree, behind the head of its reset.
-fn tree_text(
-    alloc: Global,
-    head: &[u8],
-    before: Option<&BusTree>,
-    tree: &BusTree,
-) -> Result<Vec<u8>, AllocError>
-    ensures { IfOk result (λ text.
-        IsTreeShown head.now (option_copied before.entry) tree.now text.items) }
-{
-    let body = body(alloc, before, tree)?;
-    let mut text = Vec::with_capacity(alloc, ROOM)?;
-    text.extend_from_slice(head)?;
-    put_numbers(&mut text, tree)?;
-    text.extend_from_slice(&body.text)?;
-    put_changes(&mut text, before, tree)?;
-    text.extend_from_slice(&body.by_node)?;
-    put_initiators(&mut text, tree)?;
-    Ok(text)
-}
-
-/// What is shown of a reset's list by a standard, behind the head of the reset. `before` is the tree of
-/// the bus at the reset before, if it is known: what is another in the list's tree is shown too. A list
-/// that is refused has no tree, and what is shown of it is the line and the sentence of its fault.
-pub fn show_list(
-    alloc: Global,
-    standard: Standard,
-    origin: Origin,
-    head: &[u8],
-    before: Option<&BusTree>,
-    list: &[u32],
-) -> Result<ListShown, AllocError>
-    ensures { IfOk result (λ shown. IsListShown standard origin head.now list.now
-        (option_copied before.entry) shown.text.items shown.tree) }
-{
-    match hear(alloc, standard, origin, list) {
-        Ok(tree) => {
-            let text = tree_text(alloc, head, before, &tree)?;
-            Ok(ListShown {
-                text,
-                tree: Some(tree),
-            })
-        }
-        Err(CaptureStop::Fault(fault)) => {
-            let text = refusal_text(alloc, standard, origin, head, list, fault)?;
-            Ok(ListShown { text, tree: None })
-        }
-        Err(CaptureStop::Memory(error)) => Err(error),
-    }
 }
 
 /// What is shown in a form of a reset that is judged, and the tree that its list is heard as.

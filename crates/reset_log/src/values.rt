@@ -2,55 +2,23 @@
 ghost use Rattle.std.specs.Prelude.{◌≡◌, ◌++◌, ◌∷◌, [], map, codes, Some, IfOk, OnOk};
 ghost use Rattle.std.specs.Option.{option_copied};
 ghost use Rattle.json.specs.Token.{string};
-ghost use Rattle.json.specs.Json.{Members};
 ghost use Rattle.json.specs.Tree.{json_tokens, members_tokens};
 ghost use Rattle.bus_json.specs.Text.{json_line};
 ghost use Rattle.bus_json.specs.Lines.{IsJsonLine, AreJsonLines};
 ghost use Rattle.reset_log.specs.Noted.{since, missing};
 ghost use Rattle.reset_log.specs.Notes.{noted};
 ghost use Rattle.reset_log.specs.codings.Tokens.{name_tokens, known_tokens, head_tokens};
-ghost use Rattle.reset_log.specs.Json.{IsListTold, card_value, ascii, IsResetTold, unjudged_value, cut_off_value, garbled_value, lost_value, told_value, most_members, totals_value, cut_off_lines, totals_lines};
+ghost use Rattle.reset_log.specs.Json.{card_value, ascii, IsResetTold, unjudged_value, cut_off_value, garbled_value, lost_value, told_value, most_members, totals_value, cut_off_lines, totals_lines};
 
 use crate::cards::{Known, missing, since};
-use crate::counts::{Tally, most_of};
-use crate::device::{DEVICES, put_device};
-use crate::hear::hear;
-use crate::line::{Origin, Reset};
+use crate::device::put_device;
 use crate::notes::{Notes, Pending};
-use crate::shown::ListShown;
-use bus_json::{JsonText, put_refusal, put_tree};
-use capture_reading::CaptureStop;
+use bus_json::JsonText;
+use log_line::{DEVICES, Reset};
+use reset_list::{ListShown, Tally, most_of, put_list};
 use self_id::Standard;
 use std::alloc::{AllocError, Global};
 use std::str;
-use topology_stack::BusTree;
-
-/// Writes what a list is heard as by a standard, as the last members of an object, and ends it: the members
-/// that `busview json` writes of a bus, or why the list is refused. It answers the tree that the list is
-/// heard as; `None` where it is refused.
-pub fn put_list(
-    alloc: Global,
-    out: &mut JsonText,
-    standard: Standard,
-    origin: Origin,
-    list: &[u32],
-) -> Result<Option<BusTree>, AllocError>
-    ensures { IfOk result (λ heard. (members : Members)
-        × IsListTold standard origin list.now members heard
-        × (out.new ≡ out.old ++ members_tokens members)) }
-{
-    match hear(alloc, standard, origin, list) {
-        Ok(tree) => {
-            put_tree(out, &tree, &[])?;
-            Ok(Some(tree))
-        }
-        Err(CaptureStop::Fault(fault)) => {
-            put_refusal(out, fault)?;
-            Ok(None)
-        }
-        Err(CaptureStop::Memory(error)) => Err(error),
-    }
-}
 
 /// A byte, or a question mark where it isn't ASCII.
 fn ascii(byte: u8) -> u8

@@ -4,10 +4,10 @@ use Rattle.std.specs.Io.KnownBytes.{Consumes}
 use Rattle.io_edges.specs.Told.{StayTold}
 use Rattle.self_id.specs.declared.standard.Standard.{Standard}
 use Rattle.bus_json.specs.Lines.{AreJsonLines, GathersJsonLines, WritesJsonLines}
-use Rattle.reset_log.specs.declared.form.LogForm.{LogForm}
-use Rattle.reset_log.specs.declared.form.LogForm.TheVariants.{Json}
-use Rattle.reset_log.specs.InOrder.{AreTold}
-use Rattle.reset_log.specs.Wrote.{Wrote}
+use Rattle.reset_list.specs.declared.form.LogForm.{LogForm}
+use Rattle.reset_list.specs.declared.form.LogForm.TheVariants.{Json}
+use Rattle.reset_list.specs.InOrder.{AreTold}
+use Rattle.reset_list.specs.Wrote.{Wrote}
 use Rattle.nosy_dump.specs.declared.dump.DumpReader.{DumpReader}
 use Rattle.nosy_dump.specs.declared.record.Record.{Record}
 use Rattle.nosy_dump.specs.declared.record.DumpReset.{DumpReset}

@@ -2,13 +2,13 @@
 use Rattle.std.specs.Prelude.{◌≡◌, ◌⊎◌, ℕ, ◌+◌, ◌<◌, ◌≤◌, ◌^◌, ◌||◌, Bool, false, Option, List, [], ◌++◌, length, take}
 use Rattle.std.specs.Io.KnownBytes.{Consumes}
 use Rattle.io_edges.specs.Told.{StayTold}
-use Rattle.reset_log.specs.declared.form.LogForm.{LogForm}
+use Rattle.reset_list.specs.declared.form.LogForm.{LogForm}
 use Rattle.reset_log.specs.Noted.{Noted, nothing}
 use Rattle.reset_log.specs.Notes.{noted}
 use Rattle.reset_log.specs.declared.log.LogReader.{LogReader}
 use Rattle.reset_log.specs.Shown.{IsLineShown}
 use Rattle.reset_log.specs.Log.{parted, AreLinesShown, IsLogShown}
-use Rattle.reset_log.specs.Wrote.{Wrote, WroteFront}
+use Rattle.reset_list.specs.Wrote.{Wrote, WroteFront}
 
 -- it was given nothing
 pub record IsNew (r : LogReader) : Type 0 where

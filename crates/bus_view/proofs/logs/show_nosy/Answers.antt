@@ -1,8 +1,8 @@
 use Rattle.std.proofs.Common.{◌≡◌, ℕ, Bool, List, Option, Some, None, Result, Ok, Err, sym, subst}
 use Rattle.std.specs.Prelude.{IfSome, IfOk}
 use Rattle.std.specs.Io.KnownBytes.{Appends, IsAtEnd}
-use Rattle.reset_log.specs.declared.form.LogForm.{LogForm}
-use Rattle.reset_log.specs.declared.stop.LogStop.{LogStop}
+use Rattle.reset_list.specs.declared.form.LogForm.{LogForm}
+use Rattle.reset_list.specs.declared.stop.LogStop.{LogStop}
 use Rattle.nosy_dump.specs.Dump.{IsDumpShown, IsDumpWritten, IsBegun}
 use Rattle.bus_view.specs.Log.{IsDumpView, ShowsAsItComes}
 use Rattle.bus_json.specs.Lines.{WritesJsonLines}

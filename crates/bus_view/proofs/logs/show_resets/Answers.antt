@@ -1,8 +1,8 @@
 use Rattle.std.proofs.Common.{◌≡◌, ◌⊎◌, ℕ, Bool, List, Option, Some, None, Result, Ok, Err, sym, subst}
 use Rattle.std.specs.Prelude.{IfSome, IfOk, OnOk}
 use Rattle.std.specs.Io.KnownBytes.{Appends, IsAtEnd}
-use Rattle.reset_log.specs.declared.form.LogForm.{LogForm}
-use Rattle.reset_log.specs.declared.stop.LogStop.{LogStop}
+use Rattle.reset_list.specs.declared.form.LogForm.{LogForm}
+use Rattle.reset_list.specs.declared.stop.LogStop.{LogStop}
 use Rattle.reset_log.specs.Log.{lines_of, IsLogShown, AreWritten}
 use Rattle.bus_view.specs.Log.{IsLogView, IsLogBegun, ShowsAsItComes}
 use Rattle.bus_json.specs.Lines.{WritesJsonLines}

@@ -1,8 +1,8 @@
 use Rattle.std.proofs.Common.{◌≡◌, ◌⊎◌, inl, inr, [], refl, subst}
 use Rattle.std.specs.Io.KnownBytes.{Appends}
 use Rattle.bus_json.proofs.Lemmas.{one_line}
-use Rattle.reset_log.specs.declared.form.LogForm.{LogForm}
-use Rattle.reset_log.specs.declared.form.LogForm.TheVariants.{Json as Lines}
+use Rattle.reset_list.specs.declared.form.LogForm.{LogForm}
+use Rattle.reset_list.specs.declared.form.LogForm.TheVariants.{Json as Lines}
 use Rattle.nosy_dump.specs.Dump.{IsBegun}
 use Rattle.top_call.proofs.Lemmas.{unread_written}
 use Rattle.bus_view.specs.declared.form.ViewForm.TheVariants.{Capture, JsonRun, Script, Resets, Nosy, OfItself}

@@ -1,7 +1,7 @@
 use Rattle.std.proofs.Common.{◌≡◌, ◌∙◌, ◌-◌, ◌<◌, ◌≤◌, ℕ, [], length, take, sym, subst, arith}
 use Rattle.std.specs.Io.KnownBytes.{Consumes, IsAtEnd}
 use Rattle.nosy_dump.specs.Dump.{IsDumpShown}
-use Rattle.reset_log.proofs.Lemmas.{is_front, is_sure}
+use Rattle.reset_list.proofs.Lemmas.{is_front, is_sure}
 use Rattle.nosy_dump.proofs.Reading.{at_first, reads_on, less_room, waited, whole, cut_off, map_ok, not_well}
 use Rattle.nosy_dump.proofs.AsJson.{write_both, on_json}
 use Rattle.nosy_dump.proofs.Fronts.{front_left, front_piece, front_end, front_cut, shown, exact_shown, complete_shown}

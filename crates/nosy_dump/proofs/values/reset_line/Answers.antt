@@ -2,8 +2,8 @@ use Rattle.std.proofs.Common.{◌≡◌, ◌∙◌, ℕ, List, [], ◌∷◌, �
 use Rattle.json.specs.Token.{Token}
 use Rattle.json.specs.Print.{print}
 use Rattle.json.specs.Tree.{json_tokens}
-use Rattle.reset_log.specs.declared.line.Origin.TheVariants.{Core}
-use Rattle.reset_log.specs.Json.{IsListTold}
+use Rattle.log_line.specs.declared.line.Origin.TheVariants.{Core}
+use Rattle.reset_list.specs.Json.{IsListTold}
 use Rattle.bus_json.proofs.Lemmas.{json_line_of}
 use Rattle.nosy_dump.specs.Json.{reset_value}
 use Rattle.nosy_dump.proofs.Shallow.{reset_shallow}

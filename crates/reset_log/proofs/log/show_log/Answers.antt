@@ -1,8 +1,8 @@
 use Rattle.std.proofs.Common.{◌≡◌, ◌-◌, ◌<◌, ◌≤◌, ℕ, Option, List, Bool, [], length, take, sym, subst, arith}
 use Rattle.std.specs.Io.KnownBytes.{Consumes, IsAtEnd}
-use Rattle.reset_log.specs.declared.form.LogForm.{LogForm}
+use Rattle.reset_list.specs.declared.form.LogForm.{LogForm}
 use Rattle.reset_log.specs.Log.{lines_of, IsLogShown}
-use Rattle.reset_log.proofs.Wrote.{is_front, is_sure}
+use Rattle.reset_list.proofs.Lemmas.{is_front, is_sure}
 use Rattle.reset_log.proofs.Reading.{at_first, reads_on, less_room}
 use Rattle.reset_log.proofs.Fronts.{front_left, front_piece, front_end, shown_end, exact_end, complete_end}
 use Rattle.reset_log.proofs.InJson.{written_none, written_next, all_written}

@@ -1,7 +1,7 @@
 use Rattle.std.proofs.Common.{refl}
 use Rattle.std.specs.Option.{option_copied}
 use Rattle.reset_log.proofs.Judged.{in_text}
-use Rattle.reset_log.specs.declared.shown.ListShown.{ListShown}
+use Rattle.reset_list.specs.declared.shown.ListShown.{ListShown}
 use Rattle.reset_log.proofs.InJson.{in_lines_if}
 use Rattle.reset_log.proofs.shown.show_judged.Goals as goal
 

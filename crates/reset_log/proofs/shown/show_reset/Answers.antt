@@ -3,7 +3,8 @@ use Rattle.std.specs.Option.{option_copied}
 use Rattle.reset_log.specs.declared.cards.Known.{Known}
 use Rattle.reset_log.specs.Notes.{noted}
 use Rattle.reset_log.specs.Shown.{IsResetShown}
-use Rattle.reset_log.proofs.Judged.{judged, none_is}
+use Rattle.reset_log.proofs.Judged.{judged}
+use Rattle.reset_list.proofs.Lemmas.{none_is}
 use Rattle.reset_log.proofs.InJson.{no_lines}
 use Rattle.reset_log.proofs.shown.show_reset.Goals as goal
 

@@ -3,7 +3,8 @@ use Rattle.std.specs.Option.{option_copied}
 use Rattle.json.specs.Token.{Token}
 use Rattle.json.specs.Print.{print}
 use Rattle.json.specs.Tree.{json_tokens}
-use Rattle.reset_log.specs.Json.{IsListTold, reset_value}
+use Rattle.reset_list.specs.Json.{IsListTold}
+use Rattle.reset_log.specs.Json.{reset_value}
 use Rattle.reset_log.proofs.Tokens.{head_written}
 use Rattle.bus_json.proofs.Lemmas.{json_line_of}
 use Rattle.reset_log.proofs.Shallow.{reset_shallow}

@@ -1,5 +1,5 @@
 use Rattle.std.proofs.Common.{List, ℕ, ◌++◌}
-use Rattle.reset_log.proofs.Lemmas.{on_err}
+use Rattle.reset_list.proofs.Lemmas.{on_err}
 use Rattle.nosy_dump.specs.Record.{EndsSo}
 use Rattle.nosy_dump.specs.Dump.{IsDumpShown}
 use Rattle.nosy_dump.proofs.AsJson.{write_gathered}

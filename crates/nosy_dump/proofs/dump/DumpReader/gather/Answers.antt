@@ -1,6 +1,6 @@
 use Rattle.std.proofs.Common.{◌∙◌, ◌++◌, ◌+◌, ℕ, List, length, take, drop, refl, append-nil, sym, ap, subst, length-drop, arith}
 use Rattle.std.proofs.lemmas.List.{take_rest}
-use Rattle.reset_log.specs.declared.form.LogForm.{LogForm}
+use Rattle.reset_list.specs.declared.form.LogForm.{LogForm}
 use Rattle.nosy_dump.specs.Record.{IsOpen}
 use Rattle.nosy_dump.specs.codings.Going.{Stays, Leads}
 use Rattle.nosy_dump.proofs.Going.{came_on, came_all, few_left, some_left, stays_open, stopped}

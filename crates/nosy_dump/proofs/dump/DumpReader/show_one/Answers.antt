@@ -1,5 +1,5 @@
 use Rattle.std.proofs.Common.{◌∙◌, ap, Bool, ◌||◌, arith}
-use Rattle.reset_log.proofs.Lemmas.{none_is}
+use Rattle.reset_list.proofs.Lemmas.{none_is}
 use Rattle.nosy_dump.specs.Notes.{noted}
 use Rattle.nosy_dump.proofs.Shown.{shows_one}
 use Rattle.nosy_dump.proofs.AsJson.{gather_text}

@@ -1,5 +1,5 @@
 use Rattle.std.specs.Prelude.{◌++◌}
-use Rattle.reset_log.proofs.Lemmas.{on_err}
+use Rattle.reset_list.proofs.Lemmas.{on_err}
 use Rattle.nosy_dump.specs.Record.{IsOpen}
 use Rattle.nosy_dump.specs.codings.Going.{Goes}
 use Rattle.nosy_dump.proofs.AsJson.{write_gathered}

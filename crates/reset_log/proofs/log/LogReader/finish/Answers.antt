@@ -1,6 +1,7 @@
 use Rattle.reset_log.specs.Log.{lines_of}
 use Rattle.reset_log.proofs.Reading.{in_all}
-use Rattle.reset_log.proofs.Fronts.{on_err, front_of, front_totals}
+use Rattle.reset_list.proofs.Lemmas.{on_err}
+use Rattle.reset_log.proofs.Fronts.{front_of, front_totals}
 use Rattle.std.proofs.Common.{refl}
 use Rattle.reset_log.proofs.InJson.{written_next}
 use Rattle.reset_log.proofs.log.LogReader.finish.Goals as goal

@@ -4,8 +4,8 @@ use Rattle.reset_log.proofs.Standing.{after_bytes}
 use Rattle.reset_log.proofs.Fronts.{begun_so_far}
 use Rattle.reset_log.proofs.Going.{took_on, few_on, few_left, few_next}
 use Rattle.reset_log.proofs.InJson.{gathered_none, gathered_next}
-use Rattle.reset_log.proofs.Unmarked.{no_mark, unmarked_line, unmarked_behind}
-use Rattle.reset_log.specs.codings.Marks.{has_mark}
+use Rattle.log_line.proofs.Lemmas.{no_mark, unmarked_line, unmarked_behind}
+use Rattle.log_line.specs.Marks.{has_mark}
 use Rattle.reset_log.proofs.log.LogReader.gather.Goals as goal
 
 pub loop-line-init : goal.loop-line-init

@@ -2,7 +2,7 @@ use Rattle.std.proofs.Common.{◌≡◌, ◌+◌, ◌≤◌, ℕ, true, false, L
 use Rattle.bus_json.specs.Lines.{GathersJsonLines}
 use Rattle.reset_log.specs.codings.Going.{HasShown}
 use Rattle.reset_log.specs.codings.InJson.{IfJson}
-use Rattle.reset_log.specs.codings.Marks.{has_mark}
+use Rattle.log_line.specs.Marks.{has_mark}
 use Rattle.reset_log.proofs.log.LogReader.gather.Given as goal
 
 abbrev pub invariant-loop-line : goal.invariant-loop-line

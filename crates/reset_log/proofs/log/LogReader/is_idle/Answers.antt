@@ -1,7 +1,7 @@
 use Rattle.std.proofs.Common.{◌∙◌, sym}
 use Rattle.std.proofs.lemmas.Bool.{false≢true}
-use Rattle.reset_log.specs.codings.Marks.{begins_loss}
-use Rattle.reset_log.proofs.Unmarked.{no_mark, nothing_shown}
+use Rattle.log_line.specs.Marks.{begins_loss}
+use Rattle.log_line.proofs.Lemmas.{no_mark, nothing_shown}
 use Rattle.reset_log.proofs.log.LogReader.is_idle.Goals as goal
 use Rattle.reset_log.proofs.log.LogReader.is_idle.Goals.{then-quiet, else-quiet}
 

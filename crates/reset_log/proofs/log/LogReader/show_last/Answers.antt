@@ -1,6 +1,7 @@
 use Rattle.std.proofs.Common.{inl, refl}
 use Rattle.reset_log.proofs.Reading.{ended, ended_line, is_none, is_some}
-use Rattle.reset_log.proofs.Fronts.{on_err, broke_last, broke_line}
+use Rattle.reset_list.proofs.Lemmas.{on_err}
+use Rattle.reset_log.proofs.Fronts.{broke_last, broke_line}
 use Rattle.reset_log.proofs.InJson.{written_none, written_gathered}
 use Rattle.reset_log.proofs.log.LogReader.show_last.Goals as goal
 

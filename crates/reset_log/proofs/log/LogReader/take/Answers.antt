@@ -1,6 +1,7 @@
 use Rattle.reset_log.specs.Log.{parted}
 use Rattle.std.specs.Prelude.{◌++◌}
-use Rattle.reset_log.proofs.Fronts.{on_err, broke_front, broke_whole, holds_none, stands_on}
+use Rattle.reset_list.proofs.Lemmas.{on_err}
+use Rattle.reset_log.proofs.Fronts.{broke_front, broke_whole, holds_none, stands_on}
 use Rattle.reset_log.proofs.InJson.{written_gathered}
 use Rattle.reset_log.proofs.log.LogReader.take.Goals as goal
 

@@ -1,0 +1,5 @@
+pub mod Parts
+pub mod Commas
+pub mod Unmarked
+pub mod Fits
+pub mod Lemmas

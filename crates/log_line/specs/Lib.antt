@@ -1,0 +1,10 @@
+pub mod Number
+pub mod Words
+pub mod Lists
+pub mod Time
+pub mod Said
+pub mod Device
+pub mod Local
+pub mod Listing
+pub mod Line
+pub mod Marks

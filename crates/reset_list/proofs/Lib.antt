@@ -1,0 +1,12 @@
+pub mod Update
+pub mod OneDrawing
+pub mod OneTree
+pub mod InOrder
+pub mod OneText
+pub mod SomeText
+pub mod Wrote
+pub mod Reading
+pub mod Answered
+pub mod Shallow
+pub mod Heard
+pub mod Lemmas

@@ -1,0 +1,12 @@
+pub mod Form
+pub mod Update
+pub mod Counts
+pub mod Hear
+pub mod Texts
+pub mod Json
+pub mod Sentence
+pub mod Shown
+pub mod InOrder
+pub mod Answered
+pub mod Cause
+pub mod Wrote

@@ -1,0 +1,22 @@
+//! What a report of bus resets shows of the list of self-ID packets of each, as text or in JSON, what it counts,
+//! and why it may end early.
+//!
+//! A list is shown behind the head of its reset, with what changed since the tree before (`show_list`), or told
+//! as the last members of an object (`put_list`). The reports stand above: of a log, and of a recording.
+#![tactic(auto)]
+
+mod counts;
+mod form;
+mod hear;
+mod same;
+mod sentence;
+mod shown;
+mod stop;
+mod texts;
+mod values;
+
+pub use counts::{Counts, Tally, count_begun, count_reset, most_of};
+pub use form::LogForm;
+pub use shown::{ListShown, show_list};
+pub use stop::{LogStop, MAX_LOG};
+pub use values::put_list;

@@ -1,9 +1,0 @@
-use Rattle.std.proofs.Common.{◌≡◌, None, length}
-use Rattle.reset_log.specs.Line.{named}
-use Rattle.reset_log.proofs.line.named.Given as goal
-
-abbrev pub invariant-loop-rest : goal.invariant-loop-rest
-invariant-loop-rest l = named l.time l.rest ≡ named None l.words
-
-abbrev pub decreases-loop-rest : goal.decreases-loop-rest
-decreases-loop-rest l = length l.rest

@@ -1,9 +1,0 @@
-use Rattle.std.proofs.Common.{◌≡◌, length}
-use Rattle.reset_log.specs.codings.Marks.{has_mark}
-use Rattle.reset_log.proofs.marks.has_mark.Given as goal
-
-abbrev pub invariant-loop-behind : goal.invariant-loop-behind
-invariant-loop-behind l = has_mark l.rest ≡ has_mark l.line
-
-abbrev pub decreases-loop-behind : goal.decreases-loop-behind
-decreases-loop-behind l = length l.rest
