@@ -30,7 +30,7 @@ const PIECE: usize = 4096;
 
 /// A reader of a dump. It keeps the record that isn't whole yet, the reset whose packets are gathered, and
 /// what is noted of the resets before.
-#[derive(Debug, Drop)]
+#[derive(Drop)]
 pub(crate) struct DumpReader {
     form: LogForm,
     part: Vec<u8>,

@@ -5,16 +5,16 @@ ghost use Rattle.reset_list.specs.Counts.{tallied_by};
 ghost use Rattle.nosy_dump.specs.Noted.{nothing, last_heard, after};
 ghost use Rattle.nosy_dump.specs.Notes.{noted};
 
-use reset_list::{Counts, Tally, count_begun, count_reset};
+use reset_list::{Counts, Tallies, count_reset};
 use std::alloc::{AllocError, Global};
 use topology_stack::BusTree;
 
 /// The last tree, and what is counted. A dump is of one card, which is counted as card 0.
-#[derive(Debug, Drop)]
+#[derive(Drop)]
 pub(crate) struct Notes {
     pub(crate) tree: Option<BusTree>,
     pub(crate) counts: Counts,
-    pub(crate) tallies: Vec<Tally>,
+    pub(crate) tallies: Tallies,
 }
 
 impl Notes {
@@ -28,19 +28,19 @@ impl Notes {
                 resets: 0,
                 refused: 0,
             },
-            tallies: Vec::new(alloc),
+            tallies: Tallies::new(alloc),
         }
     }
 
     /// Counts the nodes that began a reset, where its tree was heard.
     fn tally(&mut self, heard: Option<&BusTree>) -> Result<(), AllocError>
-        ensures tallies { OnOk result (self.new.tallies.items
-            ≡ tallied_by 0 (option_copied heard.entry) self.old.tallies.items) }
+        ensures tallies { OnOk result (self.new.tallies
+            ≡ tallied_by 0 (option_copied heard.entry) self.old.tallies) }
         ensures tree { self.new.tree ≡ self.old.tree }
         ensures counts { self.new.counts ≡ self.old.counts }
     {
         match heard {
-            Some(tree) => count_begun(&mut self.tallies, 0, tree),
+            Some(tree) => self.tallies.count_begun(0, tree),
             None => Ok(()),
         }
     }

@@ -5,7 +5,7 @@ ghost use Rattle.nosy_dump.specs.Notes.{noted};
 
 use crate::notes::Notes;
 use crate::record::{DumpFault, DumpReset};
-use reset_list::{Tally, most_of};
+use reset_list::Tally;
 use std::alloc::{AllocError, Global};
 use view_text::put_field;
 
@@ -85,7 +85,7 @@ fn put_totals(out: &mut Vec<u8>, notes: &Notes) -> Result<(), AllocError>
 {
     put_field(out, b"resets ", notes.counts.resets)?;
     put_field(out, b" refused ", notes.counts.refused)?;
-    put_most(out, most_of(&notes.tallies))?;
+    put_most(out, notes.tallies.most())?;
     out.extend_from_slice(b"\n")?;
     Ok(())
 }

@@ -11,7 +11,7 @@ use crate::notes::Notes;
 use crate::record::{DumpFault, DumpReset};
 use bus_json::JsonText;
 use log_line::Origin;
-use reset_list::{ListShown, Tally, most_of, put_list};
+use reset_list::{ListShown, Tally, put_list};
 use self_id::Standard;
 use std::alloc::{AllocError, Global};
 
@@ -133,7 +133,7 @@ fn totals_line(alloc: Global, notes: &Notes) -> Result<Vec<u8>, AllocError>
     out.open_object()?;
     out.number_member("resets", notes.counts.resets)?;
     out.number_member("refused", notes.counts.refused)?;
-    put_most(&mut out, most_of(&notes.tallies))?;
+    put_most(&mut out, notes.tallies.most())?;
     out.close_object()?;
     let line = out.into_line()?;
     Ok(line)

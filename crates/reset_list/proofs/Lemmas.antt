@@ -16,4 +16,6 @@ pub use Rattle.reset_list.proofs.Shallow.{told_shallow}
 -- That a list is refused is that it is heard as no tree.
 pub use Rattle.reset_list.proofs.Heard.{none_is}
 -- A list with another item in place of the first that passes a test.
-pub use Rattle.reset_list.proofs.Update.{updated_at, updated_none}
+pub use Rattle.reset_list.proofs.Update.{first_nowhere, first_there, get_push, get_set, place_passes, place_within, updated_at, updated_none}
+pub use Rattle.reset_list.proofs.Places.{places_none, places_push, places_same, places_set}
+pub use Rattle.reset_list.proofs.Begun.{eq_number}

@@ -1,4 +1,6 @@
 pub mod Update
+pub mod Places
+pub mod Begun
 pub mod OneDrawing
 pub mod OneTree
 pub mod InOrder

@@ -1,5 +1,6 @@
 pub mod Form
 pub mod Update
+pub mod Places
 pub mod Counts
 pub mod Hear
 pub mod Texts
@@ -10,3 +11,4 @@ pub mod InOrder
 pub mod Answered
 pub mod Cause
 pub mod Wrote
+pub mod codings

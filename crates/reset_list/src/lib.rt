@@ -15,7 +15,7 @@ mod stop;
 mod texts;
 mod values;
 
-pub use counts::{Counts, Tally, count_begun, count_reset, most_of};
+pub use counts::{Counts, Tallies, Tally, count_reset};
 pub use form::LogForm;
 pub use shown::{ListShown, show_list};
 pub use stop::{LogStop, MAX_LOG};

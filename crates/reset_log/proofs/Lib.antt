@@ -1,4 +1,4 @@
-pub mod Update
+pub mod Kept
 pub mod Judged
 pub mod OneText
 pub mod Going

@@ -1,11 +1,16 @@
 //! The cards of a log, each with its last reset.
-ghost use Rattle.std.specs.Prelude.{◌≡◌, ◌<◌, length, position, map, Some, None, IfSome, OnOk};
+ghost use Rattle.std.specs.Prelude.{◌≡◌, ◌&&◌, ℕ, [], length, map, true, is_none, Some, None, OnOk};
 ghost use Rattle.std.specs.Option.{option_copied};
 ghost use Rattle.reset_log.specs.Noted.{is_of, last_of, same_origin, is_second, is_repeated, skipped, missing, between, since, compared, known_by, forgotten};
-ghost use Rattle.reset_list.specs.Update.{updated};
+ghost use Rattle.std.specs.BTreeSet.{contains};
+ghost use Rattle.std.specs.Ordering.{nat_cmp};
+ghost use Rattle.reset_list.specs.Update.{place_of, updated};
+ghost use Rattle.reset_log.specs.codings.Kept.{forgotten_at};
 
 use log_line::{Origin, Reset};
-use std::alloc::AllocError;
+use std::alloc::{AllocError, Global};
+use std::collections::{BTreeMap, BTreeSet};
+use std::marker::Model;
 use topology_stack::BusTree;
 
 /// A card, and its last reset.
@@ -23,18 +28,146 @@ pub struct Known {
     pub tree: Option<BusTree>,
 }
 
-/// The last reset of a card, if it had one.
-pub(crate) fn last_of(cards: &[Known], card: u64) -> Option<&Known>
-    ensures { option_copied result ≡ last_of card cards.now }
-{
-    let mut rest = cards;
-    while let [first, behind @ ..] = rest {
-        if first.card == card {
-            return Some(first);
+/// The cards of a log, in the order of their first resets. In a contract they are the list of them.
+#[derive(Drop)]
+pub(crate) struct Cards {
+    known: Vec<Known>,
+    /// Where each card stands.
+    places: BTreeMap<u64, usize>,
+    /// Where the cards stand that may have a tree.
+    drawn: BTreeSet<usize>,
+}
+
+impl Model for Cards {
+    ghost use Rattle.std.specs.Prelude.{List};
+    ghost use Rattle.reset_log.specs.declared.cards.Known.{Known};
+    ghost use Rattle.std.specs.Coded.{codes};
+    ghost use Rattle.topology_stack.specs.contracts.tree.BusTree as bus_tree;
+    ghost use Rattle.reset_log.specs.codings.Kept.{AreKept};
+
+    ghost Value = { List Known };
+
+    ghost coded = { Prim.hlevel (codes, bus_tree.the_row.coded) };
+
+    ghost view = { λ c. c.known.items };
+
+    ghost invariant = { λ c. AreKept c.places c.drawn c.known.items };
+}
+
+impl Cards {
+    /// No cards.
+    pub(crate) fn new(alloc: Global) -> Cards
+        ensures { result ≡ [] }
+    {
+        Cards {
+            known: Vec::new(alloc),
+            places: BTreeMap::new(alloc),
+            drawn: BTreeSet::new(alloc),
         }
-        rest = behind;
     }
-    None
+
+    /// How many they are.
+    pub(crate) fn len(&self) -> usize
+        ensures { result ≡ length self.now }
+    {
+        self.known.len()
+    }
+
+    /// The place of a card.
+    fn place(&self, card: u64) -> Option<usize>
+        ensures { result ≡ place_of (is_of card) self.now }
+    {
+        self.places.get(&card).copied()
+    }
+
+    /// The last reset of a card, if it had one.
+    pub(crate) fn last_of(&self, card: u64) -> Option<&Known>
+        ensures { option_copied result ≡ last_of card self.now }
+    {
+        match self.place(card) {
+            Some(at) => Some(&self.known[at]),
+            None => None,
+        }
+    }
+
+    /// Keeps a reset as the last one of the card that stands at this place.
+    fn keep_at(
+        &mut self,
+        at: usize,
+        reset: &Reset,
+        heard: Option<BusTree>,
+    ) -> Result<(), AllocError>
+        requires { place_of (is_of reset.now.card) self.old ≡ Some at }
+        ensures { OnOk result (self.new
+            ≡ updated (is_of reset.now.card) (known_by reset.now heard) self.old) }
+    {
+        let wanted = is_first_tree(&self.known[at], heard.is_some());
+        add_if(&mut self.drawn, at, wanted)?;
+        note(&mut self.known[at], reset, heard);
+        Ok(())
+    }
+
+    /// Keeps the first reset of a card.
+    fn begin(&mut self, reset: &Reset, heard: Option<BusTree>) -> Result<(), AllocError>
+        requires { place_of (is_of reset.now.card) self.old ≡ None }
+        ensures { OnOk result (self.new
+            ≡ updated (is_of reset.now.card) (known_by reset.now heard) self.old) }
+    {
+        let at = self.known.len();
+        add_if(&mut self.drawn, at, heard.is_some())?;
+        self.known.reserve(1)?;
+        self.places.insert(reset.card, at)?;
+        self.known.push_reserved(first(reset, heard));
+        Ok(())
+    }
+
+    /// Keeps a reset as the last one of its card, and the tree that it is heard as, if it is.
+    pub(crate) fn keep(&mut self, reset: &Reset, heard: Option<BusTree>) -> Result<(), AllocError>
+        ensures { OnOk result (self.new
+            ≡ updated (is_of reset.now.card) (known_by reset.now heard) self.old) }
+    {
+        match self.place(reset.card) {
+            Some(at) => self.keep_at(at, reset, heard),
+            None => self.begin(reset, heard),
+        }
+    }
+
+    /// Forgets the tree of each card.
+    pub(crate) fn forget_all(&mut self)
+        ensures { self.new ≡ map forgotten self.old }
+    {
+        while let Some(at) = self.drawn.pop_last() {
+            forget_at(&mut self.known, at);
+        }
+    }
+}
+
+/// Whether a card without a tree gets one, since its reset was heard.
+fn is_first_tree(known: &Known, is_heard: bool) -> bool
+    ensures { result ≡ is_heard && is_none known.now.tree }
+{
+    is_heard && known.tree.is_none()
+}
+
+/// Puts a place among others, if it is wanted there.
+fn add_if(places: &mut BTreeSet<usize>, at: usize, wanted: bool) -> Result<(), AllocError>
+    ensures there { OnOk result (wanted ≡ true → contains nat_cmp places.new at ≡ true) }
+    ensures others { (other : ℕ) → contains nat_cmp places.old other ≡ true →
+        contains nat_cmp places.new other ≡ true }
+{
+    if wanted {
+        places.insert(at)?;
+    }
+    Ok(())
+}
+
+/// Forgets the tree of the card at a place, if one stands there.
+fn forget_at(cards: &mut Vec<Known>, at: usize)
+    ensures { cards.new.items ≡ forgotten_at at cards.old.items }
+{
+    if at < cards.len() {
+        cards[at].tree = None;
+    }
 }
 
 fn same_origin(a: Origin, b: Origin) -> bool
@@ -136,14 +269,6 @@ pub(crate) fn compared<'k>(before: Option<&'k Known>, reset: &Reset) -> Option<&
     }
 }
 
-/// The place of a card.
-fn place(cards: &[Known], card: u64) -> Option<usize>
-    ensures value { result ≡ position (is_of card) cards.now }
-    ensures within { IfSome result (λ at. at < length cards.now) }
-{
-    cards.iter().position(|known| known.card == card)
-}
-
 /// Notes the reset that is there behind another one of its card.
 fn note(known: &mut Known, reset: &Reset, heard: Option<BusTree>)
     ensures { known.new ≡ known_by reset.now heard (Some known.old) }
@@ -172,36 +297,5 @@ fn first(reset: &Reset, heard: Option<BusTree>) -> Known
         time: reset.time,
         is_heard: heard.is_some(),
         tree: heard,
-    }
-}
-
-/// Keeps a reset as the last one of its card, and the tree that it is heard as, if it is.
-#[tactic(auto, using(crate::proofs::Update::updated_at, crate::proofs::Update::updated_none))]
-pub(crate) fn keep(
-    cards: &mut Vec<Known>,
-    reset: &Reset,
-    heard: Option<BusTree>,
-) -> Result<(), AllocError>
-    ensures { OnOk result (cards.new.items
-        ≡ updated (is_of reset.now.card) (known_by reset.now heard) cards.old.items) }
-{
-    match place(cards, reset.card) {
-        Some(at) => {
-            note(&mut cards[at], reset, heard);
-            Ok(())
-        }
-        None => {
-            cards.push(first(reset, heard))?;
-            Ok(())
-        }
-    }
-}
-
-/// Forgets the tree of each card.
-pub(crate) fn forget_all(cards: &mut Vec<Known>)
-    ensures { cards.new.items ≡ map forgotten cards.old.items }
-{
-    for at in 0..cards.len() {
-        cards[at].tree = None;
     }
 }

@@ -8,7 +8,7 @@ use crate::cards::{Known, missing, since};
 use crate::device::put_card;
 use crate::notes::{Notes, Pending};
 use log_line::Reset;
-use reset_list::{Tally, most_of};
+use reset_list::Tally;
 use std::alloc::{AllocError, Global};
 use view_text::put_field;
 
@@ -214,7 +214,7 @@ pub(crate) fn last_line(alloc: Global, notes: &Notes) -> Result<Vec<u8>, AllocEr
     put_field(&mut text, b"resets ", notes.counts.resets)?;
     put_field(&mut text, b" refused ", notes.counts.refused)?;
     put_field(&mut text, b" cards ", notes.cards.len() as u64)?;
-    put_most(&mut text, most_of(&notes.tallies))?;
+    put_most(&mut text, notes.tallies.most())?;
     text.extend_from_slice(b"\n")?;
     Ok(text)
 }

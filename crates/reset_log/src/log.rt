@@ -33,7 +33,7 @@ const MAX_LINE: usize = 65536;
 const PIECE: usize = 65536;
 
 /// A reader of a log. It keeps the line that isn't whole yet, and what is noted of the log.
-#[derive(Debug, Drop)]
+#[derive(Drop)]
 pub(crate) struct LogReader {
     form: LogForm,
     notes: Notes,

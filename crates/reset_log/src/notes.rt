@@ -5,10 +5,10 @@ ghost use Rattle.reset_log.specs.Noted.{nothing, after, behind_loss, waiting, be
 ghost use Rattle.reset_list.specs.Counts.{tallied_by};
 ghost use Rattle.reset_log.specs.Notes.{noted};
 
-use crate::cards::{Known, forget_all, is_second, keep, last_of};
+use crate::cards::{Cards, is_second};
 use log_line::{Begun, Origin, Reset};
 use quad_lanes::QuadList;
-use reset_list::{Counts, Tally, count_begun, count_reset};
+use reset_list::{Counts, Tallies, count_reset};
 use std::alloc::{AllocError, Global};
 use topology_stack::BusTree;
 
@@ -39,11 +39,11 @@ impl Pending {
 }
 
 /// The cards of a log, each with its last reset, and what is counted.
-#[derive(Debug, Drop)]
+#[derive(Drop)]
 pub(crate) struct Notes {
-    pub(crate) cards: Vec<Known>,
+    pub(crate) cards: Cards,
     pub(crate) counts: Counts,
-    pub(crate) tallies: Vec<Tally>,
+    pub(crate) tallies: Tallies,
     pub(crate) pending: Option<Pending>,
 }
 
@@ -53,26 +53,26 @@ impl Notes {
         ensures { noted result ≡ nothing }
     {
         Notes {
-            cards: Vec::new(alloc),
+            cards: Cards::new(alloc),
             counts: Counts {
                 resets: 0,
                 refused: 0,
             },
-            tallies: Vec::new(alloc),
+            tallies: Tallies::new(alloc),
             pending: None,
         }
     }
 
     /// Counts the nodes that began a reset, where its tree was heard.
     fn tally(&mut self, reset: &Reset, heard: Option<&BusTree>) -> Result<(), AllocError>
-        ensures tallies { OnOk result (self.new.tallies.items
-            ≡ tallied_by reset.now.card (option_copied heard.entry) self.old.tallies.items) }
+        ensures tallies { OnOk result (self.new.tallies
+            ≡ tallied_by reset.now.card (option_copied heard.entry) self.old.tallies) }
         ensures cards { self.new.cards ≡ self.old.cards }
         ensures counts { self.new.counts ≡ self.old.counts }
         ensures pending { self.new.pending ≡ self.old.pending }
     {
         match heard {
-            Some(tree) => count_begun(&mut self.tallies, reset.card, tree),
+            Some(tree) => self.tallies.count_begun(reset.card, tree),
             None => Ok(()),
         }
     }
@@ -86,10 +86,10 @@ impl Notes {
     ) -> Result<(), AllocError>
         ensures { OnOk result (noted self.new ≡ after (noted self.old) reset.now heard refused) }
     {
-        let second = is_second(last_of(&self.cards, reset.card), reset);
+        let second = is_second(self.cards.last_of(reset.card), reset);
         self.tally(reset, heard.as_ref())?;
         count_reset(&mut self.counts, second, refused);
-        keep(&mut self.cards, reset, heard)
+        self.cards.keep(reset, heard)
     }
 
     /// Takes the reset that waits for its packets.
@@ -139,6 +139,6 @@ impl Notes {
     pub(crate) fn forget(&mut self)
         ensures { noted self.new ≡ behind_loss (noted self.old) }
     {
-        forget_all(&mut self.cards);
+        self.cards.forget_all();
     }
 }

@@ -7,7 +7,7 @@ ghost use Rattle.reset_log.specs.Noted.{last_of, waiting, taken_by};
 ghost use Rattle.reset_log.specs.Notes.{noted};
 ghost use Rattle.reset_log.specs.Shown.{IsJudged, unjudged_text, garbled_text, lost_text, told_text, totals_text, IsResetShown, IsPendingShown, IsBegunShown, IsPacketShown, IsLineShown};
 
-use crate::cards::{Known, compared, is_repeated, last_of};
+use crate::cards::{Known, compared, is_repeated};
 use crate::heads::{last_line, put_garbled, put_head, put_lost, put_told, put_unjudged};
 use crate::notes::Notes;
 use crate::values::{garbled_line, lost_line, reset_line, told_line, totals_lines, unjudged_line};
@@ -138,11 +138,11 @@ fn show_reset(
     reset: &Reset,
 ) -> Result<Shown, AllocError>
     ensures shown { IfOk result (λ shown. IsResetShown form number
-        (last_of reset.now.card notes.old.cards.items) (noted notes.old) reset.now
+        (last_of reset.now.card notes.old.cards) (noted notes.old) reset.now
         shown.text.items shown.bad (noted notes.new)) }
     ensures json { IfOk result (λ shown. IfJson form (AreJsonLines shown.text.items)) }
 {
-    let before = last_of(&notes.cards, reset.card);
+    let before = notes.cards.last_of(reset.card);
     if is_repeated(before, reset) {
         return Ok(Shown {
             text: Vec::new(alloc),

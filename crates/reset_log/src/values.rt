@@ -15,7 +15,7 @@ use crate::device::put_device;
 use crate::notes::{Notes, Pending};
 use bus_json::JsonText;
 use log_line::{DEVICES, Reset};
-use reset_list::{ListShown, Tally, most_of, put_list};
+use reset_list::{ListShown, Tally, put_list};
 use self_id::Standard;
 use std::alloc::{AllocError, Global};
 use std::str;
@@ -271,7 +271,7 @@ fn totals_line(alloc: Global, notes: &Notes) -> Result<Vec<u8>, AllocError>
     out.number_member("resets", notes.counts.resets)?;
     out.number_member("refused", notes.counts.refused)?;
     out.number_member("cards", notes.cards.len() as u64)?;
-    put_most(alloc, &mut out, most_of(&notes.tallies))?;
+    put_most(alloc, &mut out, notes.tallies.most())?;
     out.close_object()?;
     let line = out.into_line()?;
     Ok(line)

@@ -14,8 +14,7 @@ returns-clause-line c =
     simp (
       c.in_ok-close_object.ensures,
       c.in_ok-put_most.ensures,
-      c.most_of.ensures,
-      c.deref.ensures.value,
+      c.most.ensures,
       c.in_ok-number_member-2.ensures,
       c.in_ok-number_member.ensures,
       c.in_ok-open_object.ensures,
@@ -32,8 +31,7 @@ returns-clause-json c =
     simp (
       c.in_ok-close_object.ensures,
       c.in_ok-put_most.ensures,
-      c.most_of.ensures,
-      c.deref.ensures.value,
+      c.most.ensures,
       c.in_ok-number_member-2.ensures,
       c.in_ok-number_member.ensures,
       c.in_ok-open_object.ensures,

@@ -11,7 +11,7 @@ use Rattle.reset_log.proofs.shown.show_reset.Goals as goal
 pub returns-clause-shown : goal.returns-clause-shown
 returns-clause-shown c =
     subst (λ (b : Option Known). IsResetShown c.args.form c.args.number b (noted c.args.notes.now) c.args.reset.now c.in_ok-text-2.field-0.text.items c.is_none-bad.result (noted c.keep-2.new.self))
-    (rw (c.deref.ensures.value) at c.last_of-before.ensures)
+    c.last_of-before.ensures
     (judged c.args.form c.args.number (option_copied c.last_of-before.result) (noted c.args.notes.now) (noted c.keep-2.new.self) c.args.reset.now _ c.in_ok-text-2.field-0.tree c.is_none-bad.result
     (sym c.is_repeated.ensures ∙ c.if-is_repeated.false) c.if-reset.false c.in_ok-text-2.ensures.judged (none_is _ _ c.is_none-bad.ensures) c.in_ok-keep-2.ensures)
 

@@ -5,7 +5,7 @@ use Rattle.topology_stack.specs.Tree.{walk}
 use Rattle.reset_list.specs.declared.counts.Tally.{Tally}
 use Rattle.reset_list.specs.Counts.{tallied_if, tallied}
 use Rattle.quad_lanes.proofs.Lemmas.{at_drop, item_at}
-use Rattle.reset_list.proofs.counts.count_begun.Goals as goal
+use Rattle.reset_list.proofs.counts.Tallies.count_begun.Goals as goal
 
 step : (card id : ℕ) (flag : Bool) (ns : List Node) (n : Node) (old new whole : List Tally) →
     slice_get ns id ≡ Some n → flag ≡ n.attrs.initiated → new ≡ tallied_if flag card id old →
@@ -17,4 +17,4 @@ step card id flag ns n old new whole at is e h =
 pub loop-id-preserved : goal.loop-id-preserved
 loop-id-preserved c =
     let x = item_at (walk c.args.tree.now) c.loop-id.id (omega (arith, c.len-id-end.ensures.value)) in
-    step c.args.card c.loop-id.id c.initiated.result (walk c.args.tree.now) x.0 c.loop-id.tallies.items c.add_if.new.tallies.items _ x.1 (c.initiated.ensures x.0 x.1) c.in_ok-add_if.ensures c.loop-id.invariant
+    step c.args.card c.loop-id.id c.initiated.result (walk c.args.tree.now) x.0 c.loop-id.self c.add_if.new.self _ x.1 (c.initiated.ensures x.0 x.1) c.in_ok-add_if.ensures c.loop-id.invariant
