@@ -1,21 +1,9 @@
 -- How the top call ends.
-use Rattle.std.proofs.Common.{Result, Ok, Err, ◌≡◌, refl, ℕ, inl, inr, List, Option, Some, None, sym, ap, subst, ◌∙◌}
+use Rattle.std.proofs.Common.{Result, Ok, Err, ◌≡◌, refl, ℕ, inl, inr, List, Option, Some, None, sym, subst}
 use Rattle.std.specs.Prelude.{String, IfOk}
 use Rattle.std.specs.declared.alloc.AllocError.{AllocError}
 use Rattle.std.specs.Global.{Global}
-use Rattle.std.proofs.lemmas.List.Elements.{All-weaker}
 use Rattle.topology_stack.specs.Tree.{Tree}
-use Rattle.cable_world.specs.Run.{IsReached}
-use Rattle.world_laws.specs.WiringSlots.{ListsAreEmitted, SettledListsAreEmitted}
-use Rattle.script_lines.specs.declared.kind.ScriptFault.{ScriptFault}
-use Rattle.script_told.specs.Bus.{Bus}
-use Rattle.script_told.specs.Reached.{world_of, ScriptWorldsAreReached}
-use Rattle.script_told.specs.Run.{Entry, printed, unless_stopped, IsResult}
-use Rattle.script_told.specs.EachReport.{ReportsAreSettled}
-use Rattle.script_told.specs.ScriptEvents.{ScriptsAreRuns}
-use Rattle.script_told.specs.EachPlan.{EachPlanComesOut}
-use Rattle.script_bus.specs.EachConfig.{EachConfigComesOut}
-use Rattle.script_bus.specs.EachWaiting.{EachWaitingNodeBecomesRoot}
 use Rattle.capture_reading.specs.declared.fault.CaptureFault.{CaptureFault}
 use Rattle.capture_reading.specs.declared.fault.CaptureStop.{CaptureStop}
 use Rattle.bus_cli.specs.declared.answer.Answer.{Answer}
@@ -28,7 +16,6 @@ use Rattle.capture_reading.specs.Capture.{Spells, CaptureRefused}
 use Rattle.capture_reading.specs.Line.{fault_line}
 use Rattle.bus_cli.specs.codings.Reading.{IsReadAs, IsTextIn, status_with, text_with}
 use Rattle.bus_cli.specs.Answer.{AnswersForm, Answers}
-use Rattle.script_run.specs.Answer.{PrintsRun}
 use Rattle.io_edges.specs.Streams.{IsWritten}
 use Rattle.top_call.proofs.Lemmas.{of_asked}
 use Rattle.bus_cli.proofs.Forms.{one_form}
@@ -58,40 +45,6 @@ pub stopped :
     IfOk r (λ a. (bytes : List ℕ) → IsReadAs (standard_of form) bytes reading → AnswersForm (Capture form) bytes (status_with a) (text_with a))
 stopped form reading stop (Ok a) is h = λ bytes reads. h form bytes (subst (λ (x : Result Tree CaptureStop). IsReadAs (standard_of form) bytes x) is reads)
 stopped form reading stop (Err e) is h = tt
-
--- ---- scripts
-
--- a text that a script tells is what its run prints
-pub told_prints :
-    ReportsAreSettled → ScriptsAreRuns → EachPlanComesOut → EachConfigComesOut →
-    EachWaitingNodeBecomesRoot → ScriptWorldsAreReached → SettledListsAreEmitted → (bytes text : List ℕ) →
-    IsResult bytes (Ok text) → PrintsRun bytes text
-told_prints settled runs plans configs waiting reached emitted bytes text x = go x.0.end refl
-  where
-    go : (end : Result Bus ScriptFault) → x.0.end ≡ end → PrintsRun bytes text
-    go (Ok bus) e = record {
-      run = x.0;
-      is = x.1;
-      bus = bus;
-      ends = e;
-      text_is = same text (printed x.0.entries) (x.2 ∙ ap (unless_stopped (printed x.0.entries)) e);
-      settled = settled bytes x.0 x.1;
-      runs = runs bytes x.0 x.1;
-      plans = plans bytes x.0 x.1;
-      configs = configs bytes x.0 x.1;
-      waiting = waiting bytes x.0 x.1;
-      lists =
-          All-weaker (λ (e : Entry). IsReached (world_of e.before) × IsReached (world_of e.after))
-          (λ (e : Entry). ListsAreEmitted (world_of e.after)) (λ e h. emitted (world_of e.after) h.1) x.0.entries
-          (reached bytes x.0 x.1);
-    }
-      where
-        same : (a b : List ℕ) → ◌≡◌ {A = Result (List ℕ) ScriptFault} (Ok a) (Ok b) → a ≡ b
-        same a b f = cc
-    go (Err f) e = absurd (apart text f (x.2 ∙ ap (unless_stopped (printed x.0.entries)) e))
-      where
-        apart : (a : List ℕ) (g : ScriptFault) → ◌≡◌ {A = Result (List ℕ) ScriptFault} (Ok a) (Err g) → ⊥
-        apart a g h = absurd cc
 
 -- ---- words
 

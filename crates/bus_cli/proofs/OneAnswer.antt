@@ -41,8 +41,8 @@ use Rattle.script_run.specs.Line.{script_line}
 use Rattle.capture_reading.specs.OneReading.{EachCaptureHasATreeOrAFault, NoCaptureHasTwoTrees, NoCaptureHasATreeAndAFault, NoCaptureHasTwoFaults}
 use Rattle.bus_cli.specs.Answer.{AnswersMaps, TellsRom, HasRomFault, TextOfRom, AnswersRom, AnswersForm}
 use Rattle.capture_reading.specs.Answer.{ValidOrRefused, IsCaptureLine, AnswersRead}
-use Rattle.script_run.specs.Answer.{PrintsRun, AnswersRun, AnswersAdvice, AnswersMake}
-use Rattle.bus_cli.specs.OneAnswer.{EachInputHasAnAnswer, NoInputHasTwoAnswers, ToldTextsArePrinted}
+use Rattle.script_run.specs.Answer.{PrintsRun, AnswersRun, AnswersAdvice, AnswersMake, ToldTextsArePrinted}
+use Rattle.bus_cli.specs.OneAnswer.{EachInputHasAnAnswer, NoInputHasTwoAnswers}
 use Rattle.top_call.proofs.Lemmas.{each_answered, none_twice}
 use Rattle.bus_cli.proofs.Forms.{one_form, form_or_none}
 

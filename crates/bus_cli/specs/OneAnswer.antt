@@ -1,9 +1,7 @@
 -- All words and bytes have one status and one text.
-use Rattle.std.specs.Prelude.{◌≡◌, ℕ, ◌<◌, All, List, String, Ok}
+use Rattle.std.specs.Prelude.{◌≡◌, ℕ, ◌<◌, All, List, String}
 use Rattle.std.specs.Global.{Global}
-use Rattle.script_told.specs.Run.{IsResult}
 use Rattle.bus_cli.specs.Answer.{Answers}
-use Rattle.script_run.specs.Answer.{PrintsRun}
 
 abbrev pub EachInputHasAnAnswer : Type 0
 EachInputHasAnAnswer =
@@ -14,8 +12,3 @@ abbrev pub NoInputHasTwoAnswers : Type 0
 NoInputHasTwoAnswers =
     (words : List (String Global)) (bytes : List ℕ) (s r : ℕ) (a b : List ℕ) →
     Answers words bytes s a → Answers words bytes r b → (s ≡ r) × (a ≡ b)
-
--- the text that a script tells is what its run prints
-abbrev pub ToldTextsArePrinted : Type 0
-ToldTextsArePrinted =
-    (bytes text : List ℕ) → IsResult bytes (Ok text) → PrintsRun bytes text

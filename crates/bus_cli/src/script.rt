@@ -6,7 +6,6 @@ ghost use Rattle.script_run.specs.Answer.{PrintsRun, AnswersRun, AnswersAdvice, 
 ghost use Rattle.bus_cli.specs.codings.Reading.{status_with, text_with};
 
 use crate::answer::Answer;
-use crate::laws::told_texts_are_printed;
 use quad_lanes::OutOfMemory;
 use script_lines::ScriptStop;
 use script_made::{made_scripts_have_no_fault, make_script};
@@ -20,7 +19,6 @@ pub(crate) fn answer_to_script(alloc: Global, bytes: &[u8]) -> Result<Answer, Ou
     ensures { IfOk result (λ answer.
         AnswersRun bytes.now (status_with answer) (text_with answer)) }
 {
-    told_texts_are_printed();
     match run_script(alloc, bytes) {
         Ok(text) => Ok(Answer::Valid(text)),
         Err(ScriptStop::Fault(fault)) => Ok(Answer::Refused(script_line(fault))),
@@ -49,7 +47,6 @@ fn made_summary(alloc: Global, nodes: u8, seed: u32) -> Result<Vec<u8>, OutOfMem
         × PrintsRun (made_script nodes seed) whole × (text.items ≡ summary whole)) }
 {
     made_scripts_have_no_fault();
-    told_texts_are_printed();
     let script = make_script(alloc, nodes, seed)?;
     match run_script(alloc, &script) {
         Ok(text) => summary(alloc, &text),

@@ -1,6 +1,6 @@
 -- What a call answers that runs a script.
 -- Statuses: 0 ok, 1 refused, 2 no memory, 3 too short, 8 too long, 9 no name.
-use Rattle.std.specs.Prelude.{◌≡◌, ℕ, List, Ok}
+use Rattle.std.specs.Prelude.{◌≡◌, ℕ, List, Ok, Err}
 use Rattle.quad_lanes.specs.Capture.{capture}
 use Rattle.script_run.specs.Listed.{IsListed}
 use Rattle.script_lines.specs.declared.kind.ScriptFault.{ScriptFault}
@@ -22,6 +22,14 @@ pub data TellsScript (HasText : List ℕ → Type 0) (HasFault : ScriptFault →
       TellsScript HasText HasFault before after needed_before needed fault_before fault status
   no_memory : after ≡ before → needed ≡ needed_before → fault ≡ fault_before → status ≡ 2 →
       TellsScript HasText HasFault before after needed_before needed fault_before fault status
+
+-- this is told, a text or a fault
+abbrev pub TellsThis :
+    ScriptResult → List ℕ → List ℕ → ℕ → ℕ → ScriptFaultRecord → ScriptFaultRecord → ℕ → Type 0
+TellsThis (Ok text) before after needed_before needed fault_before fault status =
+    IsCopied text before after needed status × (fault ≡ fault_before)
+TellsThis (Err f) before after needed_before needed fault_before fault status =
+    (fault ≡ fault_record f) × (after ≡ before) × (needed ≡ needed_before) × (status ≡ 1)
 
 -- a script of more than 1,048,576 bytes isn't looked at
 abbrev pub IsTooLong :
@@ -45,7 +53,3 @@ pub record HasCapture (bytes name text : List ℕ) : Type 0 where
   pub list : List ℕ
   pub listed : IsListed bytes name (Ok list)
   pub text_is : text ≡ capture list
-
--- there is one thing at most that a script tells so
-abbrev pub IsOneThing : (ScriptResult → Type 0) → Type 0
-IsOneThing Tells = (one other : ScriptResult) → Tells one → Tells other → one ≡ other

@@ -40,6 +40,11 @@ pub record PrintsRun (bytes text : List ℕ) : Type 0 where
   pub waiting : WaitingNodesBecomeRoots run
   pub lists : EachListIsEmitted run
 
+-- the text that a script tells is what its run prints
+abbrev pub ToldTextsArePrinted : Type 0
+ToldTextsArePrinted =
+    (bytes text : List ℕ) → IsResult bytes (Ok text) → PrintsRun bytes text
+
 -- `run`
 abbrev pub AnswersRun : List ℕ → ℕ → List ℕ → Type 0
 AnswersRun bytes = ValidOrRefused (PrintsRun bytes)

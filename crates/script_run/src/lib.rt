@@ -15,7 +15,7 @@ mod run;
 mod script;
 mod stage;
 
-pub use laws::scripts_have_one_view;
+pub use laws::{scripts_have_one_view, told_texts_are_printed};
 pub use line::{kind_word, script_line};
 pub use readings::{
     advise_script, dump_script, graph_script, json_script, list_script, run_script, trace_script,

@@ -7,12 +7,13 @@ ghost use Rattle.script_told.specs.Run.{IsResult};
 ghost use Rattle.script_advice.specs.Advice.{IsAdvice, EndsWithoutLoop};
 ghost use Rattle.script_trace.specs.Trace.{IsTrace};
 ghost use Rattle.script_trace.specs.waves.Waves.{IsWaves};
+ghost use Rattle.script_run.specs.Answer.{PrintsRun};
 ghost use Rattle.script_run.specs.Answered.{StopsWith, IsRefused, IsAdviceRefused, IsOnlyFault};
 ghost use Rattle.script_run.specs.Listed.{IsListed};
 ghost use Rattle.script_run.specs.Viewed.{IsPictured, AreReported, AreReadBack, IsReadAfter};
 ghost use Rattle.script_run.specs.codings.Reading.{advice_of_fault, end_of_fault, list_of_fault};
 
-use crate::laws::scripts_have_one_view;
+use crate::laws::{scripts_have_one_view, told_texts_are_printed};
 use crate::reading::{Hearer, Reading, Writer, read_script};
 use crate::stage::Stage;
 use script_advice::{advices_leave_no_loop, scripts_have_one_advice};
@@ -131,6 +132,8 @@ impl Reading for Printing {
 
     ghost refuses = { λ _. IsResult };
 
+    ghost shows = { λ _. PrintsRun };
+
     fn tell(
         self,
         _alloc: Global,
@@ -138,6 +141,7 @@ impl Reading for Printing {
         text: Vec<u8>,
         heard: Silent,
     ) -> Result<Vec<u8>, LineStop> {
+        told_texts_are_printed();
         Ok(text)
     }
 
@@ -158,6 +162,7 @@ impl Reading for Printing {
 pub fn run_script(alloc: Global, bytes: &[u8]) -> Result<Vec<u8>, ScriptStop>
     requires { length bytes.now ≤ 1048576 }
     ensures told { IfOk result (λ text. IsResult bytes.now (Ok text.items)) }
+    ensures printed { IfOk result (λ text. PrintsRun bytes.now text.items) }
     ensures refused { IfErr result (IsRefused bytes.now) }
     ensures only { IfOk result (λ text. (told : ScriptResult) → IsResult bytes.now told
         → told ≡ Ok text.items) }

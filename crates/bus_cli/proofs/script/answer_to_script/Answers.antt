@@ -2,8 +2,7 @@ use Rattle.std.proofs.Common.{inl, inr, refl}
 use Rattle.bus_cli.proofs.script.answer_to_script.Goals as goal
 
 pub returns-in-Ok : goal.returns-in-Ok
-returns-in-Ok c =
-    inl (refl, c.told_texts_are_printed.ensures c.args.bytes.now c.in-Ok.text.items c.in-Ok.ensures.told)
+returns-in-Ok c = inl (refl, c.in-Ok.ensures.printed)
 
 pub returns-in-Err-Fault : goal.returns-in-Err-Fault
 returns-in-Err-Fault c =
