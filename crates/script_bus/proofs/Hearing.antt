@@ -1,20 +1,24 @@
 -- What is heard of commands.
 use Rattle.std.proofs.Common.{◌≡◌, ◌++◌, ◌+◌, ℕ, List, [], Bool, false, Some, refl, sym, ◌∙◌, ap, subst}
-use Rattle.std.specs.Prelude.{Ok, Err, MatchBool, nat_lt}
+use Rattle.std.specs.Prelude.{Option, None, Ok, Err, MatchBool, nat_lt}
 use Rattle.std.proofs.lemmas.List.{append-nil, append_assoc}
 use Rattle.cable_world.specs.World.{CableWorld}
 use Rattle.cable_world.specs.Turn.{turns_after}
 use Rattle.root_plan.specs.declared.choice.RootPlan.{RootPlan}
+use Rattle.settle.specs.declared.report.Report.{Report}
 use Rattle.settle.specs.Report.{IsReport, quiet_turns_of}
 use Rattle.script_lines.specs.declared.kind.Kind.{Kind}
 use Rattle.script_lines.specs.declared.command.Command.{Command}
 use Rattle.script_lines.specs.declared.command.Command.TheVariants.{Plug, Pull, Reset, Config, Hold}
-use Rattle.script_text.specs.ReportText.{IsReportText}
+use Rattle.script_text.specs.ReportText.{IsNamedReport, IsReportText}
+use Rattle.script_text.specs.OneText.{ReportsHaveOneText}
+use Rattle.script_text.specs.SomeText.{NamedReportsHaveTexts}
 use Rattle.script_told.specs.Bus.{Notes, Bus}
 use Rattle.script_told.specs.Step.{LineAnswer, Reports, DoesSettle, notes_after_report}
 use Rattle.script_trace.specs.Voice.{Legend, legend_of, Voice}
 use Rattle.script_trace.specs.Trace.{act_trace, quiet_trace, Traces}
 use Rattle.script_bus.specs.Heard.{Hears}
+use Rattle.script_bus.specs.Viewed.{IsTextIn, IsTextOf}
 use Rattle.script_bus.specs.codings.Standing.{IsQuestion, IsReportedNow, IsPassed, IsPacketSent, IsSentHeard}
 
 -- ---- lines
@@ -48,17 +52,33 @@ question-hears voice bus after command out asks = record {
 
 -- ---- reports
 
+-- the report has a text, though it isn't made
 pub reports-now :
-    (sent passed after : Bus) (text : List ℕ) →
+    NamedReportsHaveTexts → (sent passed after : Bus) →
     passed.world ≡ turns_after (quiet_turns_of sent.world) sent.world → passed.notes ≡ sent.notes →
-    IsReportedNow passed after text → Reports sent (Ok (after, text))
-reports-now sent passed after text quiet notes r = (
-  r.report,
-  r.same ∙ quiet,
-  subst (λ (w : CableWorld). IsReport w r.report) (sym r.same) r.is,
-  r.notes ∙ ap (λ (n : Notes). notes_after_report n r.report) notes,
-  subst (λ (n : Notes). IsReportText n.names after.notes.reports r.report text) notes r.text_is,
-)
+    IsReportedNow passed after → (text : List ℕ) × Reports sent (Ok (after, text))
+reports-now have sent passed after quiet notes r =
+    let named = subst (λ (n : Notes). IsNamedReport n.names r.report) notes r.named in
+    let text = have sent.notes.names after.notes.reports r.report named in
+    let is = subst (λ (w : CableWorld). IsReport w r.report) (sym r.same) r.is in
+    (text.text, (r.report, r.same ∙ quiet, is, r.notes ∙ ap (λ (n : Notes). notes_after_report n r.report) notes, text.is))
+
+-- the bus that was reported has this text
+pub reported-text : (bus after : Bus) (text : List ℕ) → Reports bus (Ok (after, text)) → IsTextOf after text
+reported-text bus after text r =
+    subst (λ (n : Notes). IsTextIn n text) (sym r.3)
+    (subst (λ (number : ℕ). IsReportText bus.notes.names number r.0 text) (ap (λ (n : Notes). n.reports) r.3) r.4)
+
+-- and no other
+pub one-text : ReportsHaveOneText → (bus : Bus) (a b : List ℕ) → IsTextOf bus a → IsTextOf bus b → a ≡ b
+one-text one bus a b = by bus.notes.report
+  where
+    in-notes : Option Report → List ℕ → Type 0
+    in-notes o text = IsTextIn (record bus.notes { report = o }) text
+
+    by : (o : Option Report) → in-notes o a → in-notes o b → a ≡ b
+    by None x y = x ∙ sym y
+    by (Some report) x y = one bus.notes.names bus.notes.reports report a b x y
 
 -- within the limit of turns
 pub settles-within :

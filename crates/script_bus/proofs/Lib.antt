@@ -12,3 +12,4 @@ pub mod FollowOn
 pub mod EachConfig
 pub mod EachMaps
 pub mod EachWaiting
+pub mod Lemmas

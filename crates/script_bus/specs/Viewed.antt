@@ -1,9 +1,21 @@
--- The last report of a script's bus as a picture and as data.
+-- The last report of a script's bus as a text, as a picture and as data.
 use Rattle.std.specs.Prelude.{◌≡◌, ℕ, List, [], Option, None, Some}
 use Rattle.settle.specs.declared.report.Report.{Report}
-use Rattle.script_told.specs.Bus.{Bus}
+use Rattle.script_text.specs.ReportText.{IsReportText}
+use Rattle.script_told.specs.Bus.{Notes, Bus}
 use Rattle.report_views.specs.ReportGraph.{IsReportGraph}
 use Rattle.report_views.specs.ReportJson.{IsReportLine, IsReadLine}
+
+-- the text of the last report, and nothing where an act came since
+abbrev pub IsTextIn : Notes → List ℕ → Type 0
+IsTextIn notes text = of_report notes.report
+  where
+    of_report : Option Report → Type 0
+    of_report None = text ≡ []
+    of_report (Some report) = IsReportText notes.names notes.reports report text
+
+abbrev pub IsTextOf : Bus → List ℕ → Type 0
+IsTextOf bus = IsTextIn bus.notes
 
 -- the graph of the last report, and nothing where an act came since
 abbrev pub IsGraphOf : Bus → List ℕ → Type 0

@@ -1,5 +1,5 @@
 //! The plan of a bus manager, and how it is carried out.
-ghost use Rattle.std.specs.Prelude.{◌≡◌, ◌<◌, ◌+◌, ◌++◌, ◌==◌, ℕ, [], All, nat_lt, true, false, Some, None, Ok, IfOk, IfErr, OnOk, IsTrue, IsFalse, length};
+ghost use Rattle.std.specs.Prelude.{◌≡◌, ◌<◌, ◌+◌, ◌++◌, ◌==◌, ℕ, List, [], All, nat_lt, true, false, Some, None, Ok, IfOk, IfErr, OnOk, IsTrue, IsFalse, length};
 ghost use Rattle.topology_stack.specs.Elect.{elected};
 ghost use Rattle.cabling.specs.Walk.{IsWalk};
 ghost use Rattle.cable_world.specs.Unchanged.{TurnsPass};
@@ -14,6 +14,7 @@ ghost use Rattle.script_trace.specs.Step.{seen_before_act};
 ghost use Rattle.script_bus.specs.Running.{Stops, reported};
 ghost use Rattle.script_trace.specs.News.{picked};
 ghost use Rattle.script_bus.specs.Heard.{Hears};
+ghost use Rattle.script_bus.specs.Viewed.{IsTextOf};
 ghost use Rattle.script_bus.specs.codings.Standing.{StandsAs, IsPlanned, IsPacketSent, IsSentHeard};
 ghost use Rattle.script_bus.specs.codings.Doing.{IsReady};
 ghost use Rattle.script_lines.specs.declared.command.Command.TheVariants as command;
@@ -26,7 +27,7 @@ use outcomes::trees_stay;
 use resource_manager::Register;
 use root_plan::{RootPlan, choose, expect};
 use script_lines::{Command, Kind, LineStop};
-use script_text::{plan_line, tree_of};
+use script_text::{plan_line, reports_have_one_text, tree_of};
 use script_trace::{Listener, Seen};
 use settle::{plans_suit, quiet_turns_settle};
 use std::alloc::Global;
@@ -208,11 +209,11 @@ impl Bus {
         node: u8,
         plan: &RootPlan,
         listener: &mut L,
-    ) -> Result<(Bus, Vec<u8>), OutOfMemory>
+    ) -> Result<Bus, OutOfMemory>
         requires suits { SuitsTree self.world node plan.now }
         requires within { nat_lt 2000000 (self.world.turns + quiet_turns_of self.world) ≡ false }
-        ensures { IfOk result (λ r. IsSentHeard L.voice self name.now node plan.now r.0
-            r.1.items (L.written listener.old) (L.written listener.new)) }
+        ensures { IfOk result (λ bus. (text : List ℕ) × IsSentHeard L.voice self name.now node
+            plan.now bus text (L.written listener.old) (L.written listener.new)) }
     {
         buses_are_sound(&self);
         let sent = self.send(alloc, name, node, plan, listener)?;
@@ -234,6 +235,24 @@ impl Bus {
         Ok((asked.node, planned))
     }
 
+    /// `plan NAME`, whose line is answered; the text of the report behind it isn't made.
+    pub fn do_plan<L: Listener>(
+        self,
+        alloc: Global,
+        name: &Name,
+        listener: &mut L,
+    ) -> Result<(Bus, Vec<u8>), LineStop>
+        ensures done { IfOk result (λ r. (report : List ℕ) × IsTextOf r.0 report
+            × Does self (command.Plan name.now) (Ok (r.0, r.1.items ++ report))) }
+        ensures heard { IfOk result (λ r. Hears L.voice self (command.Plan name.now) r.0
+            (L.written listener.old) (L.written listener.new)) }
+        ensures stop { IfErr result (Stops (Does self (command.Plan name.now))) }
+    {
+        let (node, planned) = self.ready(alloc, name)?;
+        let bus = self.carry_out(alloc, name, node, &planned.plan, listener)?;
+        Ok((bus, planned.line))
+    }
+
     /// `plan NAME`
     pub(crate) fn plan<L: Listener>(
         self,
@@ -246,9 +265,10 @@ impl Bus {
             (L.written listener.old) (L.written listener.new)) }
         ensures stop { IfErr result (Stops (Does self (command.Plan name.now))) }
     {
-        let (node, planned) = self.ready(alloc, name)?;
-        let (bus, report) = self.carry_out(alloc, name, node, &planned.plan, listener)?;
-        let text = joined(planned.line, report.as_slice())?;
+        reports_have_one_text();
+        let (bus, line) = self.do_plan(alloc, name, listener)?;
+        let report = bus.text(alloc)?;
+        let text = joined(line, report.as_slice())?;
         Ok((bus, text))
     }
 }

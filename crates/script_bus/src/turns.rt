@@ -1,5 +1,5 @@
 //! Turns of a bus, and its reports.
-ghost use Rattle.std.specs.Prelude.{◌≡◌, ◌<◌, ◌≤◌, ◌+◌, ◌++◌, [], nat_lt, true, false, Ok, IfOk, IfErr, OnOk, IsFalse, length};
+ghost use Rattle.std.specs.Prelude.{◌≡◌, ◌<◌, ◌≤◌, ◌+◌, ◌++◌, ℕ, List, [], nat_lt, true, false, Ok, IfOk, IfErr, OnOk, IsFalse, length};
 ghost use Rattle.settle.specs.Report.{HasSettled, quiet_turns_of};
 ghost use Rattle.cable_world.specs.Run.{IsReached};
 ghost use Rattle.cable_world.specs.Turn.{turns_after};
@@ -9,12 +9,13 @@ ghost use Rattle.script_lines.specs.declared.command.Command.TheVariants as comm
 ghost use Rattle.script_trace.specs.Voice.{legend_of, turns_told};
 ghost use Rattle.script_bus.specs.Running.{Stops};
 ghost use Rattle.script_bus.specs.Heard.{Hears};
+ghost use Rattle.script_bus.specs.Viewed.{IsTextOf};
 ghost use Rattle.script_bus.specs.codings.Standing.{IsReportedNow, IsPassed};
 
 use crate::bus::{Bus, buses_are_sound, worlds_are_reached};
 use cable_world::WorldRun;
 use script_lines::{Kind, LineStop};
-use script_text::{report_text, reports_can_be_shown};
+use script_text::{reports_can_be_shown, reports_have_one_text, reports_have_texts};
 use script_trace::{Legend, Listener, hear_turns};
 use settle::{quiet_turns_for, quiet_turns_settle, report_of};
 use std::alloc::Global;
@@ -102,39 +103,50 @@ impl Bus {
         self.check_turns(self.quiet_turns())
     }
 
-    /// Reports a world that has settled, and answers the text, whose number is the next one.
-    fn report(&mut self, alloc: Global) -> Result<Vec<u8>, OutOfMemory>
+    /// Reports a world that has settled. The number of the report is the next one.
+    fn report(&mut self, alloc: Global) -> Result<(), OutOfMemory>
         requires settled { ∥ HasSettled self.old.world ∥₁ }
         requires few { self.old.notes.reports < self.old.world.turns }
-        ensures { IfOk result (λ text. IsReportedNow self.old self.new text.items) }
+        ensures { OnOk result (IsReportedNow self.old self.new) }
     {
         let report = report_of(alloc, &*self.world)?;
         reports_can_be_shown(&*self.world);
-        let number = self.notes.reports + 1;
-        let text = report_text(alloc, &report, number, self.notes.names.list())?;
-        self.notes.reports = number;
+        self.notes.reports += 1;
         self.notes.report = Some(report);
-        Ok(text)
+        Ok(())
     }
 
-    /// Does the quiet turns, within the limit, and answers the text of the report, whose number is the
-    /// next one.
+    /// Does the quiet turns, within the limit, and reports what the bus came to.
     pub(crate) fn pass<L: Listener>(
         self,
         alloc: Global,
         listener: &mut L,
-    ) -> Result<(Bus, Vec<u8>), OutOfMemory>
+    ) -> Result<Bus, OutOfMemory>
         requires { nat_lt 2000000 (self.world.turns + quiet_turns_of self.world) ≡ false }
-        ensures reports { IfOk result (λ r. Reports self (Ok (r.0, r.1.items))) }
+        ensures reports { IfOk result (λ bus. (text : List ℕ) × Reports self (Ok (bus, text))) }
         ensures heard { OnOk result (IsPassed L.voice (legend_of self.notes) self.world
             (L.written listener.old) (L.written listener.new)) }
     {
         buses_are_sound(&self);
         quiet_turns_settle();
+        reports_have_texts();
         let quiet = self.quiet_turns();
         let mut bus = self.go(alloc, quiet, listener)?;
-        let text = bus.report(alloc)?;
-        Ok((bus, text))
+        bus.report(alloc)?;
+        Ok(bus)
+    }
+
+    /// Does the quiet turns, and reports what the bus came to; the text of the report isn't made.
+    /// `TooManyTurns` comes where they would pass 2,000,000 turns.
+    pub fn settled<L: Listener>(self, alloc: Global, listener: &mut L) -> Result<Bus, LineStop>
+        ensures done { IfOk result (λ bus. (text : List ℕ) × IsTextOf bus text
+            × DoesSettle self (Ok (bus, text))) }
+        ensures heard { IfOk result (λ bus. Hears L.voice self command.Settle bus
+            (L.written listener.old) (L.written listener.new)) }
+        ensures stop { IfErr result (Stops (DoesSettle self)) }
+    {
+        self.check_quiet_turns()?;
+        Ok(self.pass(alloc, listener)?)
     }
 
     /// Does the quiet turns, and answers the text of the report, whose number is the next one.
@@ -149,7 +161,9 @@ impl Bus {
             (L.written listener.old) (L.written listener.new)) }
         ensures stop { IfErr result (Stops (DoesSettle self)) }
     {
-        self.check_quiet_turns()?;
-        Ok(self.pass(alloc, listener)?)
+        reports_have_one_text();
+        let bus = self.settled(alloc, listener)?;
+        let text = bus.text(alloc)?;
+        Ok((bus, text))
     }
 }

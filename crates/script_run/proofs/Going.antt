@@ -17,9 +17,10 @@ use Rattle.script_run.specs.Answered.{IsRefused}
 use Rattle.script_run.specs.Viewed.{Writing, AllWritten, prints_report}
 use Rattle.script_bus.specs.Running.{IfFault, Stops}
 use Rattle.script_bus.specs.Heard.{Hears}
+use Rattle.script_bus.specs.Viewed.{IsTextOf}
 use Rattle.script_trace.specs.Voice.{Voice}
 use Rattle.script_trace.specs.Trace.{TracesAt, AllTrace}
-use Rattle.script_run.specs.codings.Going.{IsAdded, Follows, LineLeads, LineFails, Ends, Went, HaveGone, IsRead, stop_at}
+use Rattle.script_run.specs.codings.Going.{Prints, IsAdded, LineLeads, LineFails, Ends, Went, HaveGone, IsRead, stop_at}
 
 -- ---- commands that were done
 
@@ -164,6 +165,15 @@ pub refused-end :
 refused-end bytes entries number stage (Fault kind) r is wrong went =
     subst (IsRefused bytes) (sym is) (stops-there bytes entries number [] stage kind (Err kind, wrong, refl) went)
 refused-end bytes entries number stage (Memory e) r is wrong went = subst (IsRefused bytes) (sym is) tt
+
+-- where a report is printed, and no words
+pub prints-report : (bus : Bus) (next : Stage) (words report : List ℕ) → next ≡ running bus → words ≡ [] →
+    IsTextOf bus report → Prints true next words report
+prints-report bus next words report to none is = (
+  report,
+  subst (λ (s : Stage). IsTextOf (bus_of s) report) (sym to) is,
+  ap (λ (w : List ℕ). w ++ report) (sym none),
+)
 
 -- the bus of a stage settled, and runs on at the next
 pub ended :

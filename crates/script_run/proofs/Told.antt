@@ -1,8 +1,9 @@
 -- What each reading tells of a script that it has read.
-use Rattle.std.proofs.Common.{◌≡◌, ◌∙◌, inr, ℕ, ◌+◌, List, [], ◌∷◌, ◌++◌, length, refl, sym, ap}
-use Rattle.std.specs.Prelude.{Bool, true, false, MatchBool, Option, None, Some, Ok, Err}
+use Rattle.std.proofs.Common.{◌≡◌, ◌∙◌, inr, ℕ, ◌+◌, List, [], ◌∷◌, ◌++◌, length, refl, sym, ap, append_assoc}
+use Rattle.std.specs.Prelude.{Bool, true, false, Option, None, Some, Ok, Err}
 use Rattle.script_lines.specs.declared.kind.Kind.{Kind}
 use Rattle.settle.specs.declared.report.Report.{Report}
+use Rattle.script_text.specs.OneText.{ReportsHaveOneText}
 use Rattle.script_told.specs.Bus.{Bus}
 use Rattle.script_told.specs.Script.{Stage, ScriptResult, bus_of, fault_at, script_lines}
 use Rattle.script_told.specs.Run.{Entry, ScriptRun, printed, unless_stopped, IsResult}
@@ -14,12 +15,24 @@ use Rattle.script_trace.specs.waves.Moment.{waves_voice}
 use Rattle.script_trace.specs.waves.Head.{head}
 use Rattle.script_trace.specs.waves.Waves.{IsWaves}
 use Rattle.script_bus.specs.Listed.{list_of}
-use Rattle.script_bus.specs.Viewed.{IsGraphOf, IsLineOf, IsReadLineOf}
+use Rattle.script_bus.specs.Viewed.{IsTextOf, IsGraphOf, IsLineOf, IsReadLineOf}
 use Rattle.script_run.specs.Listed.{at_line, listed_at, IsListed}
 use Rattle.script_run.specs.Viewed.{Writing, AllWritten, IsPictured, IsLineAfter, AreReported, IsReadAfter, AreReadBack, prints_report}
-use Rattle.script_run.specs.codings.Going.{IsRead}
+use Rattle.script_run.specs.codings.Going.{Prints, IsRead}
+use Rattle.script_bus.proofs.Lemmas.{one-text}
 
 -- ---- the text of the commands
+
+-- a report is written behind the words before it
+pub report-written :
+    ReportsHaveOneText → (next : Stage) (words made text before mid after : List ℕ) → mid ≡ before ++ words →
+    after ≡ mid ++ made → IsTextOf (bus_of next) made → Prints true next words text → after ≡ before ++ text
+report-written one next words made text before mid after first then is (report, also, whole) =
+    then
+    ∙ ap (λ (l : List ℕ). l ++ made) first
+    ∙ append_assoc before words made
+    ∙ ap (λ (l : List ℕ). before ++ (words ++ l)) (one-text one (bus_of next) made report is also)
+    ∙ ap (λ (l : List ℕ). before ++ l) (sym whole)
 
 printed-of : (entries : List Entry) (text : List ℕ) → AllWritten (λ prints after told added. added ≡ told) entries text →
     text ≡ printed entries

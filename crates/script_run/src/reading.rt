@@ -1,5 +1,5 @@
 //! The ways to read a script, and the one function that reads it in each of them.
-ghost use Rattle.std.specs.Prelude.{◌≡◌, ◌≤◌, ◌+◌, ℕ, List, [], true, false, Ok, Err, IfOk, IfErr, OnOk, IsSomeAnd, length};
+ghost use Rattle.std.specs.Prelude.{◌≡◌, ◌≤◌, ◌+◌, ℕ, List, [], false, Ok, Err, IfOk, IfErr, OnOk, IsSomeAnd, length};
 ghost use Rattle.settle.specs.Report.{IsReport};
 ghost use Rattle.script_lines.specs.declared.kind.ScriptFault.{ScriptFault};
 ghost use Rattle.script_told.specs.Script as shown;
@@ -8,7 +8,7 @@ ghost use Rattle.script_told.specs.Run.{IsResult};
 ghost use Rattle.script_bus.specs.Running.{IfFault};
 ghost use Rattle.script_run.specs.Answered.{StopsWith, IsOnlyFault};
 ghost use Rattle.script_run.specs.Viewed.{Writing};
-ghost use Rattle.script_run.specs.codings.Going.{HaveGone, IsAdded, IsRead};
+ghost use Rattle.script_run.specs.codings.Going.{HaveGone, IsAdded, IsRead, Prints};
 
 use crate::script::{Taken, at_line, take_lines};
 use crate::stage::Stage;
@@ -29,17 +29,17 @@ pub(crate) trait Writer {
     // this is written
     ghost writes: { Writing };
 
-    /// Appends what is written of a command that led to a stage and printed a text, which is a report
-    /// or has one at its end where `prints`.
+    /// Appends what is written of a command that led to a stage and prints these words, and behind them
+    /// its report, if it prints one.
     fn write(
         alloc: Global,
         prints: bool,
         stage: &Stage,
-        text: Vec<u8>,
+        words: Vec<u8>,
         out: &mut Vec<u8>,
     ) -> Result<(), OutOfMemory>
-        ensures { OnOk result (IsAdded writes prints stage.now text.items
-            out.old.items out.new.items) };
+        ensures { OnOk result ((text : List ℕ) → Prints prints stage.now words.items text →
+            IsAdded writes prints stage.now text out.old.items out.new.items) };
 
     // nothing is written of a command that prints nothing
     ghost nothing: { (after : shown.Stage) → writes false after [] [] };

@@ -1,6 +1,6 @@
 //! The seven ways to read a script: its text, its advice, its trace, its dump, a list of its bus, its
 //! graph and the lines of its reports.
-ghost use Rattle.std.specs.Prelude.{◌≡◌, ◌≤◌, [], Ok, IfOk, IfErr, length};
+ghost use Rattle.std.specs.Prelude.{◌≡◌, ◌≤◌, ◌++◌, [], Ok, IfOk, IfErr, OnOk, length};
 ghost use Rattle.std.proofs.Common.{refl};
 ghost use Rattle.script_told.specs.Script.{ScriptResult};
 ghost use Rattle.script_told.specs.Run.{IsResult};
@@ -19,6 +19,7 @@ use crate::stage::Stage;
 use script_advice::{advices_leave_no_loop, scripts_have_one_advice};
 use script_bus::{Bus, Silent};
 use script_lines::{LineStop, ScriptStop};
+use script_text::reports_have_one_text;
 use script_told::scripts_tell_one_thing;
 use script_trace::{
     Trace, Waves, scripts_have_one_dump, scripts_have_one_trace, turns_show_what_is_sent,
@@ -48,6 +49,17 @@ impl Hearer for Waves {
 
 // ---- what is written
 
+/// Appends a text, which is taken over where nothing stands before it.
+fn put_text(out: &mut Vec<u8>, text: Vec<u8>) -> Result<(), OutOfMemory>
+    ensures { OnOk result (out.new.items ≡ out.old.items ++ text.items) }
+{
+    if out.is_empty() {
+        *out = text;
+        return Ok(());
+    }
+    out.extend_from_slice(text.as_slice())
+}
+
 /// Writes what a command prints.
 struct Texts;
 
@@ -55,17 +67,20 @@ impl Writer for Texts {
     ghost writes = { λ prints after text added. added ≡ text };
 
     fn write(
-        _alloc: Global,
-        _prints: bool,
-        _stage: &Stage,
-        text: Vec<u8>,
+        alloc: Global,
+        prints: bool,
+        stage: &Stage,
+        words: Vec<u8>,
         out: &mut Vec<u8>,
     ) -> Result<(), OutOfMemory> {
-        if out.is_empty() {
-            *out = text;
+        reports_have_one_text();
+        put_text(out, words)?;
+        if !prints {
             return Ok(());
         }
-        out.extend_from_slice(text.as_slice())
+        let report = stage.text(alloc)?;
+        put_text(out, report)?;
+        Ok(())
     }
 
     ghost nothing = { λ after. refl };
@@ -81,7 +96,7 @@ impl Writer for Lines {
         alloc: Global,
         prints: bool,
         stage: &Stage,
-        _text: Vec<u8>,
+        _words: Vec<u8>,
         out: &mut Vec<u8>,
     ) -> Result<(), OutOfMemory> {
         if prints {
@@ -104,7 +119,7 @@ impl Writer for Nothing {
         _alloc: Global,
         _prints: bool,
         _stage: &Stage,
-        _text: Vec<u8>,
+        _words: Vec<u8>,
         _out: &mut Vec<u8>,
     ) -> Result<(), OutOfMemory> {
         Ok(())

@@ -1,10 +1,13 @@
 //! The run of a script.
 ghost use Rattle.std.specs.Prelude.{◌≡◌, ◌≤◌, ◌<◌, ◌∷◌, ◌++◌, [], ℕ, List, Some, None, Ok, Err, IfOk, IfErr, OnOk, length};
 ghost use Rattle.script_lines.specs.Range.{IsInRange};
-ghost use Rattle.script_told.specs.Script.{Declares, Delays, SaysTimes, DoesAtStage, DoesOnBus, bus_of, draft_of, ranges_of};
+ghost use Rattle.script_told.specs.Script.{Declares, Delays, SaysTimes, DoesAtStage, DoesOnBus, running, bus_of, draft_of, ranges_of};
+ghost use Rattle.script_told.specs.Step.{Does};
+ghost use Rattle.script_bus.specs.Heard.{Hears};
 ghost use Rattle.script_bus.specs.Running.{IfFault, Stops};
 ghost use Rattle.script_run.specs.codings.Declaring.{IsDraft, IsLine, draft_now, node_said};
-ghost use Rattle.script_run.specs.codings.Going.{HearsAt};
+ghost use Rattle.script_run.specs.codings.Going.{HearsAt, Prints};
+ghost use Rattle.script_run.specs.Viewed.{prints_report};
 ghost use Rattle.script_lines.specs.declared.command.Command.TheVariants as command;
 
 use crate::draft::{Draft, GivenCoins, GivenTimes, NodeLine};
@@ -19,6 +22,31 @@ use topology_stack::OutOfMemory;
 
 /// By how many turns a cable delays a signal at most, where no line says it.
 const USUAL_DELAY: u8 = 4;
+
+/// A command is done on a bus. What it prints is answered, but not its report.
+fn on_bus<L: Listener>(
+    alloc: Global,
+    bus: Bus,
+    command: &Command,
+    listener: &mut L,
+) -> Result<(Bus, Vec<u8>), LineStop>
+    requires { IsInRange bus.notes.times.ranges command.now }
+    ensures done { IfOk result (λ r. (text : List ℕ)
+        × Prints (prints_report command.now) (running r.0) r.1.items text
+        × Does bus command.now (Ok (r.0, text))) }
+    ensures heard { IfOk result (λ r. Hears L.voice bus command.now r.0
+        (L.written listener.old) (L.written listener.new)) }
+    ensures stop { IfErr result (Stops (Does bus command.now)) }
+{
+    match command {
+        Command::Settle => {
+            let bus = bus.settled(alloc, listener)?;
+            Ok((bus, Vec::new(alloc)))
+        }
+        Command::Plan { name } => bus.do_plan(alloc, name, listener),
+        _ => bus.command(alloc, command, listener),
+    }
+}
 
 impl Stage {
     /// The ranges of the times of nodes.
@@ -71,7 +99,7 @@ impl Stage {
         Ok(Vec::new(alloc))
     }
 
-    /// A command that runs the bus.
+    /// A command that runs the bus. What it prints is answered, but not its report.
     fn run<L: Listener>(
         &mut self,
         alloc: Global,
@@ -79,16 +107,17 @@ impl Stage {
         listener: &mut L,
     ) -> Result<Vec<u8>, LineStop>
         requires { IsInRange (ranges_of self.old) command.now }
-        ensures done { IfOk result (λ text.
-            DoesOnBus self.old command.now (Ok (self.new, text.items))) }
+        ensures done { IfOk result (λ words. (text : List ℕ)
+            × Prints (prints_report command.now) self.new words.items text
+            × DoesOnBus self.old command.now (Ok (self.new, text))) }
         ensures heard { OnOk result (HearsAt L.voice self.old command.now self.new
             (L.written listener.old) (L.written listener.new)) }
         ensures stop { IfErr result (Stops (DoesOnBus self.old command.now)) }
     {
         let bus = mem::replace(self, Stage::new()).bus(alloc)?;
-        let (bus, text) = bus.command(alloc, command, listener)?;
+        let (bus, words) = on_bus(alloc, bus, command, listener)?;
         self.phase = Phase::Running(bus);
-        Ok(text)
+        Ok(words)
     }
 
     /// Turns pass, 1 to 2,000,000.
@@ -141,8 +170,8 @@ impl Stage {
         Ok(Vec::new(alloc))
     }
 
-    /// A command is done, and the listener hears what happens in it. Where it isn't, nothing is left
-    /// of the stage.
+    /// A command is done, and the listener hears what happens in it. What it prints is answered, but not
+    /// its report. Where it isn't done, nothing is left of the stage.
     pub fn follow<L: Listener>(
         &mut self,
         alloc: Global,
@@ -150,8 +179,9 @@ impl Stage {
         listener: &mut L,
     ) -> Result<Vec<u8>, LineStop>
         requires { IsInRange (ranges_of self.old) command }
-        ensures done { IfOk result (λ text.
-            DoesAtStage self.old command (Ok (self.new, text.items))) }
+        ensures done { IfOk result (λ words. (text : List ℕ)
+            × Prints (prints_report command) self.new words.items text
+            × DoesAtStage self.old command (Ok (self.new, text))) }
         ensures heard { OnOk result (HearsAt L.voice self.old command self.new
             (L.written listener.old) (L.written listener.new)) }
         ensures stop { IfErr result (Stops (DoesAtStage self.old command)) }

@@ -6,7 +6,7 @@ ghost use Rattle.script_told.specs.Script.{DoesAtStage, fresh, running, bus_of, 
 ghost use Rattle.script_bus.specs.Running.{IfFault, Stops};
 ghost use Rattle.script_run.specs.Viewed.{prints_report};
 ghost use Rattle.script_run.specs.codings.Going.{Ends, Follows, LineLeads, LineFails};
-ghost use Rattle.script_bus.specs.Viewed.{IsReadLineOf};
+ghost use Rattle.script_bus.specs.Viewed.{IsTextOf, IsReadLineOf};
 ghost use Rattle.script_lines.specs.Range.{IsInRange};
 
 use crate::draft::Draft;
@@ -76,6 +76,16 @@ impl Stage {
         }
     }
 
+    /// The text of the last report, where the bus runs and has one.
+    pub fn text(&self, alloc: Global) -> Result<Vec<u8>, OutOfMemory>
+        ensures { IfOk result (λ text. IsTextOf (bus_of self.now) text.items) }
+    {
+        match &self.phase {
+            Phase::Running(bus) => bus.text(alloc),
+            _ => Ok(Vec::new(alloc)),
+        }
+    }
+
     /// The line of the last report, where the bus runs and has one.
     pub fn line(&self, alloc: Global) -> Result<Vec<u8>, OutOfMemory>
         ensures { IfOk result (λ line. IsReadLineOf (bus_of self.now) line.items) }
@@ -101,8 +111,8 @@ impl Stage {
         ensures stop { IfErr result (Stops (DoesAtStage self.old command)) }
     {
         let prints = prints_report(&command);
-        let text = self.follow(alloc, command, heard)?;
-        R::Writes::write(alloc, prints, &*self, text, out)?;
+        let words = self.follow(alloc, command, heard)?;
+        R::Writes::write(alloc, prints, &*self, words, out)?;
         Ok(())
     }
 
@@ -162,9 +172,9 @@ impl Stage {
         ensures reported { IfOk result (λ bus. IsSomeAnd bus.notes.report (IsReport bus.world)) }
         ensures stop { IfErr result (Stops (DoesSettle (bus_of self))) }
     {
-        let (bus, text) = self.bus(alloc)?.settle(alloc, heard)?;
+        let bus = self.bus(alloc)?.settled(alloc, heard)?;
         let stage = Stage::of_bus(bus);
-        R::Writes::write(alloc, true, &stage, text, out)?;
+        R::Writes::write(alloc, true, &stage, Vec::new(alloc), out)?;
         Ok(stage.bus(alloc)?)
     }
 }

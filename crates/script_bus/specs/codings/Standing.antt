@@ -12,7 +12,7 @@ use Rattle.settle.specs.Report.{IsReport}
 use Rattle.settle.specs.Reported.{ReportsTree}
 use Rattle.script_lines.specs.declared.command.Command.{Command}
 use Rattle.script_lines.specs.declared.command.Command.TheVariants.{Plug, Pull, Reset, Config, Hold, Turn, Settle, Plan}
-use Rattle.script_text.specs.ReportText.{IsNamedReport, IsReportText}
+use Rattle.script_text.specs.ReportText.{IsNamedReport}
 use Rattle.script_told.specs.Bus.{Bus, ReportedTree}
 use Rattle.root_plan.specs.Plan.{IsPlan}
 use Rattle.script_text.specs.PlanText.{plan_line}
@@ -68,14 +68,13 @@ IsQuestion Settle = ⊥
 IsQuestion (Plan name) = ⊥
 IsQuestion command = Unit {0}
 
--- a bus whose world has settled is reported, and this is the text
-pub record IsReportedNow (bus after : Bus) (text : List ℕ) : Type 0 where
+-- a bus whose world has settled is reported
+pub record IsReportedNow (bus after : Bus) : Type 0 where
   pub report : Report
   pub is : IsReport bus.world report
   pub same : after.world ≡ bus.world
   pub notes : after.notes ≡ notes_after_report bus.notes report
   pub named : IsNamedReport bus.notes.names report
-  pub text_is : IsReportText bus.notes.names after.notes.reports report text
 
 -- a listener heard the quiet turns
 abbrev pub IsPassed : Voice → Legend → CableWorld → List ℕ → List ℕ → Type 0

@@ -1,5 +1,5 @@
 -- How the lines of a script are gone through.
-use Rattle.std.specs.Prelude.{◌≡◌, ◌⊎◌, ℕ, ◌+◌, Bool, true, List, ◌++◌, length, None, Some, Ok, Err}
+use Rattle.std.specs.Prelude.{◌≡◌, ◌⊎◌, ℕ, ◌+◌, Bool, true, MatchBool, List, ◌++◌, length, None, Some, Ok, Err}
 use Rattle.script_lines.specs.declared.kind.Kind.{Kind}
 use Rattle.script_lines.specs.declared.kind.LineStop.{LineStop}
 use Rattle.script_lines.specs.declared.kind.LineStop.TheVariants as line
@@ -16,6 +16,7 @@ use Rattle.script_told.specs.Script.{Stage, fresh, declaring, running, bus_of, r
 use Rattle.script_told.specs.Run.{Entry, ScriptRun, behind, RunsFrom, IsRun}
 use Rattle.script_trace.specs.Voice.{Voice}
 use Rattle.script_trace.specs.Trace.{TracesAt, AllTrace}
+use Rattle.script_bus.specs.Viewed.{IsTextOf}
 use Rattle.script_run.specs.Viewed.{Writing, AllWritten, prints_report}
 use Rattle.script_run.specs.codings.Declaring.{draft_now, IsDraft}
 
@@ -36,6 +37,12 @@ pub record HearsAt
   pub lines : List ℕ
   pub traces : TracesAt voice stage command next lines
   pub written : new ≡ out ++ lines
+
+-- what a command prints that leads to a stage: these words, and behind them the report, if it prints one
+abbrev pub Prints : Bool → Stage → List ℕ → List ℕ → Type 0
+Prints prints next words text =
+    MatchBool prints ((report : List ℕ) × IsTextOf (bus_of next) report × (text ≡ words ++ report))
+    (text ≡ words)
 
 -- what is written of a command that led to a stage and printed this, was added
 pub record IsAdded

@@ -1,4 +1,4 @@
-use Rattle.std.proofs.Common.{◌≡◌, ◌≤◌, ◌+◌, length}
+use Rattle.std.proofs.Common.{◌≤◌, ◌+◌, length}
 use Rattle.script_told.specs.Script.{script_lines}
 use Rattle.script_run.specs.codings.Going.{HaveGone}
 use Rattle.script_run.proofs.script.take_lines.Given as goal

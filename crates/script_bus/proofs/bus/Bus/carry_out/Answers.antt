@@ -17,5 +17,8 @@ pass-requires g c =
 
 pub returns : goal.returns
 returns g c =
-    sent-heard g.L.Listener.voice c.args.self c.in_ok-sent.sent c.in_ok-settled.settled.0 c.args.name.now c.args.node c.args.plan.now _ _ _ _
-    c.in_ok-sent.ensures.sent c.in_ok-settled.ensures.reports c.in_ok-settled.ensures.heard
+    let passed = c.in_ok-settled.ensures in (
+      passed.reports.0,
+      sent-heard g.L.Listener.voice c.args.self c.in_ok-sent.sent c.in_ok-settled.settled c.args.name.now c.args.node c.args.plan.now _ _ _ _
+          c.in_ok-sent.ensures.sent passed.reports.1 passed.heard,
+    )

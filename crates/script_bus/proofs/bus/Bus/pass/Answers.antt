@@ -35,7 +35,7 @@ returns-clause-reports g c =
     let done = c.in_ok-bus.ensures.done in
     let quiet : c.in_ok-bus.bus.world ≡ turns_after (quiet_turns_of w) w =
     ap (λ (b : Bus). b.world) done ∙ ap (λ (n : ℕ). turns_after n w) c.quiet_turns-quiet.ensures in
-    reports-now c.args.self c.in_ok-bus.bus _ _ quiet (ap (λ (b : Bus). b.notes) done) c.in_ok-text.ensures
+    reports-now c.reports_have_texts.ensures c.args.self c.in_ok-bus.bus _ quiet (ap (λ (b : Bus). b.notes) done) c.in_ok-report.ensures
 
 pub returns-clause-heard : goal.returns-clause-heard
 returns-clause-heard g c =

@@ -1,45 +1,15 @@
-use Rattle.std.proofs.Common.{◌++◌, ℕ, List, ap, refl, ◌∙◌}
-use Rattle.std.proofs.lemmas.Result.{err_from_is_err_and}
-use Rattle.script_told.specs.Step.{PlansAs}
-use Rattle.script_bus.proofs.PlansAsked.{asked-comes, carried-out, carries-out}
+use Rattle.std.proofs.Common.{◌++◌, ℕ, List, ap, sym, subst, ◌∙◌}
+use Rattle.std.specs.Prelude.{Ok}
+use Rattle.script_lines.specs.declared.command.Command.TheVariants.{Plan}
+use Rattle.script_told.specs.Step.{Does}
+use Rattle.script_bus.proofs.Hearing.{one-text}
 use Rattle.script_bus.proofs.bus.Bus.plan.Goals as goal
 
 pub returns-clause-done : goal.returns-clause-done
 returns-clause-done g c =
-    let before = c.args.self in
-    let ready = c.in_ok-node.ensures.is in
-    let node = c.in_ok-node.node in
-    let planned = c.in_ok-node.planned in
-    let text = c.in_ok-text.ensures ∙ ap (λ (r : List ℕ). planned.line.items ++ r) c.as_slice.ensures.value in
-    asked-comes before c.args.name.now node ready.id ready.manager ready.asked (PlansAs before c.args.name.now) _
-    (carried-out before c.args.name.now node ready.id ready.manager ready.tree _ ready.is_manager ready.within ready.settled
-    (carries-out before _ c.args.name.now node ready.tree planned.plan planned.line.items c.in_ok-bus.report.items _ ready.planned c.in_ok-bus.ensures.sent text))
-
-pub returns-clause-heard : goal.returns-clause-heard
-returns-clause-heard g c =
-    let before = c.args.self in
-    let after = c.in_ok-bus.bus in
-    let ready = c.in_ok-node.ensures.is in
-    let node = c.in_ok-node.node in
-    let planned = c.in_ok-node.planned in
-    let report = c.in_ok-bus.report.items in
-    let text = planned.line.items ++ report in
-    let sent = c.in_ok-bus.ensures in
-    record {
-      lines = _;
-      traces = record {
-        node = node;
-        named = ready.asked.named;
-        tree = ready.tree;
-        settled = ready.settled;
-        text = text;
-        carried = carries-out before after c.args.name.now node ready.tree planned.plan planned.line.items report text ready.planned sent.sent refl;
-        lines_are = refl;
-      };
-      written = sent.written;
-    }
-
-pub returns-in_err-text-clause-stop : goal.returns-in_err-text-clause-stop
-returns-in_err-text-clause-stop g c =
-    let p = err_from_is_err_and c.from_residual-in_err-text.result c.from_residual-in_err-text.ensures.1 in
-    rw (p.1, p.2) tt
+    let done = c.in_ok-bus.ensures.done in
+    let bus = c.in_ok-bus.bus in
+    let line = c.in_ok-bus.line.items in
+    let same = one-text c.reports_have_one_text.ensures bus done.0 _ done.1 c.in_ok-report.ensures in
+    let text = c.in_ok-text.ensures ∙ ap (λ (r : List ℕ). line ++ r) (c.as_slice.ensures.value ∙ sym same) in
+    subst (λ (t : List ℕ). Does c.args.self (Plan c.args.name.now) (Ok (bus, t))) (sym text) done.2

@@ -1,10 +1,12 @@
-use Rattle.script_bus.proofs.Hearing.{settles-within, settle-hears}
+use Rattle.std.proofs.Common.{ℕ, List, subst}
+use Rattle.std.specs.Prelude.{Ok}
+use Rattle.script_told.specs.Step.{DoesSettle}
+use Rattle.script_bus.proofs.Hearing.{one-text}
 use Rattle.script_bus.proofs.bus.Bus.settle.Goals as goal
 
 pub returns-clause-done : goal.returns-clause-done
 returns-clause-done g c =
-    settles-within c.args.self _ c.in_ok-check_quiet_turns.ensures.within c.in_ok-pass.ensures.reports
-
-pub returns-clause-heard : goal.returns-clause-heard
-returns-clause-heard g c =
-    settle-hears g.L.Listener.voice c.args.self _ _ _ _ c.in_ok-pass.ensures.reports c.in_ok-pass.ensures.heard
+    let done = c.in_ok-bus.ensures.done in
+    let bus = c.in_ok-bus.bus in
+    subst (λ (text : List ℕ). DoesSettle c.args.self (Ok (bus, text)))
+    (one-text c.reports_have_one_text.ensures bus done.0 _ done.1 c.in_ok-text.ensures) done.2

@@ -1,6 +1,3 @@
-use Rattle.std.proofs.Common.{◌≡◌, ℕ, ◌+◌, List, length, Vec, Global}
-use Rattle.std.specs.Prelude.{Ok, Err, Result}
-use Rattle.script_lines.specs.declared.kind.Kind.{Kind}
 use Rattle.script_run.proofs.Answering.{ok-all, err-all, if-fault}
 use Rattle.script_run.proofs.Told.{tells-list, tells-no-list}
 use Rattle.script_run.proofs.readings.ListingReading.tell.Goals as goal

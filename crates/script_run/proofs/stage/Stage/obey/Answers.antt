@@ -1,12 +1,12 @@
-use Rattle.std.proofs.Common.{subst}
-use Rattle.std.specs.Prelude.{Bool}
-use Rattle.script_run.specs.codings.Going.{IsAdded}
 use Rattle.script_run.proofs.stage.Stage.obey.Goals as goal
 
 pub returns-clause-done : goal.returns-clause-done
-returns-clause-done g c = record {
-  text = c.in_ok-text.text.items;
-  does = c.in_ok-text.ensures.done;
-  written = rw c.prints_report-prints.ensures at c.in_ok-write.ensures;
-  heard = c.in_ok-text.ensures.heard;
-}
+returns-clause-done g c =
+    let told = c.in_ok-words.ensures.done in
+    let prints = c.prints_report-prints.ensures in
+    record {
+      text = told.0;
+      does = told.2;
+      written = rw prints at (c.in_ok-write.ensures told.0 (rw prints told.1));
+      heard = c.in_ok-words.ensures.heard;
+    }

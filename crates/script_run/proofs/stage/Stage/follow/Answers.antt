@@ -1,0 +1,15 @@
+use Rattle.std.proofs.Common.{refl}
+use Rattle.script_run.proofs.Answering.{ok-all}
+use Rattle.script_run.proofs.stage.Stage.follow.Goals as goal
+
+pub returns-in-Node-clause-done : goal.returns-in-Node-clause-done
+returns-in-Node-clause-done g c =
+    rw c.in-Node.is (ok-all _ _ (λ words did. (words.items, refl, did)) c.declare.result c.declare.ensures.done)
+
+pub returns-in-Delay-clause-done : goal.returns-in-Delay-clause-done
+returns-in-Delay-clause-done g c =
+    rw c.in-Delay.is (ok-all _ _ (λ words did. (words.items, refl, did)) c.say_delay.result c.say_delay.ensures.done)
+
+pub returns-in-Times-clause-done : goal.returns-in-Times-clause-done
+returns-in-Times-clause-done g c =
+    rw c.in-Times.is (ok-all _ _ (λ words did. (words.items, refl, did)) c.say_times.result c.say_times.ensures.done)
