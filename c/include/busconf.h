@@ -442,7 +442,7 @@ struct busconf_event {
 
 /* Tells the event whose line stands at the place `at` of a trace's text, in bytes from 0. BUSCONF_OK: `event` is the
  * event, exactly its line stands there, and `*next` is the place behind its line feed. BUSCONF_REFUSED: `at` is the end
- * of the text, or no event was found there. */
+ * of the text, or no event's line stands there. */
 enum busconf_status busconf_trace_event(const char *text, size_t count, size_t at, struct busconf_event *event,
                                         size_t *next);
 

@@ -9,7 +9,7 @@ use Rattle.trace_event.specs.declared.event.Part.{Part}
 use Rattle.trace_event.specs.declared.event.What.{What}
 use Rattle.trace_event.specs.declared.event.What.TheVariants.{Plug, Pull, Reset, Hold, Config, Enters, Timeout, ToParent, ToChild, Coin, PhyId, Sends}
 use Rattle.trace_event.specs.declared.event.Event.{Event}
-use Rattle.trace_event.specs.Event.{IsEventAt}
+use Rattle.trace_event.specs.Event.{IsEventAt, IsShownAt}
 use Rattle.heapless_c.specs.declared.records.EventRecord.{EventRecord}
 
 -- ---- numbers
@@ -89,10 +89,12 @@ event_record e = what_record e.turn e.what
 
 -- ---- what is told
 
--- the event whose line stands at this place of a text is told, and the place behind it; or nothing is
+-- the event whose line stands at this place of a text is told, and the place behind it; or nothing is, and then no line
+-- stands there of an event whose numbers have 32 bits
 pub data TellsEvent (text : List ℕ) (at : ℕ) (before after : EventRecord) (next_before next status : ℕ)
     : Type 0 where
   told : (e : Event) → IsEventAt text at e next → after ≡ event_record e → status ≡ 0 →
       TellsEvent text at before after next_before next status
-  none : after ≡ before → next ≡ next_before → status ≡ 1 →
+  none : ((e : Event) (end : ℕ) → IsShownAt text at e end → ⊥) → after ≡ before →
+      next ≡ next_before → status ≡ 1 →
       TellsEvent text at before after next_before next status

@@ -1,1 +1,4 @@
 mod Chain
+mod Digits
+mod Ends
+mod Spelled

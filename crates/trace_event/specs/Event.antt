@@ -1,5 +1,5 @@
 -- An event as a line of a trace.
-use Rattle.std.specs.Prelude.{ℕ, Option, Some, None, List, [], ◌++◌, codes, decimal}
+use Rattle.std.specs.Prelude.{ℕ, ◌<◌, Option, Some, None, List, [], ◌++◌, codes, decimal}
 use Rattle.topology_stack.specs.Hex.{hex}
 use Rattle.port_state.specs.declared.signal.Signal.{Signal}
 use Rattle.port_state.specs.declared.signal.Signal.TheVariants as signal
@@ -99,6 +99,28 @@ HasNames text (Coin node coin wait) = IsNameIn text node
 HasNames text (PhyId node id) = IsNameIn text node
 HasNames text (Sends node port signal) = IsNameIn text node
 
+-- ---- numbers
+
+-- a number, if there is one, has 32 bits
+abbrev pub IsShort : Option ℕ → Type 0
+IsShort None = Unit {0}
+IsShort (Some n) = n < 4294967296
+
+-- each number has; of a quadlet the lowest 32 bits are shown
+abbrev pub HasNumbers : What → Type 0
+HasNumbers (Plug a a_port b b_port) = (a_port < 4294967296) × (b_port < 4294967296)
+HasNumbers (Pull name port) = port < 4294967296
+HasNumbers (Reset name) = Unit {0}
+HasNumbers (Hold name port turns) = (port < 4294967296) × (turns < 4294967296)
+HasNumbers (Config name root_id gap) = IsShort root_id × IsShort gap
+HasNumbers (Enters node phase) = Unit {0}
+HasNumbers (Timeout node) = Unit {0}
+HasNumbers (ToParent node port) = port < 4294967296
+HasNumbers (ToChild node port) = port < 4294967296
+HasNumbers (Coin node coin wait) = IsShort coin × (wait < 4294967296)
+HasNumbers (PhyId node id) = id < 4294967296
+HasNumbers (Sends node port signal) = port < 4294967296
+
 -- ---- what stands at a place
 
 -- at this place, behind the turn, a line goes on with what happens, and ends before `next`
@@ -110,3 +132,9 @@ pub record IsWhatAt (text : List ℕ) (at : ℕ) (what : What) (next : ℕ) : Ty
 pub record IsEventAt (text : List ℕ) (at : ℕ) (event : Event) (next : ℕ) : Type 0 where
   pub line : Stands text at (event_line text event) next
   pub names : HasNames text event.what
+
+-- the same of an event whose numbers have 32 bits
+pub record IsShownAt (text : List ℕ) (at : ℕ) (event : Event) (next : ℕ) : Type 0 where
+  pub is : IsEventAt text at event next
+  pub turn : event.turn < 4294967296
+  pub numbers : HasNumbers event.what

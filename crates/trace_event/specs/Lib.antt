@@ -1,2 +1,3 @@
 pub mod Stands
 pub mod Event
+pub mod codings

@@ -1,7 +1,10 @@
 //! The lines of what happens at a node.
-ghost use Rattle.std.specs.Prelude.{◌≡◌, ◌≤◌, length, IfSome};
+ghost use Rattle.std.specs.Prelude.{◌≡◌, ℕ, ◌<◌, ◌≤◌, ◌++◌, List, Option, codes, length, IfSome, IsSome, IsSomeAnd};
+ghost use Rattle.port_state.specs.declared.signal.Phase.{Phase};
+ghost use Rattle.port_state.specs.declared.signal.Signal.{Signal};
+ghost use Rattle.trace_event.specs.declared.event.Part.{Part};
 ghost use Rattle.trace_event.specs.Stands.{Stands};
-ghost use Rattle.trace_event.specs.Event.{state_words, signal_words, coin_digit, IsWhatAt};
+ghost use Rattle.trace_event.specs.Event.{state_words, signal_words, coin_digit, IsShort, IsWhatAt};
 
 use crate::event::What;
 use crate::line::WhatRead;
@@ -40,42 +43,51 @@ fn state_words(phase: Phase) -> &'static [u8]
 
 /// A state, if its words stand at a place.
 fn this_state_at(text: &[u8], at: usize, phase: Phase) -> Option<StateRead>
-    ensures { IfSome result (λ r. Stands text.now at (state_words r.phase) r.next) }
+    ensures found { IfSome result (λ r. Stands text.now at (state_words r.phase) r.next) }
+    ensures only { (w : List ℕ) (next : ℕ) → Stands text.now at (state_words phase ++ w) next →
+        IsSome result }
 {
     let next = word_at(text, at, state_words(phase))?;
     Some(StateRead { phase, next })
 }
 
-/// The states by their numbers.
-fn phase_of(number: u8) -> Phase {
-    match number {
-        0 => Phase::ResetStart,
-        1 => Phase::ResetWait,
-        2 => Phase::TreeStart,
-        3 => Phase::ChildShake,
-        4 => Phase::ParentShake,
-        5 => Phase::Contend,
-        6 => Phase::SelfIdent,
-        _ => Phase::Ready,
-    }
-}
-
 /// The state whose words stand at a place.
 fn state_at(text: &[u8], at: usize) -> Option<StateRead>
-    ensures { IfSome result (λ r. Stands text.now at (state_words r.phase) r.next) }
+    ensures found { IfSome result (λ r. Stands text.now at (state_words r.phase) r.next) }
+    ensures only { (phase : Phase) (w : List ℕ) (next : ℕ) →
+        Stands text.now at (state_words phase ++ w) next →
+        IsSomeAnd result (λ r. Stands text.now r.next w next) }
 {
-    for number in 0..8u8 {
-        if let Some(found) = this_state_at(text, at, phase_of(number)) {
-            return Some(found);
-        }
+    if let Some(found) = this_state_at(text, at, Phase::ResetStart) {
+        return Some(found);
     }
-    None
+    if let Some(found) = this_state_at(text, at, Phase::ResetWait) {
+        return Some(found);
+    }
+    if let Some(found) = this_state_at(text, at, Phase::TreeStart) {
+        return Some(found);
+    }
+    if let Some(found) = this_state_at(text, at, Phase::ChildShake) {
+        return Some(found);
+    }
+    if let Some(found) = this_state_at(text, at, Phase::ParentShake) {
+        return Some(found);
+    }
+    if let Some(found) = this_state_at(text, at, Phase::Contend) {
+        return Some(found);
+    }
+    if let Some(found) = this_state_at(text, at, Phase::SelfIdent) {
+        return Some(found);
+    }
+    this_state_at(text, at, Phase::Ready)
 }
 
 /// A state that is entered.
 #[tactic(auto, using(crate::proofs::Chain::both))]
 pub(crate) fn enters_at(text: &[u8], at: usize) -> Option<WhatRead>
-    ensures { IfSome result (λ r. IsWhatAt text.now at r.what r.next) }
+    ensures found { IfSome result (λ r. IsWhatAt text.now at r.what r.next) }
+    ensures only { (node : Part) (phase : Phase) (next : ℕ) →
+        IsWhatAt text.now at (What.Enters node phase) next → IsSome result }
 {
     let node = name_at(text, at)?;
     let state = state_at(text, node.next)?;
@@ -89,7 +101,9 @@ pub(crate) fn enters_at(text: &[u8], at: usize) -> Option<WhatRead>
 
 /// A configuration timeout.
 pub(crate) fn timeout_at(text: &[u8], at: usize) -> Option<WhatRead>
-    ensures { IfSome result (λ r. IsWhatAt text.now at r.what r.next) }
+    ensures found { IfSome result (λ r. IsWhatAt text.now at r.what r.next) }
+    ensures only { (node : Part) (next : ℕ) →
+        IsWhatAt text.now at (What.Timeout node) next → IsSome result }
 {
     let node = name_at(text, at)?;
     let behind = word_at(text, node.next, b" configuration timeout")?;
@@ -100,7 +114,9 @@ pub(crate) fn timeout_at(text: &[u8], at: usize) -> Option<WhatRead>
 
 /// A port to the parent.
 pub(crate) fn parent_at(text: &[u8], at: usize) -> Option<WhatRead>
-    ensures { IfSome result (λ r. IsWhatAt text.now at r.what r.next) }
+    ensures found { IfSome result (λ r. IsWhatAt text.now at r.what r.next) }
+    ensures only { (node : Part) (port next : ℕ) →
+        IsWhatAt text.now at (What.ToParent node port) next → port < 4294967296 → IsSome result }
 {
     let port = port_at(text, at)?;
     let behind = word_at(text, port.next, b" to its parent")?;
@@ -114,7 +130,9 @@ pub(crate) fn parent_at(text: &[u8], at: usize) -> Option<WhatRead>
 
 /// A port to a child.
 pub(crate) fn child_at(text: &[u8], at: usize) -> Option<WhatRead>
-    ensures { IfSome result (λ r. IsWhatAt text.now at r.what r.next) }
+    ensures found { IfSome result (λ r. IsWhatAt text.now at r.what r.next) }
+    ensures only { (node : Part) (port next : ℕ) →
+        IsWhatAt text.now at (What.ToChild node port) next → port < 4294967296 → IsSome result }
 {
     let port = port_at(text, at)?;
     let behind = word_at(text, port.next, b" to a child")?;
@@ -129,7 +147,10 @@ pub(crate) fn child_at(text: &[u8], at: usize) -> Option<WhatRead>
 /// The coin that stands at a place, or none.
 fn coin_digit_at(text: &[u8], at: usize) -> ChoiceRead
     requires { at ≤ length text.now }
-    ensures { Stands text.now at (coin_digit result.choice) result.next }
+    ensures found { Stands text.now at (coin_digit result.choice) result.next }
+    ensures only { (o : Option ℕ) (w : List ℕ) (next : ℕ) →
+        Stands text.now at (coin_digit o ++ (codes " wait " ++ w)) next → IsShort o →
+        Stands text.now result.next (codes " wait " ++ w) next }
 {
     match number_at(text, at, b" ") {
         Some(number) => ChoiceRead {
@@ -146,7 +167,10 @@ fn coin_digit_at(text: &[u8], at: usize) -> ChoiceRead
 /// A coin.
 #[tactic(auto, using(crate::proofs::Chain::both))]
 pub(crate) fn coin_at(text: &[u8], at: usize) -> Option<WhatRead>
-    ensures { IfSome result (λ r. IsWhatAt text.now at r.what r.next) }
+    ensures found { IfSome result (λ r. IsWhatAt text.now at r.what r.next) }
+    ensures only { (node : Part) (coin : Option ℕ) (wait next : ℕ) →
+        IsWhatAt text.now at (What.Coin node coin wait) next → IsShort coin → wait < 4294967296 →
+        IsSome result }
 {
     let node = name_at(text, at)?;
     let behind = word_at(text, node.next, b" coin")?;
@@ -164,7 +188,9 @@ pub(crate) fn coin_at(text: &[u8], at: usize) -> Option<WhatRead>
 /// An ID that is taken.
 #[tactic(auto, using(crate::proofs::Chain::both))]
 pub(crate) fn id_at(text: &[u8], at: usize) -> Option<WhatRead>
-    ensures { IfSome result (λ r. IsWhatAt text.now at r.what r.next) }
+    ensures found { IfSome result (λ r. IsWhatAt text.now at r.what r.next) }
+    ensures only { (node : Part) (id next : ℕ) →
+        IsWhatAt text.now at (What.PhyId node id) next → id < 4294967296 → IsSome result }
 {
     let node = name_at(text, at)?;
     let id = number_at(text, node.next, b" phy_ID ")?;
@@ -179,7 +205,9 @@ pub(crate) fn id_at(text: &[u8], at: usize) -> Option<WhatRead>
 /// A signal, if its words stand at a place.
 fn this_signal_at(text: &[u8], at: usize, words: &[u8], signal: Signal) -> Option<SignalRead>
     requires { words.now ≡ signal_words signal }
-    ensures { IfSome result (λ r. Stands text.now at (signal_words r.signal) r.next) }
+    ensures found { IfSome result (λ r. Stands text.now at (signal_words r.signal) r.next) }
+    ensures only { (w : List ℕ) (next : ℕ) → Stands text.now at (signal_words signal ++ w) next →
+        IsSome result }
 {
     let next = word_at(text, at, words)?;
     Some(SignalRead { signal, next })
@@ -188,7 +216,9 @@ fn this_signal_at(text: &[u8], at: usize, words: &[u8], signal: Signal) -> Optio
 /// A self-ID packet, by its first quadlet.
 #[tactic(auto, using(crate::proofs::Chain::both))]
 fn packet_at(text: &[u8], at: usize) -> Option<SignalRead>
-    ensures { IfSome result (λ r. Stands text.now at (signal_words r.signal) r.next) }
+    ensures found { IfSome result (λ r. Stands text.now at (signal_words r.signal) r.next) }
+    ensures only { (quad : ℕ) (w : List ℕ) (next : ℕ) →
+        Stands text.now at (signal_words (Signal.Packet quad) ++ w) next → IsSome result }
 {
     let behind = word_at(text, at, b" packet ")?;
     let quad = quad_at(text, behind)?;
@@ -200,7 +230,10 @@ fn packet_at(text: &[u8], at: usize) -> Option<SignalRead>
 
 /// The signal whose words stand at a place.
 fn signal_at(text: &[u8], at: usize) -> Option<SignalRead>
-    ensures { IfSome result (λ r. Stands text.now at (signal_words r.signal) r.next) }
+    ensures found { IfSome result (λ r. Stands text.now at (signal_words r.signal) r.next) }
+    ensures only { (signal : Signal) (w : List ℕ) (next : ℕ) →
+        Stands text.now at (signal_words signal ++ w) next →
+        IsSomeAnd result (λ r. Stands text.now r.next w next) }
 {
     if let Some(found) = this_signal_at(text, at, b" BUS_RESET", Signal::Reset) {
         return Some(found);
@@ -226,7 +259,10 @@ fn signal_at(text: &[u8], at: usize) -> Option<SignalRead>
 /// A signal that is sent.
 #[tactic(auto, using(crate::proofs::Chain::both))]
 pub(crate) fn sends_at(text: &[u8], at: usize) -> Option<WhatRead>
-    ensures { IfSome result (λ r. IsWhatAt text.now at r.what r.next) }
+    ensures found { IfSome result (λ r. IsWhatAt text.now at r.what r.next) }
+    ensures only { (node : Part) (port : ℕ) (signal : Signal) (next : ℕ) →
+        IsWhatAt text.now at (What.Sends node port signal) next → port < 4294967296 →
+        IsSome result }
 {
     let port = port_at(text, at)?;
     let behind = word_at(text, port.next, b" sends")?;

@@ -1,6 +1,9 @@
 //! The line of an event.
-ghost use Rattle.std.specs.Prelude.{IfSome};
-ghost use Rattle.trace_event.specs.Event.{IsWhatAt, IsEventAt};
+ghost use Rattle.std.specs.Prelude.{◌≡◌, ℕ, true, IfSome, IsSome};
+ghost use Rattle.trace_event.specs.declared.event.Event.{Event};
+ghost use Rattle.trace_event.specs.declared.event.What.{What};
+ghost use Rattle.trace_event.specs.Event.{HasNumbers, IsWhatAt, IsEventAt, IsShownAt};
+ghost use Rattle.trace_event.specs.codings.Kind.{is_act, is_of_node, is_of_port};
 
 use crate::acts::{config_at, hold_at, plug_at, pull_at, reset_at};
 use crate::event::{Event, What};
@@ -25,7 +28,9 @@ pub struct Found {
 
 /// An act or a hold.
 fn act_at(text: &[u8], at: usize) -> Option<WhatRead>
-    ensures { IfSome result (λ r. IsWhatAt text.now at r.what r.next) }
+    ensures found { IfSome result (λ r. IsWhatAt text.now at r.what r.next) }
+    ensures only { (what : What) (next : ℕ) → is_act what ≡ true →
+        IsWhatAt text.now at what next → HasNumbers what → IsSome result }
 {
     if let Some(found) = plug_at(text, at) {
         return Some(found);
@@ -44,7 +49,9 @@ fn act_at(text: &[u8], at: usize) -> Option<WhatRead>
 
 /// What happens at a node as a whole.
 fn node_at(text: &[u8], at: usize) -> Option<WhatRead>
-    ensures { IfSome result (λ r. IsWhatAt text.now at r.what r.next) }
+    ensures found { IfSome result (λ r. IsWhatAt text.now at r.what r.next) }
+    ensures only { (what : What) (next : ℕ) → is_of_node what ≡ true →
+        IsWhatAt text.now at what next → HasNumbers what → IsSome result }
 {
     if let Some(found) = enters_at(text, at) {
         return Some(found);
@@ -60,7 +67,9 @@ fn node_at(text: &[u8], at: usize) -> Option<WhatRead>
 
 /// What happens on a port of a node.
 fn port_event_at(text: &[u8], at: usize) -> Option<WhatRead>
-    ensures { IfSome result (λ r. IsWhatAt text.now at r.what r.next) }
+    ensures found { IfSome result (λ r. IsWhatAt text.now at r.what r.next) }
+    ensures only { (what : What) (next : ℕ) → is_of_port what ≡ true →
+        IsWhatAt text.now at what next → HasNumbers what → IsSome result }
 {
     if let Some(found) = sends_at(text, at) {
         return Some(found);
@@ -73,7 +82,9 @@ fn port_event_at(text: &[u8], at: usize) -> Option<WhatRead>
 
 /// What happens, behind the turn.
 fn what_at(text: &[u8], at: usize) -> Option<WhatRead>
-    ensures { IfSome result (λ r. IsWhatAt text.now at r.what r.next) }
+    ensures found { IfSome result (λ r. IsWhatAt text.now at r.what r.next) }
+    ensures only { (what : What) (next : ℕ) → IsWhatAt text.now at what next →
+        HasNumbers what → IsSome result }
 {
     if let Some(found) = port_event_at(text, at) {
         return Some(found);
@@ -85,10 +96,12 @@ fn what_at(text: &[u8], at: usize) -> Option<WhatRead>
 }
 
 /// The event whose line stands at a place of a text, as a trace has it: `turn T`, what happens, and a line
-/// feed. That no line of a trace is passed over isn't promised.
+/// feed. If the line of an event stands there, one is found. A line that can be read in two ways, as that of a cable
+/// between nodes `coin` and `wait`, is found as one of them.
 #[tactic(auto, using(crate::proofs::Chain::both))]
 pub fn event_at(text: &[u8], at: usize) -> Option<Found>
-    ensures { IfSome result (λ f. IsEventAt text.now at f.event f.next) }
+    ensures found { IfSome result (λ f. IsEventAt text.now at f.event f.next) }
+    ensures only { (event : Event) (next : ℕ) → IsShownAt text.now at event next → IsSome result }
 {
     let turn = number_at(text, at, b"turn ")?;
     let found = what_at(text, turn.next)?;

@@ -1,8 +1,13 @@
 //! The words of a line.
-ghost use Rattle.std.specs.Prelude.{◌≡◌, ◌+◌, ◌%◌, ◌<◌, ◌≤◌, [], ◌∷◌, ◌++◌, length, decimal, IfSome};
+ghost use Rattle.std.specs.Prelude.{◌≡◌, ℕ, ◌+◌, ◌<◌, ◌≤◌, List, [], ◌∷◌, ◌++◌, Option, length, drop, decimal, IfSome, IsSome, IsSomeAnd};
+ghost use Rattle.std.specs.List.{prefix_len, slice_range};
+ghost use Rattle.std.specs.Char.{is_ascii_digit};
 ghost use Rattle.topology_stack.specs.Hex.{hex, hex_digit};
+ghost use Rattle.topology_stack.specs.Name.{IsName};
+ghost use Rattle.trace_event.specs.declared.event.Part.{Part};
 ghost use Rattle.trace_event.specs.Stands.{Stands, bytes_of, IsNameIn};
-ghost use Rattle.trace_event.specs.Event.{numbered, choice, name_word, end_words, port_words};
+ghost use Rattle.trace_event.specs.Event.{numbered, choice, name_word, end_words, port_words, IsShort};
+ghost use Rattle.trace_event.specs.codings.Follows.{EndsNumber, is_inner, EndsName};
 
 use crate::event::Part;
 use itoa::Buffer;
@@ -39,7 +44,9 @@ pub(crate) struct ChoiceRead {
 
 /// The place behind a word that stands at a place.
 pub(crate) fn word_at(text: &[u8], at: usize, word: &[u8]) -> Option<usize>
-    ensures { IfSome result (λ next. Stands text.now at word.now next) }
+    ensures found { IfSome result (λ next. Stands text.now at word.now next) }
+    ensures only { (w : List ℕ) (next : ℕ) → Stands text.now at (word.now ++ w) next →
+        IsSomeAnd result (λ place. Stands text.now place w next) }
 {
     if at > text.len() || text.len() - at < word.len() {
         return None;
@@ -56,6 +63,7 @@ fn digits_end(text: &[u8], at: usize) -> usize
     requires { at ≤ length text.now }
     ensures from { at ≤ result }
     ensures inside { result ≤ length text.now }
+    ensures value { result ≡ at + prefix_len is_ascii_digit (drop at text.now) }
 {
     for next in at..text.len() {
         if !text[next].is_ascii_digit() {
@@ -67,7 +75,8 @@ fn digits_end(text: &[u8], at: usize) -> usize
 
 /// The number of which these bytes are the decimal digits.
 fn number_in(digits: &[u8]) -> Option<u32>
-    ensures { IfSome result (λ n. decimal n ≡ digits.now) }
+    ensures found { IfSome result (λ n. decimal n ≡ digits.now) }
+    ensures only { (n : ℕ) → n < 4294967296 → digits.now ≡ decimal n → IsSome result }
 {
     let Ok(word) = str::from_utf8(digits) else {
         return None;
@@ -84,7 +93,9 @@ fn number_in(digits: &[u8]) -> Option<u32>
 
 /// The number whose decimal digits stand at a place.
 fn digits_at(text: &[u8], at: usize) -> Option<NumberRead>
-    ensures { IfSome result (λ r. Stands text.now at (decimal r.value) r.next) }
+    ensures found { IfSome result (λ r. Stands text.now at (decimal r.value) r.next) }
+    ensures only { (n : ℕ) (w : List ℕ) (next : ℕ) → Stands text.now at (decimal n ++ w) next →
+        n < 4294967296 → EndsNumber w → IsSomeAnd result (λ r. Stands text.now r.next w next) }
 {
     if at > text.len() {
         return None;
@@ -97,7 +108,10 @@ fn digits_at(text: &[u8], at: usize) -> Option<NumberRead>
 /// The number behind a word.
 #[tactic(auto, using(crate::proofs::Chain::both))]
 pub(crate) fn number_at(text: &[u8], at: usize, word: &[u8]) -> Option<NumberRead>
-    ensures { IfSome result (λ r. Stands text.now at (numbered word.now r.value) r.next) }
+    ensures found { IfSome result (λ r. Stands text.now at (numbered word.now r.value) r.next) }
+    ensures only { (n : ℕ) (w : List ℕ) (next : ℕ) →
+        Stands text.now at (numbered word.now n ++ w) next → n < 4294967296 → EndsNumber w →
+        IsSomeAnd result (λ r. Stands text.now r.next w next) }
 {
     let behind = word_at(text, at, word)?;
     let number = digits_at(text, behind)?;
@@ -109,6 +123,7 @@ fn name_end(text: &[u8], at: usize) -> usize
     requires { at ≤ length text.now }
     ensures from { at ≤ result }
     ensures inside { result ≤ length text.now }
+    ensures value { result ≡ at + prefix_len is_inner (drop at text.now) }
 {
     for next in at..text.len() {
         if text[next] == b' ' || text[next] == b'\n' {
@@ -124,6 +139,7 @@ fn name_between(text: &[u8], start: usize, next: usize) -> Option<Part>
     requires next { next ≤ length text.now }
     ensures named { IfSome result (λ p. IsNameIn text.now p) }
     ensures stands { IfSome result (λ p. Stands text.now start (bytes_of text.now p) next) }
+    ensures only { IsName (slice_range text.now start next) → IsSome result }
 {
     let _name = Name::new(&text[start..next])?;
     Some(Part {
@@ -137,6 +153,9 @@ fn name_between(text: &[u8], start: usize, next: usize) -> Option<Part>
 pub(crate) fn name_at(text: &[u8], at: usize) -> Option<NameRead>
     ensures stands { IfSome result (λ r. Stands text.now at (name_word text.now r.name) r.next) }
     ensures named { IfSome result (λ r. IsNameIn text.now r.name) }
+    ensures only { (p : Part) (w : List ℕ) (next : ℕ) →
+        Stands text.now at (name_word text.now p ++ w) next → IsNameIn text.now p → EndsName w →
+        IsSomeAnd result (λ r. Stands text.now r.next w next) }
 {
     let start = word_at(text, at, b" ")?;
     let next = name_end(text, start);
@@ -150,6 +169,10 @@ fn port_behind(text: &[u8], at: usize, word: &[u8]) -> Option<EndRead>
     ensures stands { IfSome result (λ r. Stands text.now at
         (name_word text.now r.name ++ numbered word.now r.port) r.next) }
     ensures named { IfSome result (λ r. IsNameIn text.now r.name) }
+    ensures only { (p : Part) (n : ℕ) (w : List ℕ) (next : ℕ) →
+        Stands text.now at ((name_word text.now p ++ numbered word.now n) ++ w) next →
+        IsNameIn text.now p → n < 4294967296 → EndsName word.now → EndsNumber w →
+        IsSomeAnd result (λ r. Stands text.now r.next w next) }
 {
     let name = name_at(text, at)?;
     let port = number_at(text, name.next, word)?;
@@ -164,6 +187,9 @@ fn port_behind(text: &[u8], at: usize, word: &[u8]) -> Option<EndRead>
 pub(crate) fn end_at(text: &[u8], at: usize) -> Option<EndRead>
     ensures stands { IfSome result (λ r. Stands text.now at (end_words text.now r.name r.port) r.next) }
     ensures named { IfSome result (λ r. IsNameIn text.now r.name) }
+    ensures only { (p : Part) (n : ℕ) (w : List ℕ) (next : ℕ) →
+        Stands text.now at (end_words text.now p n ++ w) next → IsNameIn text.now p →
+        n < 4294967296 → EndsNumber w → IsSomeAnd result (λ r. Stands text.now r.next w next) }
 {
     port_behind(text, at, b" ")
 }
@@ -172,6 +198,9 @@ pub(crate) fn end_at(text: &[u8], at: usize) -> Option<EndRead>
 pub(crate) fn port_at(text: &[u8], at: usize) -> Option<EndRead>
     ensures stands { IfSome result (λ r. Stands text.now at (port_words text.now r.name r.port) r.next) }
     ensures named { IfSome result (λ r. IsNameIn text.now r.name) }
+    ensures only { (p : Part) (n : ℕ) (w : List ℕ) (next : ℕ) →
+        Stands text.now at (port_words text.now p n ++ w) next → IsNameIn text.now p →
+        n < 4294967296 → EndsNumber w → IsSomeAnd result (λ r. Stands text.now r.next w next) }
 {
     port_behind(text, at, b" port ")
 }
@@ -179,7 +208,10 @@ pub(crate) fn port_at(text: &[u8], at: usize) -> Option<EndRead>
 /// ` N`, or ` -` for none.
 #[tactic(auto, using(crate::proofs::Chain::both))]
 pub(crate) fn choice_at(text: &[u8], at: usize) -> Option<ChoiceRead>
-    ensures { IfSome result (λ r. Stands text.now at (choice r.choice) r.next) }
+    ensures found { IfSome result (λ r. Stands text.now at (choice r.choice) r.next) }
+    ensures only { (o : Option ℕ) (w : List ℕ) (next : ℕ) →
+        Stands text.now at (choice o ++ w) next → IsShort o → EndsNumber w →
+        IsSomeAnd result (λ r. Stands text.now r.next w next) }
 {
     if let Some(next) = word_at(text, at, b" -") {
         return Some(ChoiceRead { choice: None, next });
@@ -191,51 +223,37 @@ pub(crate) fn choice_at(text: &[u8], at: usize) -> Option<ChoiceRead>
     })
 }
 
-/// A hexadecimal digit in lower case.
-fn hex_digit(value: u32) -> u8
-    requires { value < 16 }
-    ensures { result ≡ hex_digit value }
+/// The value of the hexadecimal digit, in lower case, that stands at a place.
+fn hex_digit_at(text: &[u8], at: usize) -> Option<u32>
+    ensures few { IfSome result (λ d. d < 16) }
+    ensures found { IfSome result (λ d. Stands text.now at (hex_digit d ∷ []) (at + 1)) }
+    ensures only { (d : ℕ) (w : List ℕ) (next : ℕ) → d < 16 →
+        Stands text.now at (hex_digit d ∷ w) next → IsSome result }
 {
-    if value < 10 {
-        b'0' + value as u8
-    } else {
-        87 + value as u8
+    if at >= text.len() {
+        return None;
     }
-}
-
-/// The place behind a digit of a number, if it stands at a place.
-fn hex_digit_at(text: &[u8], at: usize, value: u32) -> Option<usize>
-    ensures { IfSome result (λ next. Stands text.now at (hex_digit (value % 16) ∷ []) next) }
-{
-    let word = [hex_digit(value % 16)];
-    word_at(text, at, &word)
-}
-
-/// The number that eight hexadecimal digits spell, or any other.
-fn hex_value(text: &[u8], at: usize) -> u32 {
-    let mut value = 0u32;
-    for i in 0..8 {
-        let digit = match text.get(at.saturating_add(i)) {
-            Some(c) => char::from(*c).to_digit(16).unwrap_or(0),
-            None => 0,
-        };
-        value = (value << 4) | digit;
+    match text[at] {
+        c @ b'0'..=b'9' => Some(u32::from(c - b'0')),
+        c @ b'a'..=b'f' => Some(u32::from(c - 87)),
+        _ => None,
     }
-    value
 }
 
 /// Eight hexadecimal digits.
 pub(crate) fn quad_at(text: &[u8], at: usize) -> Option<NumberRead>
-    ensures { IfSome result (λ r. Stands text.now at (hex 8 r.value) r.next) }
+    ensures found { IfSome result (λ r. Stands text.now at (hex 8 r.value) r.next) }
+    ensures only { (q : ℕ) (w : List ℕ) (next : ℕ) → Stands text.now at (hex 8 q ++ w) next →
+        IsSomeAnd result (λ r. Stands text.now r.next w next) }
 {
-    let value = hex_value(text, at);
-    let second = hex_digit_at(text, at, value >> 28)?;
-    let third = hex_digit_at(text, second, value >> 24)?;
-    let fourth = hex_digit_at(text, third, value >> 20)?;
-    let fifth = hex_digit_at(text, fourth, value >> 16)?;
-    let sixth = hex_digit_at(text, fifth, value >> 12)?;
-    let seventh = hex_digit_at(text, sixth, value >> 8)?;
-    let eighth = hex_digit_at(text, seventh, value >> 4)?;
-    let next = hex_digit_at(text, eighth, value)?;
+    if at > text.len() {
+        return None;
+    }
+    let mut value = 0u32;
+    let mut next = at;
+    for count in 0..8u8 {
+        value = 16 * value + hex_digit_at(text, next)?;
+        next += 1;
+    }
     Some(NumberRead { value, next })
 }
