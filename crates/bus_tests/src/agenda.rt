@@ -1,6 +1,7 @@
 //! A world that passes over turns makes few calls of its machines.
-ghost use Rattle.std.specs.Prelude.{◌≡◌, ◌<◌, All, IfOk, length, refl};
+ghost use Rattle.std.specs.Prelude.{◌≡◌, ◌<◌, All, IfOk, length};
 ghost use Rattle.phy_machine.specs.Field.{field_node};
+ghost use Rattle.cable_world.specs.Times.{KeepsTime, longest_in_range};
 ghost use Rattle.cable_world.specs.World.{IsNodeAtPowerOn};
 
 use crate::nodes::{USUAL, spec};
@@ -28,7 +29,7 @@ impl Counting<'_> {
 }
 
 impl PortMachine for Counting<'_> {
-    ghost use Rattle.phy_machine.specs.Field.{field_node};
+    ghost use Rattle.phy_machine.specs.Field.{field_node, field_regular};
 
     ghost record_of = { λ m. field_node m.machine };
 
@@ -82,28 +83,46 @@ impl PortMachine for Counting<'_> {
         self.machine.idle_for()
     }
 
-    fn pass(&mut self, ticks: u32) {
+    fn is_even(&self) -> bool {
+        self.machine.is_even()
+    }
+
+    fn ticks_on(&self, past: u32) -> u32 {
+        self.machine.ticks_on(past)
+    }
+
+    fn timer_after(&self, turns: u32) -> u16 {
+        self.machine.timer_after(turns)
+    }
+
+    fn pass(&mut self, turns: u32) {
         self.count();
-        self.machine.pass(ticks);
+        self.machine.pass(turns);
     }
 
     ghost valid = { λ m. m.machine.valid };
 
-    ghost steady = { λ m. refl };
+    ghost regular = { λ m. field_regular m.machine };
 }
 
 /// A machine that was just powered on.
 fn powered_on() -> FieldMachine
-    ensures { IsNodeAtPowerOn 4 (field_node result).state }
+    ensures node { IsNodeAtPowerOn 4 (field_node result).state }
+    ensures clock { KeepsTime (longest_in_range 4) (field_node result).state.timing
+        (field_node result).clock }
 {
     FieldMachine::new(spec(USUAL, 4))
 }
 
 /// One machine.
 fn alone<M: PortMachine + Drop>(alloc: Global, machine: M) -> Result<Vec<M>, AllocError>
-    requires { IsNodeAtPowerOn 4 (M.record_of machine).state }
+    requires node { IsNodeAtPowerOn 4 (M.record_of machine).state }
+    requires clock { KeepsTime (longest_in_range 4) (M.record_of machine).state.timing
+        (M.record_of machine).clock }
     ensures power_on { IfOk result (λ made.
         All (λ m. IsNodeAtPowerOn 4 (M.record_of m).state) made.items) }
+    ensures clocks { IfOk result (λ made. All (λ m. KeepsTime (longest_in_range 4)
+        (M.record_of m).state.timing (M.record_of m).clock) made.items) }
     ensures length { IfOk result (λ made. length made.items ≡ 1) }
 {
     let mut made = Vec::new(alloc);

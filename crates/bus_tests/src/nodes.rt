@@ -3,6 +3,7 @@ ghost use Rattle.std.specs.Prelude.{◌≡◌, ◌≤◌, All, IfOk, length};
 ghost use Rattle.phy_machine.specs.Any.{any_node};
 ghost use Rattle.phy_machine.specs.PowerOn.{IsSpec, node_of_spec};
 ghost use Rattle.port_state.specs.Timing.{InRange};
+ghost use Rattle.cable_world.specs.Times.{KeepsTime, longest_in_range};
 ghost use Rattle.cable_world.specs.World.{IsNodeAtPowerOn};
 
 use cable_world::{World, WorldRun};
@@ -84,7 +85,9 @@ fn machine(spec: NodeSpec, packed: bool) -> AnyMachine
 fn powered_on(node: Node, d: u8, packed: bool) -> AnyMachine
     requires some { 1 ≤ d }
     requires few { d ≤ 16 }
-    ensures { IsNodeAtPowerOn d (any_node result).state }
+    ensures node { IsNodeAtPowerOn d (any_node result).state }
+    ensures clock { KeepsTime (longest_in_range d) (any_node result).state.timing
+        (any_node result).clock }
 {
     machine(spec(node, d), packed)
 }
@@ -99,6 +102,8 @@ fn machines(
     requires few { d ≤ 16 }
     ensures power_on { IfOk result (λ made.
         All (λ m. IsNodeAtPowerOn d (any_node m).state) made.items) }
+    ensures clocks { IfOk result (λ made. All (λ m. KeepsTime (longest_in_range d)
+        (any_node m).state.timing (any_node m).clock) made.items) }
     ensures length { IfOk result (λ made. length made.items ≡ length nodes.now) }
 {
     let mut made = Vec::new(alloc);

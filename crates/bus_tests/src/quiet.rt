@@ -13,6 +13,6 @@ pub fn can_settle<W: WorldRun>(world: &W) -> bool
     if world.spent() {
         return true;
     }
-    let quiet = quiet_turns_for(world.cabling().nodes(), world.delay(), world.longest());
+    let quiet = quiet_turns_for(world);
     u64::from(world.turns()) + u64::from(quiet) <= 4_000_000_000
 }

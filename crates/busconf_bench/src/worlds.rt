@@ -1,6 +1,7 @@
 //! Buses of 63 nodes that run.
 ghost use Rattle.std.specs.Prelude.{◌≡◌, All, IfOk, length};
 ghost use Rattle.phy_machine.specs.Field.{field_node};
+ghost use Rattle.cable_world.specs.Times.{KeepsTime, longest_in_range};
 ghost use Rattle.cable_world.specs.World.{IsNodeAtPowerOn};
 
 use crate::cablings::{Shape, joined};
@@ -29,7 +30,9 @@ const SETTLED: u32 = 73_520;
 
 /// A machine that was just powered on.
 fn powered_on(ports: u8, node: u8) -> FieldMachine
-    ensures { IsNodeAtPowerOn 4 (field_node result).state }
+    ensures node { IsNodeAtPowerOn 4 (field_node result).state }
+    ensures clock { KeepsTime (longest_in_range 4) (field_node result).state.timing
+        (field_node result).clock }
 {
     FieldMachine::new(spec(ports, Coins::seeded(u32::from(node))))
 }
@@ -46,6 +49,8 @@ fn ports_in(shape: Shape) -> u8 {
 fn machines(alloc: Global, shape: Shape) -> Result<Vec<FieldMachine>, AllocError>
     ensures power_on { IfOk result (λ made.
         All (λ m. IsNodeAtPowerOn 4 (field_node m).state) made.items) }
+    ensures clocks { IfOk result (λ made. All (λ m. KeepsTime (longest_in_range 4)
+        (field_node m).state.timing (field_node m).clock) made.items) }
     ensures few { IfOk result (λ made. length made.items ≡ 63) }
 {
     let ports = ports_in(shape);

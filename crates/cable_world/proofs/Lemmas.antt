@@ -9,11 +9,11 @@ pub use Rattle.cable_world.proofs.Options.{none-some, some-and, some-at, some-of
 -- Facts of phases, each of which holds phase by phase.
 pub use Rattle.cable_world.proofs.PhaseFacts.{start-before_tree, start-slack, start-timed}
 -- Times that suit a bus.
-pub use Rattle.cable_world.proofs.Times.{SuitsCables, suits-cables, in-range-counted, in-range-forced, in-range-suits, powered-in-range}
+pub use Rattle.cable_world.proofs.Times.{SuitsCables, suits-cables, in-range-counted, in-range-even, in-range-forced, in-range-suits, powered-in-range}
 -- Quiet turns, with holds placed between them: how they are counted, and what they keep.
 pub use Rattle.cable_world.proofs.QuietTurns.{after-cabling, holds-are-calls, holds-kept, holds-lawful, holds-signals, no-quiet, one-quiet, plain-quiet, plainly, quiet-comes, quiet-first, quiet-lawful, quiet-reached, quiet-then, quiet-timed, turns-cabling}
 -- Quiet turns one after the other, and runs without an act.
-pub use Rattle.cable_world.proofs.Rests.{one-hold, one-turn, quiet-run, rests-cabling, rests-come, rests-then, turns-rest}
+pub use Rattle.cable_world.proofs.Rests.{one-hold, one-turn, quiet-run, rests-cabling, rests-come, rests-slack, rests-then, turns-rest}
 -- Turns, holds and acts keep a world lawful, and so every world that comes of a power-on world is
 -- lawful; and each reached world can run.
 pub use Rattle.cable_world.proofs.StaysLawful.{act-lawful, comes-lawful, hold-lawful, power-on-lawful, reached-lawful, reached-runs, turn-lawful}
@@ -56,7 +56,7 @@ pub use Rattle.cable_world.proofs.running.Acting.{same-itself}
 -- from its length.
 pub use Rattle.cable_world.proofs.running.Lists.{no-packets}
 -- The tables of a world at power-on.
-pub use Rattle.cable_world.proofs.running.Start.{are-counts, as-long, each-node, even-paced, power-on, rows-are, start-is}
+pub use Rattle.cable_world.proofs.running.Start.{are-counts, as-long, each-node, even-paced, forced-in-range, power-on, rows-are, start-is}
 -- A world by its parts: what a lawful one gives to the code, and its turn.
 pub use Rattle.cable_world.proofs.running.Whole.{all-young, fault-of, held-is, lawful-now, put-back, put-long, rows-long, sent-long, settled, short-now, turn-is, vectors-related, young-from}
 -- The power-on world is well formed, and as no cable is there its wires agree.
@@ -72,9 +72,10 @@ pub use Rattle.cable_world.proofs.tables.TablesInActs.{act-formed, altered, as_b
 pub use Rattle.cable_world.proofs.tables.TablesInSteps.{HasEntry, not-replaced, put-lengths, put-other, put-same, replaced, sent-length, step-cables}
 -- A turn keeps a world well formed.
 pub use Rattle.cable_world.proofs.tables.TablesInTurns.{steady-at, turn-formed}
--- Turns and acts change no node's times, and a clock goes on as it is, in turns alone. So who can be forced stays
--- so, and each node keeps time.
-pub use Rattle.cable_world.proofs.tables.TimesKept.{act-forced, misses-slowly, turn-forced}
+-- Turns and acts change no node's times, and a clock goes on as it is, in turns alone. So each node keeps time, regular
+-- clocks keep their slack, and who can be forced stays so.
+pub use Rattle.cable_world.proofs.tables.TimesKept.{GoesOn, act-timed, misses-slowly, turn-timed}
+pub use Rattle.cable_world.proofs.tables.Slack.{act-forced, act-slack, even-slack, turn-forced, turn-slack}
 -- A turn, node by node and wire by wire.
 pub use Rattle.cable_world.proofs.turns.ByNumber.{cabling-after, delay-after, longest-after, node-after, nodes-after, sent-at, turns-counted, wire-after}
 -- What is to be known of a node that hears a list of signals.

@@ -1,12 +1,14 @@
 -- Quiet turns one after the other, and runs without an act.
 use Rattle.std.proofs.Common.{◌≡◌, ℕ, zero, suc, ◌+◌, List, [], ◌∷◌, None, refl, sym, ◌∙◌, subst, arith}
 use Rattle.cabling.specs.declared.cable.End.{End}
-use Rattle.cable_world.specs.World.{CableWorld}
+use Rattle.cable_world.specs.World.{CableWorld, slack}
 use Rattle.cable_world.specs.Turn.{turn, turns_after}
 use Rattle.cable_world.specs.Act.{hold, hold_fault}
-use Rattle.cable_world.specs.Run.{ComesOf, held, turned, Rests, still, hold_first, turn_first}
+use Rattle.cable_world.specs.Run.{ComesOf, IsReached, held, turned, Rests, still, hold_first, turn_first}
 use Rattle.cable_world.specs.Events.{Event, acts, holds, turns, Runs, HasNoAct, turn_count}
 use Rattle.cable_world.proofs.turns.ByNumber.{cabling-after}
+use Rattle.cable_world.proofs.tables.Slack.{turn-slack}
+use Rattle.cable_world.proofs.StaysLawful.{reached-lawful, reached-runs}
 
 -- one hold, and one turn
 pub one-hold :
@@ -43,6 +45,13 @@ pub rests-cabling : {k : ℕ} {w v : CableWorld} → Rests k w v → v.cabling �
 rests-cabling still = refl
 rests-cabling (hold_first end n none rests) = rests-cabling rests
 rests-cabling {w = w} (turn_first rests) = rests-cabling rests ∙ cabling-after w
+
+-- and the slack of a world that runs stays as it is
+pub rests-slack : {k : ℕ} {w v : CableWorld} → Rests k w v → IsReached w → slack v ≡ slack w
+rests-slack still r = refl
+rests-slack {w = w} (hold_first end n none rests) r = rests-slack rests (held end n w none r)
+rests-slack {w = w} (turn_first rests) r =
+    rests-slack rests (turned w r) ∙ turn-slack w (reached-lawful w r).well_formed (reached-runs w r).regular
 
 -- a run without an act
 pub quiet-run :

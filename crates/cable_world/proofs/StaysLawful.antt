@@ -20,7 +20,8 @@ use Rattle.cable_world.proofs.Options.{some-same}
 use Rattle.cable_world.proofs.StaysReached.{reached-comes}
 use Rattle.cable_world.proofs.tables.CountsInActs.{act-keeps}
 use Rattle.cable_world.proofs.turns.ByNumber.{delay-after}
-use Rattle.cable_world.proofs.tables.TimesKept.{Timed, GoesOn, turn-timed, act-timed, turn-forced, act-forced, turn-even, act-even, turn-paced, act-paced}
+use Rattle.cable_world.proofs.tables.TimesKept.{Timed, GoesOn, turn-timed, act-timed, turn-paced, act-paced}
+use Rattle.cable_world.proofs.tables.Slack.{turn-forced, act-forced, turn-regular, act-regular}
 use Rattle.cable_world.proofs.tables.TablesInTurns.{turn-formed}
 use Rattle.cable_world.proofs.tables.TablesInActs.{act-formed, hold-formed}
 use Rattle.cable_world.proofs.levels.LevelsInActs.{act-levels, hold-levels}
@@ -88,19 +89,19 @@ times-stay events w v k x y l r at_x at_y =
 turn-runs : (w : CableWorld) → IsLawful w → CanRun w → CanRun (turn w)
 turn-runs w l h = record {
   short_delay = rw (delay-after w) h.short_delay;
-  forced = turn-forced w l.well_formed h.forced;
-  even = turn-even w l.well_formed h.even;
+  forced = turn-forced w l.well_formed h.regular h.forced;
+  regular = turn-regular w l.well_formed h.regular;
 }
 
 act-runs : (a : Act) (w v : CableWorld) → ActLeads a w v → CanRun w → CanRun v
 act-runs a w v led h = record {
   short_delay = rw (act-keeps a w v led).delay h.short_delay;
   forced = act-forced a w v led h.forced;
-  even = act-even a w v led h.even;
+  regular = act-regular a w v led h.regular;
 }
 
 hold-runs : (end : End) (n : ℕ) (w : CableWorld) → CanRun w → CanRun (hold end n w)
-hold-runs end n w h = record { short_delay = h.short_delay; forced = h.forced; even = h.even }
+hold-runs end n w h = record { short_delay = h.short_delay; forced = h.forced; regular = h.regular }
 
 pub reached-runs : ReachedCanRun
 reached-runs _ (starts w p) = p.1

@@ -1,10 +1,11 @@
 -- Times that suit a bus.
-use Rattle.std.proofs.Common.{◌≡◌, ℕ, ◌+◌, ◌*◌, ◌<◌, ◌≤◌, arith}
+use Rattle.std.proofs.Common.{◌≡◌, ℕ, ◌+◌, ◌*◌, ◌/◌, ◌<◌, ◌≤◌, true, refl, arith}
 use Rattle.port_state.specs.declared.timing.Timing.{Timing}
 use Rattle.port_state.specs.declared.states.NodeState.{NodeState}
 use Rattle.port_state.specs.Timing.{InRange}
+use Rattle.port_state.specs.Clock.{Clock, even, slow, every, is_even}
 use Rattle.port_state.specs.TimeRanges.{AreCountable}
-use Rattle.cable_world.specs.Times.{Suits, CanBeForced, longest_in_range}
+use Rattle.cable_world.specs.Times.{Suits, KeepsTime, CanBeForced, longest_in_range}
 use Rattle.cable_world.specs.World.{IsNodeAtPowerOn, IsPowered}
 
 -- what is so of a node's times by themselves
@@ -47,6 +48,19 @@ in-range-suits d t some few i = record {
 pub in-range-forced :
     (d : ℕ) (t : Timing) → 1 ≤ d → InRange d t → CanBeForced d (longest_in_range d) t
 in-range-forced d t some i = record { enough = omega (arith, i.hold_least, i.force, some) }
+
+-- where the longest times are those in range no clock misses turns, since a force time has no room for them
+pub in-range-even :
+    (d : ℕ) (t : Timing) (c : Clock) → InRange d t → KeepsTime (longest_in_range d) t c → is_even c ≡ true
+in-range-even d t c i k = go c k
+  where
+    room : (a b most : ℕ) → a + b + 1 ≤ most → a ≡ most → ⊥
+    room a b most h e = omega (arith, h, e)
+
+    go : (c : Clock) → KeepsTime (longest_in_range d) t c → is_even c ≡ true
+    go even k = refl
+    go (slow n next) k = absurd (room t.force (t.force / t.long) (256 * d) k.1.force_most i.force)
+    go (every gap n) k = absurd (room t.force (t.force / t.long) (256 * d) k.1.force_most i.force)
 
 pub powered-in-range :
     (d : ℕ) (x : NodeState) → 1 ≤ d → d ≤ 16 → IsNodeAtPowerOn d x →

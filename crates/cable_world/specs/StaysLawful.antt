@@ -41,7 +41,7 @@ ReachedAtPowerOn = (w : CableWorld) → IsPowerOnWorld w → CanRun w → IsReac
 abbrev pub ReachedComesOfPowerOn : Type 0
 ReachedComesOfPowerOn = (w : CableWorld) → IsReached w → ComesOfPowerOn w
 
--- times never change, and no clock begins to miss turns: so every reached world can run
+-- times never change, and regular clocks stay regular: so every reached world can run
 abbrev pub ReachedCanRun : Type 0
 ReachedCanRun = (w : CableWorld) → IsReached w → CanRun w
 

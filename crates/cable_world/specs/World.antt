@@ -1,5 +1,5 @@
 -- The world: nodes, the cables between them, and what is under way.
-use Rattle.std.specs.Prelude.{◌≡◌, ℕ, ◌≤◌, List, [], length, map, replicate, slice_get, slice_set, slice_index_or, Some}
+use Rattle.std.specs.Prelude.{◌≡◌, ℕ, ◌+◌, ◌≤◌, List, [], ◌∷◌, length, map, replicate, slice_get, slice_set, slice_index_or, Some, if◌then◌else◌}
 use Rattle.cabling.specs.declared.cable.End.{End}
 use Rattle.cabling.specs.Wiring.{Wiring, far, without_cables}
 use Rattle.port_state.specs.PowerOn as power
@@ -7,7 +7,7 @@ use Rattle.port_state.specs.declared.timing.Timing.{Timing}
 use Rattle.port_state.specs.Timing.{InRange}
 use Rattle.port_state.specs.Valid.{IsValid}
 use Rattle.port_state.specs.declared.states.NodeState.{NodeState}
-use Rattle.port_state.specs.Clock.{even}
+use Rattle.port_state.specs.Clock.{IsRegular, is_even}
 use Rattle.port_state.specs.Machine.{PortNode}
 use Rattle.cable_world.specs.Wire.{Wire, empty_wire}
 use Rattle.cable_world.specs.Times.{Suits, KeepsTime, CanBeForced, longest_in_range}
@@ -89,19 +89,31 @@ pub record IsPowerOnWorld (w : CableWorld) : Type 0 where
       KeepsTime w.longest x.state.timing x.clock
   pub is : w ≡ world_with_times w.delay w.longest w.nodes
 
--- no clock misses a turn
-abbrev pub AllEven : CableWorld → Type 0
-AllEven w = (k : ℕ) (x : PortNode) → slice_get w.nodes k ≡ Some x → x.clock ≡ even
+-- 0 where all clocks are even; else a clock may miss a turn before its next tick
+abbrev pub slack_of : List PortNode → ℕ
+slack_of [] = 0
+slack_of (n ∷ ns) = if is_even n.clock then slack_of ns else 1
+
+abbrev pub slack : CableWorld → ℕ
+slack w = slack_of w.nodes
+
+-- what a node tells is heard at the other end of a cable, where the clock ticks
+abbrev pub seen_turns : CableWorld → ℕ
+seen_turns w = w.delay + slack w
+
+-- each clock is regular: so the slack stays the same
+abbrev pub AllRegular : CableWorld → Type 0
+AllRegular w = (k : ℕ) (x : PortNode) → slice_get w.nodes k ≡ Some x → IsRegular x.clock
 
 -- each node becomes root where it waits to be forced
 abbrev pub AllCanBeForced : CableWorld → Type 0
 AllCanBeForced w =
     (k : ℕ) (x : PortNode) → slice_get w.nodes k ≡ Some x →
-    CanBeForced w.delay w.longest x.state.timing
+    CanBeForced (seen_turns w) w.longest x.state.timing
 
 -- what the code asks of a world that runs: signals no older than a byte tells, nodes that can be forced,
--- and clocks that miss no turn
+-- and regular clocks
 pub record CanRun (w : CableWorld) : Type 0 where
   pub short_delay : w.delay ≤ 16
   pub forced : AllCanBeForced w
-  pub even : AllEven w
+  pub regular : AllRegular w

@@ -1,5 +1,6 @@
 //! What every world does.
 ghost use Rattle.std.specs.Prelude.{◌≡◌, ◌+◌, ◌<◌, ◌≤◌, ◌↔◌, Bool, Some, None, length, drop, slice_get, IsTrue, IsFalse, IsErr, IsSomeAnd, OnOk};
+ghost use Rattle.port_state.specs.Clock.{is_even, misses};
 ghost use Rattle.port_state.specs.Group.{shown_attrs};
 ghost use Rattle.cable_world.specs.World.{CableWorld, wire_of};
 ghost use Rattle.cable_world.specs.Turn.{turn, turns_after};
@@ -117,6 +118,18 @@ pub trait WorldRun {
     fn changed(&self, node: u8) -> u32
         requires { node < length (world self.now).nodes }
         ensures { slice_get (world self.now).changed node ≡ Some result };
+
+    /// Whether the clock of a node misses no turn. The node exists.
+    fn is_even(&self, node: u8) -> bool
+        requires { node < length (world self.now).nodes }
+        ensures { IsSomeAnd (slice_get (world self.now).nodes node)
+            (λ x. result ≡ is_even x.clock) };
+
+    /// Whether the clock of a node misses the next turn. The node exists.
+    fn misses(&self, node: u8) -> bool
+        requires { node < length (world self.now).nodes }
+        ensures { IsSomeAnd (slice_get (world self.now).nodes node)
+            (λ x. result ≡ misses x.clock) };
 
     /// Whether a call found no memory.
     fn spent(&self) -> bool

@@ -1,10 +1,10 @@
 //! Worlds of machines, whatever the machine.
-ghost use Rattle.std.specs.Prelude.{◌≡◌, ◌↔◌, ℕ, ◌<◌, ◌≤◌, Some, length, map, slice_get, IfOk, OnOk, IsErr, IsTrue, IsFalse, All};
+ghost use Rattle.std.specs.Prelude.{◌≡◌, ◌↔◌, ℕ, ◌+◌, ◌<◌, ◌≤◌, Some, length, map, slice_get, IfOk, OnOk, IsErr, IsTrue, IsFalse, All};
 ghost use Rattle.cable_world.specs.Turn.{turn};
 ghost use Rattle.port_state.specs.Machine.{PortNode};
 ghost use Rattle.cable_world.specs.World.{world_of_nodes, world_with_times};
-ghost use Rattle.cable_world.specs.World.{IsNodeAtPowerOn, IsPowered};
-ghost use Rattle.cable_world.specs.Times.{CanBeForced};
+ghost use Rattle.cable_world.specs.World.{IsNodeAtPowerOn, IsPowered, slack_of};
+ghost use Rattle.cable_world.specs.Times.{CanBeForced, KeepsTime, longest_in_range};
 ghost use Rattle.cable_world.specs.Run.{IsReached};
 ghost use Rattle.cable_world.specs.Parts.{world_record};
 
@@ -43,12 +43,14 @@ pub struct World<M: PortMachine> {
 
 impl<M: PortMachine + Drop> World<M> {
     /// The world at power-on: nodes with these machines, each just powered on, and no cable. A cable
-    /// delays a signal by at most `delay` turns, 1 to 16. At most 63 nodes.
+    /// delays a signal by at most `delay` turns, 1 to 16. At most 63 nodes, with even clocks.
     pub fn new(alloc: Global, machines: Vec<M>, delay: u8) -> Result<World<M>, OutOfMemory>
         requires some_delay { 1 ≤ delay }
         requires short_delay { delay ≤ 16 }
         requires few { length machines.items ≤ 63 }
         requires power_on { All (λ m. IsNodeAtPowerOn delay (M.record_of m).state) machines.items }
+        requires clocks { All (λ m. KeepsTime (longest_in_range delay)
+            (M.record_of m).state.timing (M.record_of m).clock) machines.items }
         ensures world { IfOk result (λ w.
             ⟦<World<M> as WorldRun>⟧.world w
             ≡ world_of_nodes delay (map M.record_of machines.items)) }
@@ -58,7 +60,7 @@ impl<M: PortMachine + Drop> World<M> {
     }
 
     /// The same where the times of nodes are in no range, but none is longer than in `longest`, and
-    /// they suit the delay.
+    /// they suit the delay. A clock that misses turns has to fit with those that it misses.
     pub fn with_times(
         alloc: Global,
         machines: Vec<M>,
@@ -70,8 +72,10 @@ impl<M: PortMachine + Drop> World<M> {
         requires few { length machines.items ≤ 63 }
         requires power_on { All (λ m. IsPowered delay longest (M.record_of m).state)
             machines.items }
-        requires forced { All (λ m. CanBeForced delay longest (M.record_of m).state.timing)
-            machines.items }
+        requires clocks { All (λ m. KeepsTime longest
+            (M.record_of m).state.timing (M.record_of m).clock) machines.items }
+        requires forced { All (λ m. CanBeForced (delay + slack_of (map M.record_of machines.items))
+            longest (M.record_of m).state.timing) machines.items }
         ensures world { IfOk result (λ w.
             ⟦<World<M> as WorldRun>⟧.world w
             ≡ world_with_times delay longest (map M.record_of machines.items)) }
@@ -190,6 +194,14 @@ impl<M: PortMachine> WorldRun for World<M> {
 
     fn changed(&self, node: u8) -> u32 {
         self.changed[node as usize]
+    }
+
+    fn is_even(&self, node: u8) -> bool {
+        self.machines[node as usize].is_even()
+    }
+
+    fn misses(&self, node: u8) -> bool {
+        self.machines[node as usize].ticks_on(0) == 0
     }
 
     fn spent(&self) -> bool {

@@ -76,5 +76,5 @@ pub use Rattle.convergence.proofs.worked.FiveNodes.{line, star}
 pub use Rattle.convergence.proofs.turns.SlowTurns.{HasRun, run-on, run-over}
 -- A coin that a tick draws, or none where the clock misses the turn.
 pub use Rattle.convergence.proofs.turns.Moves.{coin_of}
-pub use Rattle.convergence.proofs.turns.TwoTurns.{slack-most, slack-later, reached-slack, Misses, some-slack, not-missed, not-twice}
+pub use Rattle.convergence.proofs.turns.TwoTurns.{slack-most, slack-later, Misses, some-slack, not-missed, not-twice}
 pub use Rattle.convergence.proofs.turns.BeforeTree.{start-on}

@@ -1,23 +1,11 @@
 -- After how many quiet turns a milestone is reached, for n nodes whose cables delay by at
 -- most d turns, and none of which takes longer, in turns, than the world names.
-use Rattle.std.specs.Prelude.{ℕ, ◌+◌, ◌*◌, ◌≤◌, List, [], ◌∷◌, length, max, if◌then◌else◌}
-use Rattle.port_state.specs.Clock.{is_even}
-use Rattle.port_state.specs.Machine.{PortNode}
+use Rattle.std.specs.Prelude.{ℕ, ◌+◌, ◌*◌, ◌≤◌, length, max}
 use Rattle.cable_world.specs.World.{CableWorld}
 use Rattle.cable_world.specs.Quiet.{HoldSchedule, quiet_after}
 use Rattle.cable_world.specs.Run.{ComesOfPowerOn}
-
--- 0 where all clocks are even; else a clock may miss a turn before its next tick
-abbrev pub slack_of : List PortNode → ℕ
-slack_of [] = 0
-slack_of (n ∷ ns) = if is_even n.clock then slack_of ns else 1
-
-abbrev pub slack : CableWorld → ℕ
-slack w = slack_of w.nodes
-
--- what a node tells is heard at the other end of a cable, where the clock ticks
-abbrev pub seen_turns : CableWorld → ℕ
-seen_turns w = w.delay + slack w
+-- 0 where all clocks are even, and else 1; and how many turns it takes until a node has seen what was told
+pub use Rattle.cable_world.specs.World.{slack_of, slack, seen_turns}
 
 -- ---- from one milestone to the next
 

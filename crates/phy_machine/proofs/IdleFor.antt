@@ -1,4 +1,4 @@
--- How long nothing happens is right: so many ticks are idle, and the next one isn't.
+-- How long a node rests is right: the rows of so many ticks change nothing, and the next one's does.
 use Rattle.std.proofs.Common.{◌≡◌, ℕ, zero, suc, ◌+◌, ◌-◌, ◌<◌, ◌≤◌, Bool, true, false, not, ◌&&◌, ◌||◌, ◌==◌, min, Option, Some, None, refl, sym, ◌∙◌, ap, subst, inl, inr, arith, count_by, slice_get, if◌then◌else◌}
 use Rattle.std.specs.Prelude.{nat_le, nat_lt, ◌⊎◌}
 use Rattle.std.proofs.lemmas.Bool.{leb-true, leb-false, ltb-true, ltb-false, lt-ltb, le-ltb, cases_lt}
@@ -22,7 +22,7 @@ use Rattle.port_state.specs.Idle.{changes_nothing, rests, with_later_timer, afte
 use Rattle.port_state.proofs.Lemmas.{idle_ticks-rest, after-idle_ticks}
 use Rattle.port_state.specs.Coins.{Coins}
 use Rattle.phy_machine.specs.Node.{node_of}
-use Rattle.phy_machine.specs.codings.IdleTime.{HasTimes, look_ahead, ticks_before, idle_unless, until_timeout, until_roles, is_answer, until_answer, until_waited, until_done, idle_in}
+use Rattle.phy_machine.specs.codings.IdleTime.{HasTimes, RestsFor, StirsAfter, look_ahead, ticks_before, idle_unless, until_timeout, until_roles, is_answer, until_answer, until_waited, until_done, idle_in}
 
 -- ---- tests of numbers
 
@@ -213,33 +213,6 @@ idle-phase Contend k x t h = idle-contend k x.view.parent x t h
 idle-phase SelfIdent k x t h = idle-self_ident k x.view.granted x h
 idle-phase Ready k x t h = sym (lt-ltb k look_ahead h)
 
--- ---- stretches of idle ticks
-
--- a stretch in which the node rests is idle
-idle-stretch : (count : ℕ) (n : PortNode) → n.clock ≡ even → n.state.view.timer ≤ 65535
-    → ((k : ℕ) → k < count → rests (with_later_timer k n.state) ≡ true) → IsIdleFor count n
-idle-stretch zero n c t r k h = absurd (omega arith)
-idle-stretch (suc count) n c t r k h = go (idle-stretch count n c t (λ j l. r j (omega arith))) (cases_lt k count)
-  where
-    go : IsIdleFor count n → (k < count) ⊎ (count ≤ k) → IsIdleTick (after_ticks k n)
-    go before (inl l) = before k l
-    go before (inr l) =
-        let same : count ≡ k = omega arith in
-        let there : after_ticks count n ≡ record n { state = with_later_timer count n.state } = after-idle_ticks count n c t before in
-        let even-there : (after_ticks count n).clock ≡ even = ap (λ (m : PortNode). m.clock) there ∙ c in
-        let rest : rests (after_ticks count n).state ≡ true = ap (λ m. rests m.state) there ∙ r count (omega arith) in
-        subst (λ j. IsIdleTick (after_ticks j n)) same ((idle_ticks-rest (after_ticks count n) even-there).1 rest)
-
--- and no longer, if something happens then
-idle-ends : (count : ℕ) (n : PortNode) → n.clock ≡ even → n.state.view.timer ≤ 65535 → IsIdleFor count n
-    → rests (with_later_timer count n.state) ≡ false → IsIdleFor (count + 1) n → ⊥
-idle-ends count n c t idle e more =
-    let there : after_ticks count n ≡ record n { state = with_later_timer count n.state } = after-idle_ticks count n c t idle in
-    let even-there : (after_ticks count n).clock ≡ even = ap (λ (m : PortNode). m.clock) there ∙ c in
-    let rest : rests (after_ticks count n).state ≡ true = (idle_ticks-rest (after_ticks count n) even-there).0 (more count (omega arith)) in
-    let not_rest : rests (after_ticks count n).state ≡ false = ap (λ m. rests m.state) there ∙ e in
-    cc
-
 -- ---- the answer of a machine
 
 idle_unless-few : (b : Bool) → idle_unless b ≤ look_ahead
@@ -278,16 +251,12 @@ idle_in-few Ready x t = omega arith
 pub idle_in-most : (x : NodeState) → HasTimes x → idle_in x.view.phase x ≤ 4000000
 idle_in-most x t = idle_in-few x.view.phase x t
 
-pub idle-for :
-    (x : NodeState) (coins : Coins) → HasTimes x →
-    IsIdleFor (idle_in x.view.phase x) (node_of x coins)
-idle-for x coins t =
-    idle-stretch (idle_in x.view.phase x) (node_of x coins) refl t.timer
-    (λ k h. idle-phase x.view.phase k x t (let few = idle_in-few x.view.phase x t in omega arith) ∙ lt-ltb k (idle_in x.view.phase x) h)
+pub rests-for : (x : NodeState) → HasTimes x → RestsFor (idle_in x.view.phase x) x
+rests-for x t k h =
+    idle-phase x.view.phase k x t (let few = idle_in-few x.view.phase x t in omega arith)
+    ∙ lt-ltb k (idle_in x.view.phase x) h
 
-pub idle-greatest :
-    (x : NodeState) (coins : Coins) → HasTimes x → idle_in x.view.phase x < 4000000 →
-    IsIdleFor (idle_in x.view.phase x + 1) (node_of x coins) → ⊥
-idle-greatest x coins t h =
+pub stirs-after : (x : NodeState) → HasTimes x → StirsAfter (idle_in x.view.phase x) x
+stirs-after x t h =
     let k = idle_in x.view.phase x in
-    idle-ends k (node_of x coins) refl t.timer (idle-for x coins t) (idle-phase x.view.phase k x t h ∙ le-ltb k k (omega arith))
+    idle-phase x.view.phase k x t h ∙ le-ltb k k (omega arith)

@@ -1,3 +1,6 @@
 pub mod IdleFor
 pub mod PacketCount
+pub mod SlowTurns
+pub mod ClockTurns
+pub mod IdleTurns
 pub mod TickRows

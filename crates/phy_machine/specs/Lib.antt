@@ -1,3 +1,4 @@
+pub mod Clock
 pub mod Any
 pub mod Field
 pub mod Node

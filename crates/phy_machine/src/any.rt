@@ -1,4 +1,7 @@
 //! A machine of either kind.
+ghost use Rattle.std.specs.Prelude.{◌≡◌, ◌≤◌};
+ghost use Rattle.port_state.specs.Clock.{every};
+
 use crate::field::FieldMachine;
 use crate::packed::PackedMachine;
 use port_state::{PortMachine, Sends, Signal, Timing, View};
@@ -13,8 +16,24 @@ pub enum AnyMachine {
     Packed(PackedMachine),
 }
 
+impl AnyMachine {
+    ghost use Rattle.phy_machine.specs.Any.{any_node};
+
+    /// The clock is slow from now on: it misses one of every `gap` + 1 turns, at least 1, the first of
+    /// them after `first` turns more.
+    pub fn slow_down(&mut self, gap: u32, first: u32)
+        requires { 1 ≤ gap }
+        ensures { any_node self.new ≡ record (any_node self.old) { clock = every gap first } }
+    {
+        match self {
+            AnyMachine::Field(machine) => machine.slow_down(gap, first),
+            AnyMachine::Packed(machine) => machine.slow_down(gap, first),
+        }
+    }
+}
+
 impl PortMachine for AnyMachine {
-    ghost use Rattle.phy_machine.specs.Any.{any_node, any_steady, any_valid};
+    ghost use Rattle.phy_machine.specs.Any.{any_node, any_regular, any_valid};
 
     ghost record_of = { any_node };
 
@@ -102,14 +121,35 @@ impl PortMachine for AnyMachine {
         }
     }
 
-    fn pass(&mut self, ticks: u32) {
+    fn is_even(&self) -> bool {
         match self {
-            AnyMachine::Field(machine) => machine.pass(ticks),
-            AnyMachine::Packed(machine) => machine.pass(ticks),
+            AnyMachine::Field(machine) => machine.is_even(),
+            AnyMachine::Packed(machine) => machine.is_even(),
+        }
+    }
+
+    fn ticks_on(&self, past: u32) -> u32 {
+        match self {
+            AnyMachine::Field(machine) => machine.ticks_on(past),
+            AnyMachine::Packed(machine) => machine.ticks_on(past),
+        }
+    }
+
+    fn timer_after(&self, turns: u32) -> u16 {
+        match self {
+            AnyMachine::Field(machine) => machine.timer_after(turns),
+            AnyMachine::Packed(machine) => machine.timer_after(turns),
+        }
+    }
+
+    fn pass(&mut self, turns: u32) {
+        match self {
+            AnyMachine::Field(machine) => machine.pass(turns),
+            AnyMachine::Packed(machine) => machine.pass(turns),
         }
     }
 
     ghost valid = { any_valid };
 
-    ghost steady = { any_steady };
+    ghost regular = { any_regular };
 }

@@ -1,9 +1,11 @@
 //! A machine that keeps the record of its node.
-ghost use Rattle.std.specs.Prelude.{◌≡◌, refl};
+ghost use Rattle.std.specs.Prelude.{◌≡◌, ◌≤◌};
+ghost use Rattle.port_state.specs.Clock.{every};
 ghost use Rattle.port_state.specs.Valid.{IsValid};
 ghost use Rattle.port_state.proofs.Lemmas.{valid_prop};
 ghost use Rattle.phy_machine.specs.PowerOn.{IsSpec, node_of_spec};
 
+use crate::clock::TickClock;
 use crate::spec::NodeSpec;
 use crate::{idle, node};
 use port_state::states::NodeState;
@@ -15,6 +17,7 @@ use self_id::Attrs;
 pub struct FieldMachine {
     state: NodeState,
     coins: Coins,
+    clock: TickClock,
     ghost valid: { IsValid state } by { valid_prop state },
 }
 
@@ -30,12 +33,22 @@ impl FieldMachine {
         FieldMachine {
             state: node::power_on(spec.ports, spec.attrs, spec.force, spec.timing),
             coins: spec.coins,
+            clock: TickClock::even(),
         }
+    }
+
+    /// The clock is slow from now on: it misses one of every `gap` + 1 turns, at least 1, the first of
+    /// them after `first` turns more.
+    pub fn slow_down(&mut self, gap: u32, first: u32)
+        requires { 1 ≤ gap }
+        ensures { field_node self.new ≡ record (field_node self.old) { clock = every gap first } }
+    {
+        self.clock = TickClock::slow(gap, first);
     }
 }
 
 impl PortMachine for FieldMachine {
-    ghost use Rattle.phy_machine.specs.Field.{field_node};
+    ghost use Rattle.phy_machine.specs.Field.{field_node, field_regular};
 
     ghost record_of = { field_node };
 
@@ -44,7 +57,9 @@ impl PortMachine for FieldMachine {
     }
 
     fn tick(&mut self, out: &mut Sends) {
-        node::tick(&mut self.state, &mut self.coins, out);
+        if self.clock.turn() {
+            node::tick(&mut self.state, &mut self.coins, out);
+        }
     }
 
     fn disturb(&mut self, out: &mut Sends) {
@@ -84,14 +99,27 @@ impl PortMachine for FieldMachine {
     }
 
     fn idle_for(&self) -> u32 {
-        idle::idle_for(&self.state)
+        self.clock.turns_before(idle::idle_for(&self.state))
     }
 
-    fn pass(&mut self, ticks: u32) {
-        node::pass(&mut self.state, ticks);
+    fn is_even(&self) -> bool {
+        self.clock.is_even()
+    }
+
+    fn ticks_on(&self, past: u32) -> u32 {
+        self.clock.ticks_on(past)
+    }
+
+    fn timer_after(&self, turns: u32) -> u16 {
+        node::later_timer(&self.state, self.clock.ticks_in(turns))
+    }
+
+    fn pass(&mut self, turns: u32) {
+        node::pass(&mut self.state, self.clock.ticks_in(turns));
+        self.clock = self.clock.after(turns);
     }
 
     ghost valid = { λ m. m.valid };
 
-    ghost steady = { λ m. refl };
+    ghost regular = { field_regular };
 }

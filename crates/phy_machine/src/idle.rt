@@ -1,11 +1,8 @@
 //! How long nothing happens at a node.
 ghost use Rattle.std.specs.Prelude.{◌≡◌, ◌+◌, ◌<◌, ◌≤◌};
-ghost use Rattle.port_state.specs.Coins.{Coins};
-ghost use Rattle.port_state.specs.Idle.{IsIdleFor};
 ghost use Rattle.port_state.specs.SelfIdentify.{may_name};
 ghost use Rattle.port_state.specs.Valid.{IsBounded, IsValid};
-ghost use Rattle.phy_machine.specs.Node.{node_of};
-ghost use Rattle.phy_machine.specs.codings.IdleTime.{IsIdleWith, StirsAfter};
+ghost use Rattle.phy_machine.specs.codings.IdleTime.{RestsFor, StirsAfter};
 ghost use Rattle.phy_machine.specs.codings.IdleTime.{HasTimes, packet_count, ticks_before, idle_unless, until_timeout, until_roles, until_answer, until_waited, until_named, idle_in};
 
 use port_state::states::NodeState;
@@ -145,12 +142,13 @@ fn idle_in(s: &NodeState) -> u32
 }
 
 /// How many of the next ticks, up to 4,000,000, send nothing and change the timer alone, if no
-/// signal is heard.
+/// signal is heard. The timer is read, and so seen to fit 16 bits.
 pub fn idle_for(s: &NodeState) -> u32
     requires { IsBounded s.now }
     ensures most { result ≤ 4000000 }
-    ensures idle { IsIdleWith result s.now }
+    ensures idle { RestsFor result s.now }
     ensures greatest { StirsAfter result s.now }
+    ensures fits { s.now.view.timer ≤ 65535 }
 {
     read_times(s);
     idle_in(s)

@@ -1,10 +1,12 @@
 //! The machines of a node: the one that runs, under the names of two kinds, and either of them.
 //! Each meets `PortMachine`; no crate above knows which is there.
 //!
-//! `node` does the calls to a record, and `idle` tells how long nothing happens.
+//! `node` does the calls to a record, `idle` tells how long nothing happens, and `clock` in which turns
+//! a clock ticks.
 #![tactic(auto)]
 
 mod any;
+mod clock;
 mod field;
 mod idle;
 mod node;

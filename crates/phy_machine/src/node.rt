@@ -170,13 +170,21 @@ pub fn set_config(s: &mut NodeState, root_id: u8, force: bool, gap: Option<u8>)
     }
 }
 
+/// What the timer shows so many ticks later, where they raise it alone.
+pub fn later_timer(s: &NodeState, ticks: u32) -> u16
+    ensures timer { result ≡ (with_later_timer ticks s.now).view.timer }
+    ensures fits { s.now.view.timer ≤ 65535 }
+{
+    let timer = u32::from(s.view.timer).saturating_add(ticks);
+    timer.min(65_535) as u16
+}
+
 /// So many ticks pass that raise the timer alone.
 pub fn pass(s: &mut NodeState, ticks: u32)
     ensures state { s.new ≡ with_later_timer ticks s.old }
     ensures fits { s.old.view.timer ≤ 65535 }
 {
-    let timer = u32::from(s.view.timer).saturating_add(ticks);
-    s.view.timer = timer.min(65_535) as u16;
+    s.view.timer = later_timer(s, ticks);
 }
 
 /// The attributes that a node shows.

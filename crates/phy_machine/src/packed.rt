@@ -1,5 +1,6 @@
 //! The machine of a node of kind `packed`.
-ghost use Rattle.std.specs.Prelude.{◌≡◌, refl};
+ghost use Rattle.std.specs.Prelude.{◌≡◌, ◌≤◌};
+ghost use Rattle.port_state.specs.Clock.{every};
 ghost use Rattle.phy_machine.specs.PowerOn.{IsSpec, node_of_spec};
 
 use crate::field::FieldMachine;
@@ -27,9 +28,19 @@ impl PackedMachine {
             machine: FieldMachine::new(spec),
         }
     }
+
+    /// The clock is slow from now on: it misses one of every `gap` + 1 turns, at least 1, the first of
+    /// them after `first` turns more.
+    pub fn slow_down(&mut self, gap: u32, first: u32)
+        requires { 1 ≤ gap }
+        ensures { packed_node self.new ≡ record (packed_node self.old) { clock = every gap first } }
+    {
+        self.machine.slow_down(gap, first);
+    }
 }
 
 impl PortMachine for PackedMachine {
+    ghost use Rattle.phy_machine.specs.Field.{field_regular};
     ghost use Rattle.phy_machine.specs.Packed.{packed_node};
 
     ghost record_of = { packed_node };
@@ -82,11 +93,23 @@ impl PortMachine for PackedMachine {
         self.machine.idle_for()
     }
 
-    fn pass(&mut self, ticks: u32) {
-        self.machine.pass(ticks);
+    fn is_even(&self) -> bool {
+        self.machine.is_even()
+    }
+
+    fn ticks_on(&self, past: u32) -> u32 {
+        self.machine.ticks_on(past)
+    }
+
+    fn timer_after(&self, turns: u32) -> u16 {
+        self.machine.timer_after(turns)
+    }
+
+    fn pass(&mut self, turns: u32) {
+        self.machine.pass(turns);
     }
 
     ghost valid = { λ m. m.machine.valid };
 
-    ghost steady = { λ m. refl };
+    ghost regular = { λ m. field_regular m.machine };
 }

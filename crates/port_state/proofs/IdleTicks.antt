@@ -16,7 +16,7 @@ use Rattle.port_state.specs.Tick.{raise_timer, row_of, does, next_row, row_draws
 use Rattle.port_state.specs.Tick as step
 use Rattle.port_state.specs.Names.{timer, without}
 use Rattle.port_state.specs.Coins.{coin}
-use Rattle.port_state.specs.Clock.{even}
+use Rattle.port_state.specs.Clock.{Clock, misses, clock_after, clock_on, ticks_in}
 use Rattle.port_state.specs.Machine.{PortNode, beat, on_beat, node_tick}
 use Rattle.port_state.specs.Idle.{IsIdleTick, IsIdleFor, after_ticks, changes_nothing, rests, with_later_timer}
 
@@ -56,16 +56,34 @@ draws-nothing row.names_itself x e = refl
 
 -- a tick of a node that rests
 pub tick-rests :
-    (n : PortNode) → n.clock ≡ even → rests n.state ≡ true →
-    node_tick n ≡ record { node = record n { state = raise_timer n.state }; sends = [] }
+    (n : PortNode) → misses n.clock ≡ false → rests n.state ≡ true →
+    node_tick n
+    ≡ record {
+      node = record n { state = raise_timer n.state; clock = clock_after n.clock };
+      sends = [];
+    }
 unfolding step.tick
 tick-rests n c e = rw (c, draws-nothing (next_row n.state) n.state e, does-nothing (coin n.coins) (next_row n.state) n.state e) refl
 
-idle-rests : (n : PortNode) → n.clock ≡ even → rests n.state ≡ true → IsIdleTick n
+idle-rests : (n : PortNode) → misses n.clock ≡ false → rests n.state ≡ true → IsIdleTick n
 idle-rests n c e = record {
   sends = ap (λ s. s.sends) (tick-rests n c e);
   state = ap (λ s. without timer s.node.state) (tick-rests n c e);
   coins = ap (λ s. s.node.coins) (tick-rests n c e);
+}
+
+-- ---- a turn that the clock misses
+
+turn-missed :
+    (n : PortNode) → misses n.clock ≡ true →
+    node_tick n ≡ record { node = record n { clock = clock_after n.clock }; sends = [] }
+turn-missed n c = rw c refl
+
+pub missed-idle : (n : PortNode) → misses n.clock ≡ true → IsIdleTick n
+missed-idle n c = record {
+  sends = ap (λ s. s.sends) (turn-missed n c);
+  state = ap (λ s. without timer s.node.state) (turn-missed n c);
+  coins = ap (λ s. s.node.coins) (turn-missed n c);
 }
 
 -- ---- any other row goes to another phase, sends something, or tells of a timeout
@@ -182,43 +200,65 @@ stirs c SelfIdent x p e l = granted x.view.granted e l
     granted false e l = cc
 stirs c Ready x p e l = cc
 
--- a clock that misses no turn
-even-beat :
-    (n : PortNode) → n.clock ≡ even →
+-- a tick
+beat-ticks :
+    (n : PortNode) → misses n.clock ≡ false →
     does (coin n.coins) (next_row n.state) (raise_timer n.state) ≡ on_beat (beat n) n.state
 unfolding step.tick
-even-beat n c = rw c refl
+beat-ticks n c = rw c refl
 
 looks-idle :
-    (n : PortNode) → n.clock ≡ even → IsIdleTick n →
+    (n : PortNode) → misses n.clock ≡ false → IsIdleTick n →
     LooksIdle n.state (does (coin n.coins) (next_row n.state) (raise_timer n.state))
 looks-idle n c i = record {
-  silent = ap (λ (s : Step). s.sends) (even-beat n c) ∙ i.sends;
-  phase = ap (λ (s : Step). s.state.view.phase) (even-beat n c) ∙ ap (λ x. x.view.phase) i.state;
-  timed_out = ap (λ (s : Step). s.state.view.timed_out) (even-beat n c) ∙ ap (λ x. x.view.timed_out) i.state;
+  silent = ap (λ (s : Step). s.sends) (beat-ticks n c) ∙ i.sends;
+  phase = ap (λ (s : Step). s.state.view.phase) (beat-ticks n c) ∙ ap (λ x. x.view.phase) i.state;
+  timed_out = ap (λ (s : Step). s.state.view.timed_out) (beat-ticks n c) ∙ ap (λ x. x.view.timed_out) i.state;
 }
 
-idle-row : (n : PortNode) → n.clock ≡ even → IsIdleTick n → rests n.state ≡ true
+idle-row : (n : PortNode) → misses n.clock ≡ false → IsIdleTick n → rests n.state ≡ true
 idle-row n c i = go (rests n.state) refl
   where
     go : (b : Bool) → rests n.state ≡ b → b ≡ true
     go true e = refl
     go false e = absurd (stirs (coin n.coins) n.state.view.phase n.state refl e (looks-idle n c i))
 
-pub idle_ticks-rest : (n : PortNode) → n.clock ≡ even → IsIdleTick n ↔ (rests n.state ≡ true)
+pub idle_ticks-rest : (n : PortNode) → misses n.clock ≡ false → IsIdleTick n ↔ (rests n.state ≡ true)
 idle_ticks-rest n c = (idle-row n c, idle-rests n c)
 
 -- ---- idle ticks raise the timer
 
+-- the node after so many turns, in which so many ticks raised the timer alone
+abbrev later : ℕ → ℕ → PortNode → PortNode
+later turns ticks n = record n { state = with_later_timer ticks n.state; clock = clock_on turns n.clock }
+
+one-later :
+    (turns ticks : ℕ) (n m : PortNode) → m ≡ later turns ticks n → IsIdleTick m →
+    (node_tick m).node ≡ later (suc turns) (ticks + (if misses (clock_on turns n.clock) then 0 else 1)) n
+one-later turns ticks n m is idle = go (misses (clock_on turns n.clock)) refl
+  where
+    now : misses m.clock ≡ misses (clock_on turns n.clock)
+    now = ap (λ (u : PortNode). misses u.clock) is
+
+    go :
+        (b : Bool) → misses (clock_on turns n.clock) ≡ b →
+        (node_tick m).node ≡ later (suc turns) (ticks + (if b then 0 else 1)) n
+    go true e =
+        let z : ticks + 0 ≡ ticks = omega arith in
+        ap (λ s. s.node) (turn-missed m (now ∙ e)) ∙ rw (is, z) refl
+    go false e =
+        let z : min (min (n.state.view.timer + ticks) 65535 + 1) 65535 ≡ min (n.state.view.timer + (ticks + 1)) 65535 = omega arith in
+        ap (λ s. s.node) (tick-rests m (now ∙ e) (idle-row m (now ∙ e) idle)) ∙ rw (is, z) refl
+
 pub after-idle_ticks :
-    (count : ℕ) (n : PortNode) → n.clock ≡ even → n.state.view.timer ≤ 65535 → IsIdleFor count n →
-    after_ticks count n ≡ record n { state = with_later_timer count n.state }
-after-idle_ticks zero n c h i =
+    (count : ℕ) (n : PortNode) → n.state.view.timer ≤ 65535 → IsIdleFor count n →
+    after_ticks count n
+    ≡ record n {
+      state = with_later_timer (ticks_in count n.clock) n.state;
+      clock = clock_on count n.clock;
+    }
+after-idle_ticks zero n h i =
     let e : min (n.state.view.timer + 0) 65535 ≡ n.state.view.timer = omega arith in
     rw e refl
-after-idle_ticks (suc k) n c h i =
-    let before : after_ticks k n ≡ record n { state = with_later_timer k n.state } = after-idle_ticks k n c h (λ j l. i j (omega arith)) in
-    let still : (after_ticks k n).clock ≡ even = ap (λ (m : PortNode). m.clock) before ∙ c in
-    let idle : rests (after_ticks k n).state ≡ true = idle-row (after_ticks k n) still (i k (omega arith)) in
-    let e : min (min (n.state.view.timer + k) 65535 + 1) 65535 ≡ min (n.state.view.timer + suc k) 65535 = omega arith in
-    ap (λ s. s.node) (tick-rests (after_ticks k n) still idle) ∙ rw (before, e) refl
+after-idle_ticks (suc k) n h i =
+    one-later k (ticks_in k n.clock) n (after_ticks k n) (after-idle_ticks k n h (λ j l. i j (omega arith))) (i k (omega arith))

@@ -10,7 +10,9 @@ pub use Rattle.port_state.proofs.Shown.{node_count-own_group}
 -- Facts of each port, where ports are changed; and the ports from one on, for loops from port to port.
 pub use Rattle.port_state.proofs.EachPort.{lowest-passes, port_is-changed, port_is-map, ports-from}
 -- A tick is idle exactly where its row changes nothing, and then it raises the timer alone.
-pub use Rattle.port_state.proofs.IdleTicks.{after-idle_ticks, idle_ticks-rest}
+pub use Rattle.port_state.proofs.IdleTicks.{missed-idle, after-idle_ticks, idle_ticks-rest}
+-- Clocks: regular ones, where they stand some turns later, and in which turns they tick.
+pub use Rattle.port_state.proofs.Clocks.{regular-after, regular-on, even-after, even-on, after-clock, clock_on-more, ticks-next, ticks-fewer, ticks-none}
 -- The roles of ports, as the rows of tree identify give and change them.
 pub use Rattle.port_state.proofs.Roles.{decided_few, left_is}
 -- What goes out on ports: on which, and how much.

@@ -1,4 +1,5 @@
 pub mod Cables
+pub mod Clocks
 pub mod CoinPlaces
 pub mod EachPort
 pub mod IdleTicks

@@ -1,6 +1,6 @@
 -- The clock of a node. A turn is as long as a tick of the fastest clock; a slower one misses a turn
 -- now and then.
-use Rattle.std.specs.Prelude.{ℕ, zero, suc, ◌+◌, ◌/◌, ◌≤◌, Bool, true, false}
+use Rattle.std.specs.Prelude.{ℕ, zero, suc, ◌+◌, ◌/◌, ◌≤◌, Bool, true, false, if◌then◌else◌}
 
 pub data Clock : Type 0 where
   -- misses no turn
@@ -28,6 +28,22 @@ clock_after (slow zero next) = next
 clock_after (slow (suc k) next) = slow k next
 clock_after (every gap zero) = every gap gap
 clock_after (every gap (suc k)) = every gap k
+
+-- the clock so many turns later
+abbrev pub clock_on : ℕ → Clock → Clock
+clock_on zero c = c
+clock_on (suc k) c = clock_after (clock_on k c)
+
+-- in how many of the next so many turns it ticks
+abbrev pub ticks_in : ℕ → Clock → ℕ
+ticks_in zero c = 0
+ticks_in (suc k) c = ticks_in k c + (if misses (clock_on k c) then 0 else 1)
+
+-- a regular clock misses no turn, or turns again and again
+abbrev pub IsRegular : Clock → Type 0
+IsRegular even = Unit {0}
+IsRegular (slow k next) = ⊥
+IsRegular (every gap k) = Unit {0}
 
 -- none of the next so many turns is missed
 abbrev pub TicksFor : ℕ → Clock → Type 0

@@ -1,11 +1,11 @@
 //! What every machine of a node does.
-ghost use Rattle.std.specs.Prelude.{◌≡◌, ◌+◌, ◌<◌, ◌≤◌, [], IsTrue, IsFalse};
+ghost use Rattle.std.specs.Prelude.{◌≡◌, ◌+◌, ◌<◌, ◌≤◌, [], true, IsTrue, IsFalse};
 ghost use Rattle.std.specs.Option.{ForSome};
 ghost use Rattle.port_state.specs.Ports.{is_connected};
 ghost use Rattle.port_state.specs.Group.{shown_attrs};
 ghost use Rattle.port_state.specs.Valid.{IsValid};
 ghost use Rattle.port_state.specs.Config.{config_packet};
-ghost use Rattle.port_state.specs.Clock.{even};
+ghost use Rattle.port_state.specs.Clock.{IsRegular, TicksFor, clock_on, is_even, misses};
 ghost use Rattle.port_state.specs.Machine.{PortNode, node_on_signal, node_tick, node_disturb};
 ghost use Rattle.port_state.specs.Machine.{node_plugged, node_pulled, node_set_config};
 ghost use Rattle.port_state.specs.Idle.{IsIdleFor, after_ticks};
@@ -32,7 +32,7 @@ pub trait PortMachine {
         ensures node { record_of self.new ≡ (node_on_signal port signal (record_of self.old)).node }
         ensures sends { out.new ≡ (node_on_signal port signal (record_of self.old)).sends };
 
-    /// A tick of the clock passes.
+    /// A turn of the clock passes: a tick, or a turn that the clock misses.
     fn tick(&mut self, out: &mut Sends)
         requires empty { out.old ≡ [] }
         ensures node { record_of self.new ≡ (node_tick (record_of self.old)).node }
@@ -89,23 +89,41 @@ pub trait PortMachine {
     fn ports(&self) -> u8
         ensures { result ≡ (record_of self.now).state.ports };
 
-    /// How long nothing happens at the node: the greatest number of ticks, up to 4,000,000, such
-    /// that the next ticks of this number send nothing and change the timer alone, if no signal is
-    /// heard.
+    /// Whether the clock misses no turn.
+    fn is_even(&self) -> bool
+        ensures { result ≡ is_even (record_of self.now).clock };
+
+    /// For how many turns behind the next `past` ones the clock misses none: the greatest number, up
+    /// to 4,000,000.
+    fn ticks_on(&self, past: u32) -> u32
+        ensures most { result ≤ 4000000 }
+        ensures ticks { TicksFor result (clock_on past (record_of self.now).clock) }
+        ensures greatest { result < 4000000 →
+            misses (clock_on (past + result) (record_of self.now).clock) ≡ true };
+
+    /// How long nothing happens at the node: the greatest number of turns, up to 4,000,000, such
+    /// that the next turns of this number send nothing and change the timer alone, if no signal is
+    /// heard. In a turn that the clock misses nothing happens.
     fn idle_for(&self) -> u32
         ensures most { result ≤ 4000000 }
         ensures idle { IsIdleFor result (record_of self.now) }
         ensures greatest { result < 4000000 → ¬ IsIdleFor (result + 1) (record_of self.now) };
 
-    /// So many ticks of the clock pass in which nothing happens: at most as many as `idle_for`
+    /// What the timer shows after so many turns in which nothing happens: at most as many as
+    /// `idle_for` answers.
+    fn timer_after(&self, turns: u32) -> u16
+        requires idle { IsIdleFor turns (record_of self.now) }
+        ensures { result ≡ (after_ticks turns (record_of self.now)).state.view.timer };
+
+    /// So many turns of the clock pass in which nothing happens: at most as many as `idle_for`
     /// answers.
-    fn pass(&mut self, ticks: u32)
-        requires idle { IsIdleFor ticks (record_of self.old) }
-        ensures { record_of self.new ≡ after_ticks ticks (record_of self.old) };
+    fn pass(&mut self, turns: u32)
+        requires idle { IsIdleFor turns (record_of self.old) }
+        ensures { record_of self.new ≡ after_ticks turns (record_of self.old) };
 
     // The record of a machine is valid, whatever calls came before.
     ghost valid: { (m : Self) → IsValid (record_of m).state };
 
-    // The clock of a machine misses no turn.
-    ghost steady: { (m : Self) → (record_of m).clock ≡ even };
+    // The clock of a machine is regular: it misses no turn, or turns again and again.
+    ghost regular: { (m : Self) → IsRegular (record_of m).clock };
 }

@@ -90,7 +90,7 @@ impl Bus {
         ensures { result ≡ quiet_turns_of self.now.world }
     {
         buses_are_sound(self);
-        quiet_turns_for(self.cabling().nodes(), self.delay(), self.world().longest())
+        quiet_turns_for(self.world())
     }
 
     /// Fails where the quiet turns pass the limit.

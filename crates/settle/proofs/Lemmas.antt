@@ -12,7 +12,7 @@ pub use Rattle.settle.proofs.Relabelled.{one-order}
 pub use Rattle.settle.proofs.SameNodes.{same-component, same-tree}
 -- How many quiet turns a world is given, and that these are enough.
 pub use Rattle.settle.proofs.QuietCount.{turns-enough}
-pub use Rattle.settle.proofs.TurnsGiven.{same-quiet, sized}
+pub use Rattle.settle.proofs.TurnsGiven.{same-quiet}
 -- What is there once a plan is carried out.
 pub use Rattle.settle.proofs.Carried.{gap-of, nodes-stay, tree-from}
 -- A plan for the tree that a list tells suits the component that has the list.

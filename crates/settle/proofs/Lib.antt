@@ -23,6 +23,7 @@ pub mod Relabelled
 pub mod Found
 pub mod ForcedRoots
 -- the turns before
+pub mod SlackTold
 pub mod TurnsGiven
 -- a bus manager's plan: the hops don't depend on the root
 pub mod Cables

@@ -80,14 +80,14 @@ pub record IsTreeFrom (c : Wiring) (from root : NodeNumber) (part : Part) : Type
 abbrev pub quiet_turns_of : CableWorld → ℕ
 quiet_turns_of w = max (quiet_turns (length w.cabling) w.delay) (turns_to_settle w)
 
--- a world of so many nodes, whose cables delay by at most so many turns, none of whose nodes has
--- longer times, and none of whose clocks misses a turn
-pub record IsSized (w : CableWorld) (nodes delay : ℕ) (longest : Timing) : Type 0 where
+-- a world of so many nodes, whose cables delay by at most so many turns, none of whose nodes takes
+-- longer, and whose clocks have this slack
+pub record IsSized (w : CableWorld) (nodes delay : ℕ) (longest : Timing) (spare : ℕ) : Type 0 where
   pub nodes_are : length w.nodes ≡ nodes
   pub cables_are : length w.cabling ≡ nodes
   pub delay_is : w.delay ≡ delay
   pub longest_is : w.longest ≡ longest
-  pub no_slack : slack w ≡ 0
+  pub slack_is : slack w ≡ spare
 
 -- all of these turns were done, and nothing else
 abbrev pub IsAfterQuiet : CableWorld → CableWorld → Type 0

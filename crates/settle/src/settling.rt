@@ -63,8 +63,7 @@ pub fn report_of<W: WorldRun>(alloc: Global, world: &W) -> Result<Report, OutOfM
     })
 }
 
-/// Does as many turns as `quiet_turns_for` says for the nodes, the delay and the longest times of a
-/// world, and reports what each component came to: each comes to a loop, a contention or a tree,
+/// Does as many turns as `quiet_turns_for` says of a world, and reports what each component came to: each comes to a loop, a contention or a tree,
 /// and no node is in R0 or R1 then. Of a world that isn't spent they are, with the turns done before,
 /// at most 4,000,000,000.
 ///
@@ -95,7 +94,7 @@ pub fn settle<W: WorldRun>(alloc: Global, world: &mut W) -> Result<Report, OutOf
     components_settle();
     resets_spread();
     forced_roots_settle();
-    let quiet = quiet_turns_for(world.cabling().nodes(), world.delay(), world.longest());
+    let quiet = quiet_turns_for(&*world);
     world.run_turns(quiet)?;
     let report = report_of(alloc, &*world)?;
     Ok(report)

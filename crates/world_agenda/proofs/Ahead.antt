@@ -34,6 +34,13 @@ still-for r clock idle rests turns k nodes d most c wires changed silent behind 
       still-idle k turns (clock n) (idle n) (r n) (behind some i e inside) (few some i e inside) (rests n) j below);
 }
 
+-- so are fewer turns
+pub still-fewer : (k n : ℕ) (w : CableWorld) → k ≤ n → IsStillFor n w → IsStillFor k w
+still-fewer k n w few h = record {
+  silent = λ some. h.silent (omega (arith, some, few));
+  idle = All-weaker (λ x. IsIdleFor n x) (λ x. IsIdleFor k x) (λ x i. idle-less k n x few i) w.nodes h.idle;
+}
+
 -- ---- the first of such turns
 
 pub still-first : (k : ℕ) (w : CableWorld) → IsStillFor (suc k) w → IsStillFor 1 w

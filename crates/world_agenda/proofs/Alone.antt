@@ -9,6 +9,7 @@ use Rattle.port_state.specs.declared.timing.Timing.{Timing}
 use Rattle.port_state.specs.declared.signal.Signal.{Signal}
 use Rattle.port_state.specs.Names.{timer, KeepsBut}
 use Rattle.port_state.specs.Sends.{PortSignal}
+use Rattle.port_state.specs.Clock.{misses}
 use Rattle.port_state.specs.Machine.{PortNode}
 use Rattle.port_state.specs.Idle.{IsIdleTick, IsIdleFor}
 use Rattle.cable_world.specs.declared.wire.Travelling.{Travelling}
@@ -20,7 +21,7 @@ use Rattle.cable_world.specs.Parts.{world_record}
 use Rattle.world_agenda.specs.Clock.{caught_up}
 use Rattle.world_agenda.specs.Agenda.{IdlesBut}
 use Rattle.world_agenda.specs.Heard.{AwaitNoneBut}
-use Rattle.world_agenda.specs.Alone.{TurnLeavesAlone, LeavesAloneBut}
+use Rattle.world_agenda.specs.Alone.{TurnLeavesAlone, LeavesAloneBut, TickBut}
 use Rattle.world_agenda.proofs.Late.{still-idle}
 use Rattle.world_agenda.proofs.Blend.{some-at}
 
@@ -58,9 +59,10 @@ none-awaited w set k is none out =
 -- ---- a node that hears nothing, and whose tick is idle
 
 left-alone :
-    (w : CableWorld) (k : ℕ) (x : PortNode) → inbox w 0 (ports_of w.cabling k) ≡ [] → IsIdleTick x →
-    TurnLeavesAlone w k x
-left-alone w k x none idle = record {
+    (w : CableWorld) (k : ℕ) (x : PortNode) → inbox w 0 (ports_of w.cabling k) ≡ [] → misses x.clock ≡ false →
+    IsIdleTick x → TurnLeavesAlone w k x
+left-alone w k x none tick idle = record {
+  ticks = tick;
   sends = ap (λ (ss : List PortSignal). (node_turn ss x).sends) none ∙ idle.sends;
   state = subst (λ (ss : List PortSignal). KeepsBut (timer ∷ []) x.state (node_turn ss x).node.state) (sym none) idle.state;
 }
@@ -90,11 +92,13 @@ module _ {N : Type 0} (r : N → PortNode) (clock idle : N → ℕ) (rests : (n 
         (still-idle 1 turns (clock n) (idle n) (r n) low (omega (arith, there, ended)) (rests n) 0 (omega arith))
 
     pub alone-but :
-        (due awaiting all d : ℕ) (most : Timing) (c : Wiring) (wires : List (List Wire)) (changed : List ℕ) → IsCabling c →
+        (due awaiting missing all d : ℕ) (most : Timing) (c : Wiring) (wires : List (List Wire)) (changed : List ℕ) → IsCabling c →
         IdlesBut due (turns + 1) (map (λ n. clock n + idle n) nodes) → AwaitNoneBut awaiting wires c →
-        ((k : ℕ) → Holds due k ⊎ Holds awaiting k → Holds all k) →
+        TickBut missing (map now nodes) →
+        ((k : ℕ) → (Holds due k ⊎ Holds awaiting k) ⊎ Holds missing k → Holds all k) →
         LeavesAloneBut all (world_record d most c (map now nodes) wires changed turns)
-    alone-but due awaiting all d most c wires changed is idles none within k x at out =
+    alone-but due awaiting missing all d most c wires changed is idles none tick within k x at out =
         let w = world_record d most c (map now nodes) wires changed turns in
-        left-alone w k x (none-awaited w awaiting k is none (λ has. out (within k (inr has))))
-        (idle-node due k x idles at (λ has. out (within k (inl has))))
+        left-alone w k x (none-awaited w awaiting k is none (λ has. out (within k (inl (inr has)))))
+        (tick k x at (λ has. out (within k (inr has))))
+        (idle-node due k x idles at (λ has. out (within k (inl (inl has)))))

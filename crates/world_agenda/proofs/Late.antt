@@ -4,6 +4,7 @@ use Rattle.std.specs.Prelude.{nat_eq}
 use Rattle.std.specs.Cmp.Lexicographic.{pointwise}
 use Rattle.std.proofs.lemmas.Bool.{eq-eqb}
 use Rattle.std.proofs.lemmas.List.Elements.{All-head, All-tail}
+use Rattle.port_state.specs.declared.states.NodeState.{NodeState}
 use Rattle.port_state.specs.Sends.{PortSignal}
 use Rattle.port_state.specs.Names.{timer, without}
 use Rattle.port_state.specs.Machine.{PortNode, node_tick}
@@ -63,6 +64,14 @@ pub keeps-late :
     (turns clock idle : ℕ) (n : PortNode) → turns ≤ clock + idle → IsIdleFor idle n →
     without timer (caught_up turns clock n).state ≡ without timer n.state
 keeps-late turns clock idle n few h = idle-keeps (turns - clock) n (idle-less (turns - clock) idle n (omega (arith, few)) h)
+
+-- what the node shows by then: its timer, and for the rest what it showed
+pub view-late :
+    (turns clock : ℕ) (n : PortNode) → without timer (caught_up turns clock n).state ≡ without timer n.state →
+    record n.state.view { timer = (after_ticks (turns - clock) n).state.view.timer } ≡ (caught_up turns clock n).state.view
+view-late turns clock n same =
+    let late = caught_up turns clock n in
+    ap (λ (x : NodeState). record x.view { timer = late.state.view.timer }) (sym same)
 
 -- many nodes, whose clocks aren't ahead
 pub all-later :

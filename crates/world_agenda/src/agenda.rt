@@ -1,8 +1,8 @@
 //! The world that visits the nodes that hear something or are due.
 ghost use Rattle.std.specs.Prelude.{◌≡◌, ◌↔◌, ◌+◌, ◌<◌, ◌≤◌, ℕ, length, map, IfOk, IsFalse, All};
 ghost use Rattle.cable_world.specs.World.{world_of_nodes, world_with_times};
-ghost use Rattle.cable_world.specs.World.{IsNodeAtPowerOn, IsPowered};
-ghost use Rattle.cable_world.specs.Times.{CanBeForced};
+ghost use Rattle.cable_world.specs.World.{IsNodeAtPowerOn, IsPowered, slack_of};
+ghost use Rattle.cable_world.specs.Times.{CanBeForced, KeepsTime, longest_in_range};
 ghost use Rattle.cable_world.specs.Run.{IsReached};
 ghost use Rattle.cable_world.specs.Parts.{world_record};
 ghost use Rattle.cable_world.specs.Still.{AreSilent};
@@ -10,7 +10,9 @@ ghost use Rattle.cable_world.specs.Turn.{turns_after};
 ghost use Rattle.world_agenda.specs.Now.{now_at};
 ghost use Rattle.world_agenda.specs.Agenda.{Knows};
 ghost use Rattle.world_agenda.specs.Live.{HasLive};
+ghost use Rattle.world_agenda.specs.Slow.{HasSlow};
 
+use crate::clocks::{missing, slow_nodes, ticking};
 use crate::heard::awaiting;
 use crate::live::{live_silent, pass_live};
 use crate::node::AgendaNode;
@@ -47,6 +49,8 @@ pub struct AgendaWorld<M: PortMachine> {
     agenda: Agenda,
     // The nodes on whose wires something may be under way or arrive, or of which one may be held.
     live: NodeSet,
+    // The nodes whose clocks miss turns.
+    slow: NodeSet,
     out: Sends,
     spent: bool,
     ghost reached: { IsFalse spent → ∥ IsReached (world_record delay longest cabling
@@ -60,6 +64,7 @@ pub struct AgendaWorld<M: PortMachine> {
     ghost knows: { IsFalse spent → Knows agenda.soon agenda.next
         (map (λ n. n.clock + n.idle) nodes.items) },
     ghost lives: { IsFalse spent → HasLive live wires.items arrivals.items },
+    ghost slows: { IsFalse spent → HasSlow slow (now_at turns nodes.items) },
 }
 
 /// The machines as nodes at power-on.
@@ -80,12 +85,14 @@ fn agenda_nodes<M: PortMachine + Drop>(
 
 impl<M: PortMachine + Drop> AgendaWorld<M> {
     /// The world at power-on: nodes with these machines, each just powered on, and no cable. A cable
-    /// delays a signal by at most `delay` turns, 1 to 16. At most 63 nodes.
+    /// delays a signal by at most `delay` turns, 1 to 16. At most 63 nodes, with even clocks.
     pub fn new(alloc: Global, machines: Vec<M>, delay: u8) -> Result<AgendaWorld<M>, OutOfMemory>
         requires some_delay { 1 ≤ delay }
         requires short_delay { delay ≤ 16 }
         requires few { length machines.items ≤ 63 }
         requires power_on { All (λ m. IsNodeAtPowerOn delay (M.record_of m).state) machines.items }
+        requires clocks { All (λ m. KeepsTime (longest_in_range delay)
+            (M.record_of m).state.timing (M.record_of m).clock) machines.items }
         ensures world { IfOk result (λ w. ⟦<AgendaWorld<M> as WorldRun>⟧.world w
             ≡ world_of_nodes delay (map M.record_of machines.items)) }
         ensures spent { IfOk result (λ w. IsFalse (⟦<AgendaWorld<M> as WorldRun>⟧.is_spent w)) }
@@ -94,7 +101,7 @@ impl<M: PortMachine + Drop> AgendaWorld<M> {
     }
 
     /// The same where the times of nodes are in no range, but none is longer than in `longest`, and
-    /// they suit the delay.
+    /// they suit the delay. A clock that misses turns has to fit with those that it misses.
     pub fn with_times(
         alloc: Global,
         machines: Vec<M>,
@@ -106,8 +113,10 @@ impl<M: PortMachine + Drop> AgendaWorld<M> {
         requires few { length machines.items ≤ 63 }
         requires power_on { All (λ m. IsPowered delay longest (M.record_of m).state)
             machines.items }
-        requires forced { All (λ m. CanBeForced delay longest (M.record_of m).state.timing)
-            machines.items }
+        requires clocks { All (λ m. KeepsTime longest
+            (M.record_of m).state.timing (M.record_of m).clock) machines.items }
+        requires forced { All (λ m. CanBeForced (delay + slack_of (map M.record_of machines.items))
+            longest (M.record_of m).state.timing) machines.items }
         ensures world { IfOk result (λ w. ⟦<AgendaWorld<M> as WorldRun>⟧.world w
             ≡ world_with_times delay longest (map M.record_of machines.items)) }
         ensures spent { IfOk result (λ w. IsFalse (⟦<AgendaWorld<M> as WorldRun>⟧.is_spent w)) }
@@ -120,6 +129,7 @@ impl<M: PortMachine + Drop> AgendaWorld<M> {
             longest,
             agenda: Agenda::unknown(),
             live: NodeSet::first(machines.len() as u8),
+            slow: slow_nodes(&machines),
             cabling: Cabling::new(alloc, ports)?,
             wires: wire_rows(alloc, ports)?,
             arrivals: arrival_rows(alloc, ports)?,
@@ -296,6 +306,14 @@ impl<M: PortMachine> WorldRun for AgendaWorld<M> {
         self.changed[node as usize]
     }
 
+    fn is_even(&self, node: u8) -> bool {
+        self.nodes[node as usize].is_even_at(self.turns)
+    }
+
+    fn misses(&self, node: u8) -> bool {
+        self.nodes[node as usize].misses_at(self.turns)
+    }
+
     fn spent(&self) -> bool {
         self.spent
     }
@@ -331,7 +349,7 @@ impl<M: PortMachine> TellsStillTurns for AgendaWorld<M> {
         if self.spent {
             return 0;
         }
-        self.rest(most)
+        ticking(&self.nodes, self.slow, self.turns, self.rest(most))
     }
 
     fn touched(&self) -> NodeSet {
@@ -341,6 +359,8 @@ impl<M: PortMachine> TellsStillTurns for AgendaWorld<M> {
         worlds_stay_lawful();
         let mut agenda = self.agenda;
         let due = due_nodes(&self.nodes, self.turns, &mut agenda);
-        due.union(awaiting(&self.cabling, &self.wires, self.live))
+        let heard = awaiting(&self.cabling, &self.wires, self.live);
+        due.union(heard)
+            .union(missing(&self.nodes, self.slow, self.turns))
     }
 }

@@ -3,6 +3,7 @@
 #![tactic(auto)]
 
 mod agenda;
+mod clocks;
 mod heard;
 mod live;
 mod node;

@@ -1,10 +1,11 @@
 //! A node that stands at a turn of its own.
-ghost use Rattle.std.specs.Prelude.{◌≡◌, ◌+◌, ◌<◌, ◌≤◌, min};
+ghost use Rattle.std.specs.Prelude.{◌≡◌, ◌+◌, ◌<◌, ◌≤◌, true};
+ghost use Rattle.port_state.specs.Clock.{TicksFor, is_even, misses};
 ghost use Rattle.port_state.specs.Group.{shown_attrs};
 ghost use Rattle.port_state.specs.Idle.{IsIdleFor};
 ghost use Rattle.world_agenda.specs.Clock.{caught_up};
 
-use port_state::{PortMachine, Sends, Signal, Timing, View, idle_ticks};
+use port_state::{PortMachine, Sends, Signal, Timing, View};
 use self_id::Attrs;
 
 /// A machine with its clock: the turn at whose end it stands, and for how many ticks from there nothing
@@ -15,18 +16,6 @@ pub struct AgendaNode<M: PortMachine> {
     pub clock: u32,
     pub idle: u32,
     ghost rests: { IsIdleFor idle (M.record_of machine) },
-}
-
-/// A timer so many ticks later.
-fn later(timer: u16, ticks: u32) -> u16
-    ensures { result ≡ min (timer + ticks) 65535 }
-{
-    let room = u16::MAX - timer;
-    if ticks < u32::from(room) {
-        timer + ticks as u16
-    } else {
-        u16::MAX
-    }
 }
 
 impl<M: PortMachine> AgendaNode<M> {
@@ -71,10 +60,36 @@ impl<M: PortMachine> AgendaNode<M> {
         ensures { result
             ≡ (caught_up turns self.now.clock (M.record_of self.now.machine)).state.view }
     {
-        idle_ticks();
         let mut view = self.machine.view();
-        view.timer = later(view.timer, turns.saturating_sub(self.clock));
+        view.timer = self.machine.timer_after(turns.saturating_sub(self.clock));
         view
+    }
+
+    /// Whether its clock misses no turn after the first `turns`.
+    pub fn is_even_at(&self, turns: u32) -> bool
+        ensures { result
+            ≡ is_even (caught_up turns self.now.clock (M.record_of self.now.machine)).clock }
+    {
+        self.machine.is_even()
+    }
+
+    /// For how many turns after the first `turns` its clock misses none: the greatest number, up to
+    /// 4,000,000.
+    pub fn ticks_at(&self, turns: u32) -> u32
+        ensures ticks { TicksFor result
+            (caught_up turns self.now.clock (M.record_of self.now.machine)).clock }
+        ensures none { result ≡ 0 →
+            misses (caught_up turns self.now.clock (M.record_of self.now.machine)).clock ≡ true }
+    {
+        self.machine.ticks_on(turns.saturating_sub(self.clock))
+    }
+
+    /// Whether its clock misses the turn after `turns` turns.
+    pub fn misses_at(&self, turns: u32) -> bool
+        ensures { result
+            ≡ misses (caught_up turns self.now.clock (M.record_of self.now.machine)).clock }
+    {
+        self.ticks_at(turns) == 0
     }
 
     /// Its list after `turns` turns.
@@ -153,12 +168,24 @@ impl<M: PortMachine> PortMachine for AgendaNode<M> {
         self.machine.idle_for()
     }
 
-    fn pass(&mut self, ticks: u32) {
+    fn is_even(&self) -> bool {
+        self.machine.is_even()
+    }
+
+    fn ticks_on(&self, past: u32) -> u32 {
+        self.machine.ticks_on(past)
+    }
+
+    fn timer_after(&self, turns: u32) -> u16 {
+        self.machine.timer_after(turns)
+    }
+
+    fn pass(&mut self, turns: u32) {
         self.idle = 0;
-        self.machine.pass(ticks);
+        self.machine.pass(turns);
     }
 
     ghost valid = { λ n. M.valid n.machine };
 
-    ghost steady = { λ n. M.steady n.machine };
+    ghost regular = { λ n. M.regular n.machine };
 }

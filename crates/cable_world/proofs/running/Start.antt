@@ -1,5 +1,5 @@
 -- The tables of a world at power-on.
-use Rattle.std.proofs.Common.{◌≡◌, ℕ, zero, suc, ◌≤◌, List, [], ◌∷◌, All, map, length, replicate, Some, slice_get, refl, sym, subst, ◌∙◌, ap, arith}
+use Rattle.std.proofs.Common.{◌≡◌, ℕ, zero, suc, ◌+◌, ◌≤◌, List, [], ◌∷◌, All, map, length, replicate, get_or, Some, slice_get, refl, sym, subst, ◌∙◌, ap, arith}
 use Rattle.std.proofs.lemmas.List.{length-replicate}
 use Rattle.std.proofs.lemmas.List.Elements.{All-map}
 use Rattle.cabling.specs.Wiring.{Wiring, ArePortCounts, without_cables}
@@ -7,11 +7,13 @@ use Rattle.port_state.specs.declared.timing.Timing.{Timing}
 use Rattle.port_state.specs.Valid.{IsValid}
 use Rattle.port_state.specs.Clock.{even}
 use Rattle.port_state.specs.Machine.{PortNode}
-use Rattle.cable_world.specs.Times.{KeepsTime}
+use Rattle.cable_world.specs.Times.{CanBeForced, KeepsTime, longest_in_range}
 use Rattle.cable_world.specs.Wire.{Wire, empty_wire}
-use Rattle.cable_world.specs.World.{IsPowered, IsPowerOnWorld, no_wires, world_with_times}
+use Rattle.cable_world.specs.World.{IsNodeAtPowerOn, IsPowered, IsPowerOnWorld, no_wires, slack_of, world_with_times}
 use Rattle.cable_world.specs.Parts.{world_record}
 use Rattle.cable_world.proofs.Options.{some-same}
+use Rattle.cable_world.proofs.Times.{in-range-even, in-range-forced}
+use Rattle.cable_world.proofs.tables.Slack.{even-slack}
 
 abbrev ports : PortNode → ℕ
 ports x = x.state.ports
@@ -35,6 +37,21 @@ pub even-paced :
     (longest : Timing) (nodes : List PortNode) → EachNode (λ x. x.clock ≡ even) nodes →
     EachNode (λ x. KeepsTime longest x.state.timing x.clock) nodes
 even-paced longest nodes h k x at = subst (KeepsTime longest x.state.timing) (sym (h k x at)) tt
+
+-- where times are in their ranges all clocks are even, and each node can be forced
+pub forced-in-range :
+    {M : Type 0} → (f : M → PortNode) (d : ℕ) (machines : List M) → 1 ≤ d →
+    All (λ m. IsNodeAtPowerOn d (f m).state) machines →
+    All (λ m. KeepsTime (longest_in_range d) (f m).state.timing (f m).clock) machines →
+    All (λ m. CanBeForced (d + slack_of (map f machines)) (longest_in_range d) (f m).state.timing) machines
+forced-in-range f d machines some on keeps k m inside =
+    let even : slack_of (map f machines) ≡ 0 =
+    even-slack (map f machines) (λ j x at. in-range-even d x.state.timing x.clock
+    (each-node (λ (y : PortNode). IsNodeAtPowerOn d y.state) f machines on j x at).timing
+    (each-node (λ (y : PortNode). KeepsTime (longest_in_range d) y.state.timing y.clock) f machines keeps j x at)) in
+    let none : d ≡ d + slack_of (map f machines) = omega (arith, even) in
+    let t = (f (get_or machines k m)).state.timing in
+    subst (λ e. CanBeForced e (longest_in_range d) t) none (in-range-forced d t some (on k m inside).timing)
 
 pub are-counts : (nodes : List PortNode) → EachNode (λ x. IsValid x.state) nodes → ArePortCounts (map ports nodes)
 are-counts [] h i lt = absurd (omega arith)

@@ -1,5 +1,4 @@
--- Turns and acts change no node's times, and a clock goes on as it is, in turns alone. So who can be forced stays
--- so, and each node keeps time.
+-- Turns and acts change no node's times, and a clock goes on as it is, in turns alone. So each node keeps time.
 use Rattle.std.proofs.Common.{suc, zero, ◌≡◌, ℕ, Bool, true, List, inl, inr, Option, Some, None, slice_get, slice_set, refl, sym, subst, ◌∙◌, ap, arith}
 use Rattle.std.proofs.lemmas.Bool.{cases_eq}
 use Rattle.std.proofs.lemmas.Option.{slice_get_within, slice_get_cases}
@@ -12,8 +11,8 @@ use Rattle.port_state.specs.Entry.{enter}
 use Rattle.port_state.specs.Machine.{PortNode, NodeStep, node_disturb, node_plugged, node_pulled, node_set_config}
 use Rattle.cable_world.specs.declared.act.Act.{Act}
 use Rattle.cable_world.specs.declared.act.Act.TheVariants.{Plug, Pull, Reset, Config}
-use Rattle.cable_world.specs.Times.{CanBeForced, KeepsTime, SuitsSlowly}
-use Rattle.cable_world.specs.World.{CableWorld, AllCanBeForced, AllEven}
+use Rattle.cable_world.specs.Times.{KeepsTime, SuitsSlowly}
+use Rattle.cable_world.specs.World.{CableWorld}
 use Rattle.cable_world.specs.Turn.{turn, turn_at}
 use Rattle.cable_world.specs.Act.{step_at, with_step, add_cable, remove_cable, pull_from, change_in_set, configure, ActLeads}
 use Rattle.cable_world.specs.Lawful.{IsPaced, IsWellFormed}
@@ -114,31 +113,9 @@ act-timed P (Reset node) w v e h = subst (λ (u : CableWorld). Timed P u.nodes) 
 act-timed P (Config from root_id force gap) w v e h =
     subst (λ (u : CableWorld). Timed P u.nodes) (sym e.2) (configure-timed P e.0 from root_id force gap w h)
 
--- ---- who can be forced
-
-pub turn-forced : (w : CableWorld) → IsWellFormed w → AllCanBeForced w → AllCanBeForced (turn w)
-turn-forced w f h k y e =
-    rw (delay-after w, longest-after w) (turn-timed (λ j t c. CanBeForced w.delay w.longest t) w (λ j t c p. p) f h k y e)
-
-pub act-forced :
-    (a : Act) (w v : CableWorld) → ActLeads a w v → AllCanBeForced w → AllCanBeForced v
-act-forced a w v e h k y at =
-    let keeps = act-keeps a w v e in
-    rw (keeps.delay, keeps.longest) (act-timed (λ j t c. CanBeForced w.delay w.longest t) a w v e h k y at)
-
 -- ---- clocks
 
--- a clock that is even stays so
-even-after : (c : Clock) → c ≡ even → clock_after c ≡ even
-even-after c e = ap clock_after e
-
-pub turn-even : (w : CableWorld) → IsWellFormed w → AllEven w → AllEven (turn w)
-turn-even w f h = turn-timed (λ j t c. c ≡ even) w (λ j t c. even-after c) f h
-
-pub act-even : (a : Act) (w v : CableWorld) → ActLeads a w v → AllEven w → AllEven v
-act-even a w v e h = act-timed (λ j t c. c ≡ even) a w v e h
-
--- one that keeps time goes on doing so
+-- a clock that keeps time goes on doing so
 time-after : (longest t : Timing) (c : Clock) → KeepsTime longest t c → KeepsTime longest t (clock_after c)
 time-after longest t even h = tt
 time-after longest t (slow zero even) h = tt

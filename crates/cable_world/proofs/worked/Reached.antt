@@ -1,6 +1,6 @@
 -- The worked runs are runs as the definition has it, from the power-on world by events that none
 -- refuses; and where components are fresh.
-use Rattle.std.proofs.Common.{sym, ◌≡◌, ◌≢◌, ℕ, zero, suc, ◌<◌, ◌≤◌, Bool, true, false, List, [], ◌∷◌, None, Some, length, slice_get, refl, subst, arith}
+use Rattle.std.proofs.Common.{sym, ◌≡◌, ◌≢◌, ℕ, zero, suc, ◌<◌, ◌≤◌, ◌+◌, ap, Bool, true, false, List, [], ◌∷◌, None, Some, length, slice_get, refl, subst, arith}
 use Rattle.self_id.specs.Group.{group}
 use Rattle.port_state.specs.declared.signal.Phase.TheVariants.{ResetStart, ResetWait}
 use Rattle.port_state.specs.Timing.{InRange, usual_timing}
@@ -11,15 +11,16 @@ use Rattle.port_state.specs.Machine.{PortNode}
 use Rattle.port_state.proofs.Lemmas.{valid-power_on}
 use Rattle.cabling.specs.declared.cable.CableFault.TheVariants.{NoNode, InUse, NotPlugged}
 use Rattle.cable_world.specs.declared.act.Act.TheVariants.{Plug, Pull}
-use Rattle.port_state.specs.Clock.{even}
-use Rattle.cable_world.specs.Times.{KeepsTime, longest_in_range}
-use Rattle.cable_world.specs.World.{CableWorld, IsNodeAtPowerOn, world_of_nodes}
+use Rattle.port_state.specs.Clock.{even, is_even, IsRegular}
+use Rattle.cable_world.specs.Times.{CanBeForced, KeepsTime, longest_in_range}
+use Rattle.cable_world.specs.World.{CableWorld, IsNodeAtPowerOn, slack_of, world_of_nodes}
 use Rattle.cable_world.specs.Turn.{turn, turns_after}
 use Rattle.cable_world.specs.Act.{act_fault, hold, hold_fault}
 use Rattle.cable_world.specs.Run.{IsReached, starts}
 use Rattle.cable_world.specs.Outcome.{AtView}
 use Rattle.cable_world.specs.Fresh.{IsFresh}
 use Rattle.cable_world.proofs.StaysReached.{all-turned}
+use Rattle.cable_world.proofs.tables.Slack.{even-slack}
 use Rattle.cable_world.proofs.worked.Summary.{node_of, attrs, at, after_plug}
 use Rattle.cable_world.proofs.worked.ComesOf.{comes-plugged, comes-pulled, comes-held}
 use Rattle.cable_world.proofs.Options.{some-same}
@@ -63,8 +64,10 @@ reached-first nodes a few = starts (world_of_nodes 4 nodes) (
   record { some_delay = omega arith; few_nodes = few; nodes = λ k x e. powered-in-range 4 x.state (omega arith) (omega arith) (all-at nodes a k x e).0; clocks = λ k x e. subst (λ c. KeepsTime (longest_in_range 4) x.state.timing c) (sym (all-at nodes a k x e).1) tt; is = refl },
   record {
     short_delay = omega arith;
-    forced = λ k x e. in-range-forced 4 x.state.timing (omega arith) (all-at nodes a k x e).0.timing;
-    even = λ k x e. (all-at nodes a k x e).1;
+    forced = λ k x e.
+        let none : 4 ≡ 4 + slack_of nodes = omega (arith, even-slack nodes (λ j y at. ap is_even (all-at nodes a j y at).1)) in
+        subst (λ d. CanBeForced d (longest_in_range 4) x.state.timing) none (in-range-forced 4 x.state.timing (omega arith) (all-at nodes a k x e).0.timing);
+    regular = λ k x e. subst IsRegular (sym (all-at nodes a k x e).1) tt;
   },
 )
 

@@ -1,6 +1,6 @@
 -- Times that barely suit a bus, and times that don't; and two nodes with such times. d is 1 here, and
 -- the longest times are those in range.
-use Rattle.port_state.specs.Clock.{even}
+use Rattle.port_state.specs.Clock.{even, IsRegular}
 use Rattle.std.proofs.Common.{◌≡◌, ℕ, zero, suc, true, false, [], ◌∷◌, Some, map, slice_get, refl, sym, ap, subst, arith}
 use Rattle.self_id.specs.Group.{group}
 use Rattle.port_state.specs.declared.timing.Timing.{Timing}
@@ -12,7 +12,7 @@ use Rattle.port_state.specs.Tick.{tick}
 use Rattle.port_state.specs.Machine.{PortNode}
 use Rattle.port_state.proofs.Lemmas.{valid-power_on}
 use Rattle.cable_world.specs.Times.{Suits, CanBeForced, longest_in_range}
-use Rattle.cable_world.specs.World.{CableWorld, AllCanBeForced, AllEven, IsPowered, world_with_times}
+use Rattle.cable_world.specs.World.{CableWorld, AllCanBeForced, IsPowered, world_with_times}
 use Rattle.cable_world.specs.Turn.{turn, turns_after}
 use Rattle.cable_world.specs.Run.{IsReached, starts}
 use Rattle.cable_world.proofs.Options.{some-same}
@@ -81,7 +81,7 @@ each-powered zero x e = subst (λ (z : PortNode). IsPowered 1 (longest_in_range 
 each-powered (suc zero) x e = subst (λ (z : PortNode). IsPowered 1 (longest_in_range 1) z.state) (some-same (node 1) x e) (powered 1)
 each-powered (suc (suc k)) x e = absurd cc
 
-each-even : AllEven alone
+each-even : (k : ℕ) (x : PortNode) → slice_get alone.nodes k ≡ Some x → x.clock ≡ even
 each-even zero x e = ap (λ (z : PortNode). z.clock) (sym (some-same (node 0) x e))
 each-even (suc zero) x e = ap (λ (z : PortNode). z.clock) (sym (some-same (node 1) x e))
 each-even (suc (suc k)) x e = absurd cc
@@ -94,7 +94,7 @@ each-forced (suc (suc k)) x e = absurd cc
 start-reached : IsReached start
 start-reached = comes-plugged alone (at 0 0) (at 1 0) refl (starts alone (
   record { some_delay = omega arith; few_nodes = omega arith; nodes = each-powered; clocks = even-paced (longest_in_range 1) alone.nodes each-even; is = refl },
-  record { short_delay = omega arith; forced = each-forced; even = each-even },
+  record { short_delay = omega arith; forced = each-forced; regular = λ k x e. subst IsRegular (sym (each-even k x e)) tt },
 ))
 
 -- a hold of 64 turns, a long wait of 6, and the rest: the second is root

@@ -3,8 +3,7 @@ use Rattle.std.proofs.Common.{◌≡◌, ◌⊎◌, inl, inr, ℕ, zero, suc, �
 use Rattle.convergence.proofs.Common.{PortNode, CableWorld, turn, turn_at, IsLawful, node-after, some-same, before, one-quiet, quiet-lawful, HoldSchedule, quiet_after}
 use Rattle.port_state.specs.Clock.{Clock, even, is_even, misses, clock_after, TicksFor}
 use Rattle.cable_world.specs.Times.{Suits}
-use Rattle.cable_world.specs.Run.{IsReached}
-use Rattle.cable_world.proofs.Lemmas.{misses-slowly, reached-runs}
+use Rattle.cable_world.proofs.Lemmas.{even-slack, misses-slowly}
 use Rattle.convergence.specs.Turns.{slack_of, slack}
 use Rattle.convergence.proofs.turns.Clocks.{ticks-less, ticks-missed, misses-none}
 
@@ -27,10 +26,6 @@ even-or (n ∷ ns) = go (is_even n.clock) refl (even-or ns)
         all : AreEven (n ∷ ns)
         all zero x at = ap (λ (z : PortNode). is_even z.clock) (sym (some-same n x at)) ∙ e
         all (suc k) x at = h.0 k x at
-
-even-none : (nodes : List PortNode) → AreEven nodes → slack_of nodes ≡ 0
-even-none [] h = refl
-even-none (n ∷ ns) h = ap (λ b. if b then slack_of ns else 1) (h 0 n refl) ∙ even-none ns (λ k x at. h (suc k) x at)
 
 pub slack-most : (w : CableWorld) → slack w ≤ 1
 slack-most w = elim (even-or w.nodes) [ inl a ↦ omega (arith, a.1) | inr a ↦ omega (arith, a) ]
@@ -57,13 +52,9 @@ even-later hs v l h (suc i) = even-turn (quiet_after hs i v) (quiet-lawful hs i 
 
 pub slack-later : (hs : HoldSchedule) (v : CableWorld) → IsLawful v → (i : ℕ) → slack (quiet_after hs i v) ≤ slack v
 slack-later hs v l i = elim (even-or v.nodes) [
-  | inl a ↦ omega (arith, even-none (quiet_after hs i v).nodes (even-later hs v l a.0 i))
+  | inl a ↦ omega (arith, even-slack (quiet_after hs i v).nodes (even-later hs v l a.0 i))
   | inr a ↦ omega (arith, a, slack-most (quiet_after hs i v))
 ]
-
--- so are all those of a world that runs
-pub reached-slack : (w : CableWorld) → IsReached w → slack w ≡ 0
-reached-slack w r = even-none w.nodes (λ k x at. ap is_even ((reached-runs w r).even k x at))
 
 -- ---- missed turns
 
@@ -74,7 +65,7 @@ misses-slack w k x at m = elim (even-or w.nodes) [ inl a ↦ absurd (even-ticks 
 
 pub slack-turn : (w : CableWorld) → IsLawful w → slack (turn w) ≤ slack w
 slack-turn w l = elim (even-or w.nodes) [
-  | inl a ↦ omega (arith, even-none (turn w).nodes (even-turn w l a.0))
+  | inl a ↦ omega (arith, even-slack (turn w).nodes (even-turn w l a.0))
   | inr a ↦ omega (arith, a, slack-most (turn w))
 ]
 

@@ -13,7 +13,7 @@ use Rattle.cable_world.specs.Phases.{is_timed}
 use Rattle.cable_world.specs.Run.{IsReached}
 use Rattle.convergence.specs.Turns.{seen_turns}
 use Rattle.cable_world.proofs.Lemmas.{quiet-timed, reached-runs, steady}
-use Rattle.convergence.proofs.Lemmas.{late-start, reached-slack}
+use Rattle.convergence.proofs.Lemmas.{late-start}
 use Rattle.outcomes.proofs.forced.Forced.{SameDue, due-heard, kept-heard, beat-tick-holds, Takes, beat-tick-takes, waits-parentless}
 use Rattle.outcomes.proofs.forced.Spread.{Turned, turned, spreads, all-reset}
 use Rattle.port_state.specs.Machine.{beat, on_beat}
@@ -34,9 +34,7 @@ tree-timed p h = rw h refl
 
 -- a world that runs gives each node time enough to be forced
 pub reached-enough : (w : CableWorld) (k : ℕ) → IsReached w → CanBeForcedAt w k
-reached-enough w k r x at =
-    let e : w.delay ≡ seen_turns w = omega (arith, reached-slack w r) in
-    subst (λ d. CanBeForced d w.longest x.state.timing) e ((reached-runs w r).forced k x at)
+reached-enough w k r x at = (reached-runs w r).forced k x at
 
 -- ---- turns after the last entry
 

@@ -1,5 +1,5 @@
 -- How long nothing happens at a node, by its phase. No public contract cites this file.
-use Rattle.std.specs.Prelude.{ℕ, ◌+◌, ◌-◌, ◌≤◌, ◌<◌, Bool, true, ◌||◌, ◌==◌, not, min, nat_le, count_by, Option, Some, None, if◌then◌else◌}
+use Rattle.std.specs.Prelude.{◌≡◌, ℕ, ◌+◌, ◌-◌, ◌≤◌, ◌<◌, Bool, true, false, ◌||◌, ◌==◌, not, min, nat_le, count_by, Option, Some, None, if◌then◌else◌}
 use Rattle.port_state.specs.declared.signal.Level.{Level}
 use Rattle.port_state.specs.declared.signal.Phase.{Phase}
 use Rattle.port_state.specs.declared.signal.Phase.TheVariants.{ResetStart, ResetWait, TreeStart, ChildShake, ParentShake, Contend, SelfIdent, Ready}
@@ -7,9 +7,7 @@ use Rattle.port_state.specs.declared.states.NodeState.{NodeState}
 use Rattle.port_state.specs.Ports.{asks, is_idle, is_child, is_parent, is_unnamed, connected_count, every, lowest, port_is}
 use Rattle.port_state.specs.Resetting.{is_calm}
 use Rattle.port_state.specs.SelfIdentify.{may_name}
-use Rattle.port_state.specs.Coins.{Coins}
-use Rattle.port_state.specs.Idle.{IsIdleFor}
-use Rattle.phy_machine.specs.Node.{node_of}
+use Rattle.port_state.specs.Idle.{rests, with_later_timer}
 
 -- how many packets a node with so many ports has
 abbrev pub packet_count : ℕ → ℕ
@@ -82,11 +80,10 @@ idle_in Contend x = until_waited x.view.parent x
 idle_in SelfIdent x = until_named x
 idle_in Ready x = look_ahead
 
--- whatever coins the node has, so many ticks of it are idle
-abbrev pub IsIdleWith : ℕ → NodeState → Type 0
-IsIdleWith count x = (coins : Coins) → IsIdleFor count (node_of x coins)
+-- the rows of so many ticks change nothing
+abbrev pub RestsFor : ℕ → NodeState → Type 0
+RestsFor count x = (k : ℕ) → k < count → rests (with_later_timer k x) ≡ true
 
--- and no more, if there are fewer than a machine looks ahead
+-- and that of the next does, if there are fewer than a machine looks ahead
 abbrev pub StirsAfter : ℕ → NodeState → Type 0
-StirsAfter count x =
-    (coins : Coins) → count < look_ahead → ¬ IsIdleFor (count + 1) (node_of x coins)
+StirsAfter count x = count < look_ahead → rests (with_later_timer count x) ≡ false

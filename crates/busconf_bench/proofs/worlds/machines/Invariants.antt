@@ -1,5 +1,6 @@
 use Rattle.std.proofs.Common.{◌≡◌, All, length}
 use Rattle.phy_machine.specs.Field.{field_node}
+use Rattle.cable_world.specs.Times.{KeepsTime, longest_in_range}
 use Rattle.cable_world.specs.World.{IsNodeAtPowerOn}
 use Rattle.busconf_bench.proofs.worlds.machines.Given as goal
 
@@ -8,5 +9,6 @@ abbrev pub invariant-loop-node : goal.invariant-loop-node
 invariant-loop-node l =
     record {
       powered : All (λ m. IsNodeAtPowerOn 4 (field_node m).state) l.made.items;
+      clocks : All (λ m. KeepsTime (longest_in_range 4) (field_node m).state.timing (field_node m).clock) l.made.items;
       count : length l.made.items ≡ l.node;
     }

@@ -6,10 +6,10 @@ use Rattle.phy_machine.proofs.any.AnyMachinePortMachine.pass.Goals as goal
 
 pub pass-requires : goal.pass-requires
 pass-requires c = record {
-  idle = subst (λ (m : AnyMachine). IsIdleFor c.args.ticks (any_node m)) c.in-Field.is c.requires.idle;
+  idle = subst (λ (m : AnyMachine). IsIdleFor c.args.turns (any_node m)) c.in-Field.is c.requires.idle;
 }
 
 pub pass-requires-in-Packed : goal.pass-requires-in-Packed
 pass-requires-in-Packed c = record {
-  idle = subst (λ (m : AnyMachine). IsIdleFor c.args.ticks (any_node m)) c.in-Packed.is c.requires.idle;
+  idle = subst (λ (m : AnyMachine). IsIdleFor c.args.turns (any_node m)) c.in-Packed.is c.requires.idle;
 }

@@ -1,10 +1,17 @@
-use Rattle.std.proofs.Common.{refl, sym, ap, ◌∙◌}
+use Rattle.std.proofs.Common.{◌≡◌, refl, sym, ap, ◌∙◌}
+use Rattle.port_state.specs.declared.states.NodeState.{NodeState}
+use Rattle.port_state.specs.Clock.{Clock, ticks_in, clock_on}
+use Rattle.port_state.specs.Idle.{with_later_timer}
+use Rattle.port_state.specs.Machine.{PortNode}
 use Rattle.port_state.proofs.Lemmas.{after-idle_ticks}
-use Rattle.phy_machine.specs.Node.{node_of}
+use Rattle.phy_machine.specs.Clock.{clock_in}
 use Rattle.phy_machine.specs.Field.{field_node}
 use Rattle.phy_machine.proofs.field.FieldMachinePortMachine.pass.Goals as goal
 
 pub returns : goal.returns
 returns c =
-    ap (λ x. node_of x c.args.self.now.coins) c.pass.ensures.state
-    ∙ sym (after-idle_ticks c.args.ticks (field_node c.args.self.now) refl c.pass.ensures.fits c.requires.idle)
+    let self = c.args.self.now in
+    let node : NodeState → Clock → PortNode = λ x k. record { state = x; coins = self.coins; clock = k } in
+    ap (λ x. node x (clock_in c.after-self.result)) (c.pass.ensures.state ∙ ap (λ k. with_later_timer k self.state) c.ticks_in.ensures)
+    ∙ ap (node (with_later_timer (ticks_in c.args.turns (clock_in self.clock)) self.state)) c.after-self.ensures.clock
+    ∙ sym (after-idle_ticks c.args.turns (field_node self) c.pass.ensures.fits c.requires.idle)

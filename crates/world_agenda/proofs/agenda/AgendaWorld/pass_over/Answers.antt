@@ -12,6 +12,8 @@ use Rattle.world_agenda.specs.declared.node.AgendaNode.{AgendaNode}
 use Rattle.world_agenda.specs.Clock.{caught_up}
 use Rattle.cable_world.specs.Still.{hold_less}
 use Rattle.cable_world.specs.Run.{IsReached}
+use Rattle.world_agenda.specs.Slow.{HasSlow}
+use Rattle.world_agenda.proofs.SlowNodes.{slow-passed}
 use Rattle.world_agenda.proofs.Late.{all-later}
 use Rattle.world_agenda.proofs.Ahead.{still-for}
 use Rattle.world_agenda.proofs.LiveRows.{live-passes}
@@ -50,6 +52,7 @@ invariant_of-self g c =
       idle = c.rest-rest.ensures.idle some;
       marks = self.marks;
       knows = self.knows;
+      slows = λ fine. subst (HasSlow self.slow) (sym nodes) (slow-passed self.slow k (map f self.nodes.items) (self.slows c.requires.sound));
       lives = λ fine. live-passes k self.live self.wires.items (with_items self.wires c.pass_live.new.wires).items self.arrivals.items rows (self.lives c.requires.sound);
       same = λ fine. self.same c.requires.sound
           ∙ sym (ap (λ (l : List (List Wire)). map length l) (ws ∙ c.pass_live.ensures) ∙ rows-long (hold_less k) c.deref_mut.result.now

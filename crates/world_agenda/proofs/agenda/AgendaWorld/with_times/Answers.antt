@@ -1,21 +1,22 @@
-use Rattle.std.proofs.Common.{◌≡◌, ◌∙◌, ◌≤◌, [], length, map, get_or, replicate, ap, sym, subst, arith}
+use Rattle.std.proofs.Common.{◌≡◌, ◌∙◌, ◌+◌, ◌≤◌, [], length, map, get_or, replicate, ap, sym, subst, arith}
 use Rattle.std.proofs.lemmas.List.{length-map, length-replicate}
 use Rattle.std.proofs.lemmas.List.Elements.{All-weaker}
 use Rattle.cabling.specs.Wiring.{ArePortCounts}
-use Rattle.port_state.specs.Clock.{even}
+use Rattle.port_state.specs.Clock.{IsRegular}
 use Rattle.port_state.specs.Machine.{PortNode}
 use Rattle.cable_world.specs.Wire.{empty_wire}
-use Rattle.cable_world.specs.Times.{CanBeForced}
-use Rattle.cable_world.specs.World.{IsPowered, world_with_times}
+use Rattle.cable_world.specs.Times.{CanBeForced, KeepsTime}
+use Rattle.cable_world.specs.World.{IsPowered, slack_of, world_with_times}
 use Rattle.cable_world.specs.Parts.{world_record}
 use Rattle.cable_world.specs.Run.{IsReached}
 use Rattle.world_agenda.specs.declared.node.AgendaNode.{AgendaNode}
 use Rattle.world_agenda.specs.Clock.{caught_up}
+use Rattle.world_agenda.specs.Slow.{HasSlow}
 use Rattle.world_agenda.proofs.Known.{known-nothing}
 use Rattle.world_agenda.proofs.Late.{all-now}
 use Rattle.world_agenda.proofs.LiveRows.{all-live}
 use Rattle.world_agenda.proofs.agenda.AgendaWorld.with_times.Goals as goal
-use Rattle.cable_world.proofs.Lemmas.{are-counts, as-long, each-node, even-paced, power-on, start-is}
+use Rattle.cable_world.proofs.Lemmas.{are-counts, as-long, each-node, power-on, start-is}
 
 pub new-requires-clause-counts : goal.new-requires-clause-counts
 new-requires-clause-counts g c =
@@ -41,18 +42,20 @@ invariant_of-result g c =
     ∙ start-is d longest c.len-2.result nodes counts c.in_ok-new.field-0 c.in_ok-wire_rows.field-0.items c.in_ok-no_changes.field-0.items
     is c.in_ok-new.ensures c.in_ok-wire_rows.ensures c.in_ok-no_changes.ensures (omega (arith, c.len-2.ensures, long, c.args.machines.ok.0)) in
     let h = each-node (λ (x : PortNode). IsPowered d longest x.state) f c.args.machines.items c.requires.power_on in
-    let forced = each-node (λ (x : PortNode). CanBeForced d longest x.state.timing) f c.args.machines.items c.requires.forced in
-    let even = each-node (λ (x : PortNode). x.clock ≡ even) f c.args.machines.items (λ k m inside. g.met.M.PortMachine.steady (get_or c.args.machines.items k m)) in
+    let forced = each-node (λ (x : PortNode). CanBeForced (d + slack_of nodes) longest x.state.timing) f c.args.machines.items c.requires.forced in
+    let regular = each-node (λ (x : PortNode). IsRegular x.clock) f c.args.machines.items (λ k m inside. g.met.M.PortMachine.regular (get_or c.args.machines.items k m)) in
+    let paced = each-node (λ (x : PortNode). KeepsTime longest x.state.timing x.clock) f c.args.machines.items c.requires.clocks in
     let few : length nodes ≤ 63 = omega (arith, long, c.requires.few) in
     let many : length agenda ≡ length c.args.machines.items = sym (length-map agenda r) ∙ ap length c.in_ok-agenda_nodes.ensures.nodes ∙ long in
     record {
       reached = λ fine. subst (λ w. ∥ IsReached w ∥₁) (sym start)
-          ∣ c.worlds_stay_reached.ensures.power_on (world_with_times d longest nodes) (power-on d longest nodes c.requires.some_delay few h (even-paced longest nodes even)) (record { short_delay = c.requires.short_delay; forced = forced; even = even }) ∣₁;
+          ∣ c.worlds_stay_reached.ensures.power_on (world_with_times d longest nodes) (power-on d longest nodes c.requires.some_delay few h paced) (record { short_delay = c.requires.short_delay; forced = forced; regular = regular }) ∣₁;
       early = omega arith;
       abreast = λ fine e. c.in_ok-agenda_nodes.ensures.clocks;
       behind = λ fine. All-weaker (λ n. n.clock ≡ 0) (λ n. n.clock ≤ 0) (λ n e. omega (arith, e)) agenda c.in_ok-agenda_nodes.ensures.clocks;
       idle = λ k e inside. omega arith;
       marks = ap length c.in_ok-no_changes.ensures ∙ length-replicate c.len-2.result 0 ∙ omega (arith, c.len-2.ensures, c.args.machines.ok.0) ∙ sym many;
+      slows = λ fine. subst (HasSlow c.slow_nodes.result) (ap (map f) c.deref-2.ensures.value ∙ sym same) c.slow_nodes.ensures;
       knows = λ fine. known-nothing c.unknown.result.soon c.unknown.result.next _ c.unknown.ensures.soon c.unknown.ensures.next;
       lives = λ fine.
           let made : length counts ≡ c.len.result = ap length is ∙ length-map nodes (λ (x : PortNode). x.state.ports) ∙ long ∙ omega (arith, c.len.ensures, c.args.machines.ok.0) in

@@ -24,6 +24,7 @@ invariant_of-self g c =
       idle = self.idle;
       marks = self.marks;
       knows = self.knows;
+      slows = self.slows;
       lives = λ fine. subst (λ rows. HasLive self.live rows self.arrivals.items) (sym same) (self.lives fine);
       same = λ fine. self.same fine ∙ sym (ap (λ (rows : List (List Wire)). map length rows) same);
     }

@@ -15,6 +15,8 @@ use Rattle.cable_world.specs.Answer.{IsMemory}
 use Rattle.cable_world.specs.Run.{IsReached}
 use Rattle.world_agenda.specs.Agenda.{Knows}
 use Rattle.world_agenda.specs.Live.{HasLive}
+use Rattle.world_agenda.specs.Slow.{HasSlow}
+use Rattle.world_agenda.proofs.SlowNodes.{slow-act}
 use Rattle.world_agenda.proofs.Whole.{lawful-now, parts-same, IfFault-weaker}
 use Rattle.world_agenda.proofs.agenda.AgendaWorldWorldRun.act.Goals as goal
 use Rattle.cable_world.proofs.Lemmas.{settled, vectors-related}
@@ -68,6 +70,15 @@ invariant_of-self g c =
           (c.deref_mut.ensures.value, c.deref_mut.ensures.len, auto.nodes)
           (c.deref_mut-2.ensures.value, c.deref_mut-2.ensures.len, auto.wires)
           (c.deref_mut-3.ensures.value, c.deref_mut-3.ensures.len, auto.changed) (parts-same f self.delay self.longest self.cabling new.cabling self.turns c.deref_mut.result.now new.nodes c.deref_mut-2.result.now new.wires c.deref_mut-3.result.now new.changed same))) (self.reached c.if-self.false));
+      slows = λ fine. settled c.act_agenda-done.result c.is_memory-self.result c.is_memory-self.ensures fine said.done said.accepted said.rows said.same
+          (λ done accepted rows. slow-act self.slow act w _
+          (vectors-related (ActLeads act) f f self.delay self.longest self.cabling new.cabling self.turns self.turns self.nodes self.wires self.changed
+          c.deref_mut.result.now new.nodes c.deref_mut-2.result.now new.wires c.deref_mut-3.result.now new.changed
+          (c.deref_mut.ensures.value, c.deref_mut.ensures.len, auto.nodes)
+          (c.deref_mut-2.ensures.value, c.deref_mut-2.ensures.len, auto.wires)
+          (c.deref_mut-3.ensures.value, c.deref_mut-3.ensures.len, auto.changed) (done self.delay self.longest)) (self.slows c.if-self.false))
+          (λ same. subst (HasSlow self.slow) (sym (
+          ap (map f) ns ∙ same.1 ∙ ap (map f) c.deref_mut.ensures.value)) (self.slows c.if-self.false));
       early = omega arith;
       abreast = λ fine e. subst (λ xs. All (λ n. n.clock ≡ self.turns) xs) (sym ns) said.clocks;
       behind = λ fine. subst (λ xs. All (λ n. n.clock ≤ self.turns) xs) (sym ns)

@@ -50,6 +50,7 @@ invariant_of-self g c =
       idle = self.idle;
       marks = self.marks;
       knows = self.knows;
+      slows = self.slows;
       lives = λ fine. live-set self.live c.insert.new.self end.node self.wires.items c.hold.new.self [] self.arrivals.items inside
           (taken-in self.live c.insert.new.self end.node c.insert.ensures.others c.insert.ensures.holds) c.insert.ensures.others
           (λ out. absurd (out c.insert.ensures.holds)) (self.lives fine);

@@ -9,6 +9,8 @@ use Rattle.world_agenda.specs.declared.node.AgendaNode.{AgendaNode}
 use Rattle.world_agenda.specs.Clock.{caught_up}
 use Rattle.cable_world.specs.Turn.{turn}
 use Rattle.cable_world.specs.Run.{IsReached}
+use Rattle.world_agenda.specs.Slow.{HasSlow}
+use Rattle.world_agenda.proofs.SlowNodes.{slow-turn}
 use Rattle.world_agenda.proofs.Turns.{one-turn}
 use Rattle.world_agenda.proofs.Whole.{lawful-now}
 use Rattle.world_agenda.proofs.agenda.AgendaWorldWorldRun.turn.Goals as goal
@@ -63,6 +65,7 @@ invariant_of-self g c =
       idle = subst (λ xs. All (λ n. self.turns ≤ n.clock + n.idle) xs) (sym ns) c.turn_agenda.ensures.idle;
       knows = λ fine. absurd cc;
       lives = λ fine. absurd cc;
+      slows = λ fine. absurd cc;
       marks = ap length cs ∙ auto.changed ∙ ap length c.deref_mut-3.ensures.value ∙ self.marks ∙ sym (ap length ns ∙ auto.nodes ∙ ap length c.deref_mut.ensures.value);
       same = λ fine. absurd cc;
     }
@@ -92,6 +95,8 @@ invariant_of-self-2 g c =
       idle = subst (λ xs. All (λ n. self.turns + 1 ≤ n.clock + n.idle) xs) (sym ns) c.in_ok-turn_agenda.ensures.ahead;
       knows = λ fine. rw ns c.in_ok-turn_agenda.ensures.knows;
       lives = λ fine. rw (ws, arr) c.in_ok-turn_agenda.ensures.live;
+      slows = λ fine. subst (λ (v : CableWorld). HasSlow self.slow v.nodes) (sym done)
+          (slow-turn self.slow w (lawful-now w c.worlds_stay_lawful.ensures.reached (self.reached c.if-self.false)).well_formed (self.slows c.if-self.false));
       marks = ap length cs ∙ auto.changed ∙ ap length c.deref_mut-3.ensures.value ∙ self.marks ∙ sym (ap length ns ∙ auto.nodes ∙ ap length c.deref_mut.ensures.value);
       same = λ fine. ap (λ (l : List (List _)). map length l) arr ∙ c.in_ok-turn_agenda.ensures.same ∙ ap (λ (l : List (List Wire)). map length l) (sym ws);
     }
