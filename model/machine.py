@@ -27,13 +27,16 @@ class Port:
 
 
 class Node:
-    """`times` has hold, force, timeout, short and long; `traits` has link, speed, contender and power."""
+    """
+    `times` has hold, force, timeout, short and long; `traits` has link, speed, contender and power. `resets_gap` is
+    whether the gap count is 63 again at the second reset without a configuration packet that sets it.
+    """
 
-    def __init__(self, name, ports, times, traits, gap, force, coins):
+    def __init__(self, name, ports, times, traits, gap, resets_gap, force, coins):
         self.name, self.times, self.traits, self.coins = name, times, traits, coins
         self.ports = [Port() for _ in range(ports)]
-        self.gap = self.next_gap = gap
-        self.force = self.next_force = force
+        self.next_gap, self.resets_gap = gap, resets_gap
+        self.next_force = force
         self.resets = 0
         self.sends = []
         self.ends = set(times.values())
@@ -78,6 +81,9 @@ class Node:
         self.draws, self.first_draws = 0, []
         self.initiated = initiated
         self.gap, self.force = self.next_gap, self.next_force
+        if self.resets_gap and self.next_gap != 63:
+            reached["gap count set back"] += 1
+            self.next_gap = 63
         self.resets += 1
         self.registers = registers.initial()
         self.idle = False

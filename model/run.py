@@ -100,8 +100,9 @@ class Script:
         traits = {key: keys.get(key, value) for key, value in usual.items()}
         coins = GivenCoins(keys["coins"]) if "coins" in keys else SeededCoins(keys.get("seed", number))
         self.node_of[name] = number
-        gap, force = keys.get("gap", 63), bool(keys.get("force", 0))
-        self.world.nodes.append(Node(name, ports, times, traits, gap, force, coins))
+        gap, resets_gap = keys.get("gap", 63), bool(keys.get("gapreset", 0))
+        force = bool(keys.get("force", 0))
+        self.world.nodes.append(Node(name, ports, times, traits, gap, resets_gap, force, coins))
         self.world.changed.append(0)
 
     def node(self, name):

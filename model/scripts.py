@@ -55,6 +55,7 @@ KEYS = {
     "force": (0, 1),
     "power": (0, 7),
     "gap": (0, 63),
+    "gapreset": (0, 1),
     "seed": (0, MAX_NUMBER),
     "hold": None,  # the ranges of these three depend on the lines `delay` and `times`
     "short": None,

@@ -65,7 +65,7 @@ struct node {
   uint32_t *list;
   uint32_t changed;
   uint16_t shorter, longer;
-  bool link, contender;
+  bool link, contender, resets_gap;
   uint8_t speed, power, ports, coin_count, coin_place;
   uint64_t coin_bits, coin_state;
   struct wire *out[PORTS], *in[PORTS]; /* the wires from here and to here */

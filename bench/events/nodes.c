@@ -26,6 +26,8 @@ NEVER void enter_reset(struct node *n, uint32_t zero, bool cause) {
   n->draws = n->first_draws = 0;
   n->gap = n->next_gap;
   n->force = n->next_force;
+  if (n->resets_gap)
+    n->next_gap = 63;
   n->zero = zero;
   arm(n, zero + n->hold);
   put_resets(n);

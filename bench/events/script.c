@@ -162,6 +162,8 @@ static const char *key_of(const char *c, struct node *n, uint32_t *seed) {
     n->power = (uint8_t)value;
   else if (is_word(word, many, "gap"))
     n->next_gap = (uint8_t)value;
+  else if (is_word(word, many, "gapreset"))
+    n->resets_gap = value;
   else if (is_word(word, many, "hold"))
     n->hold = (uint16_t)value;
   else if (is_word(word, many, "short"))
@@ -215,6 +217,8 @@ static const char *declare(const char *c) {
     fault("a time that isn't valid");
   n->gap = n->next_gap;
   n->force = n->next_force;
+  if (n->resets_gap)
+    n->next_gap = 63;
   n->coin_state = pcg_start(seed);
   arm(n, n->hold);
   return c;

@@ -27,7 +27,7 @@ struct node {
   uint16_t hold, shorter, longer;
   uint16_t length, zeros; /* of the list: quadlets, and packet zeros among them */
   uint32_t draws, first_draws, changed;
-  bool next_force, initiated, link, contender;
+  bool next_force, initiated, link, contender, resets_gap;
   uint8_t gap, next_gap, speed, power, ports, coin_count, coin_place;
   uint64_t coin_bits, coin_state;
 };

@@ -45,6 +45,8 @@ void enter_reset(struct node *n, bool cause) {
   n->initiated = cause;
   n->gap = n->next_gap;
   n->force = n->next_force;
+  if (n->resets_gap)
+    n->next_gap = 63;
   put_all(n, n->connected, RESET);
 }
 

@@ -61,6 +61,8 @@ static void set_key(struct node *n, const char *key, const char *word) {
     n->power = (uint8_t)value;
   else if (!strcmp(key, "gap"))
     n->next_gap = (uint8_t)value;
+  else if (!strcmp(key, "gapreset"))
+    n->resets_gap = value;
   else if (!strcmp(key, "hold"))
     n->hold = (uint16_t)value;
   else if (!strcmp(key, "short"))
@@ -95,6 +97,8 @@ static void declare(char **words, int count) {
     set_key(n, words[i], words[i + 1]);
   n->gap = n->next_gap;
   n->force = n->next_force;
+  if (n->resets_gap)
+    n->next_gap = 63;
 }
 
 static void times_of(const char *standard, const char *nanoseconds) {

@@ -71,7 +71,7 @@ class Script:
             keys.append("contender 1")
         elif words.random() < 0.1:
             keys.append("contender 0")
-        for key, most in (("speed", 2), ("link", 1), ("force", 1), ("power", 7), ("gap", 63)):
+        for key, most in (("speed", 2), ("link", 1), ("force", 1), ("power", 7), ("gap", 63), ("gapreset", 1)):
             if words.random() < (0.04 if key == "link" else 0.15):
                 keys.append(f"{key} {words.randint(0, most)}")
         for key, low, high in (("hold", 64, 80), ("short", 3, 4), ("long", 8, 10)):

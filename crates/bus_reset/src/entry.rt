@@ -30,6 +30,9 @@ pub fn enter(s: &mut NodeState, caused: bool, out: &mut Sends)
     view.initiated = caused;
     view.gap = view.next_gap;
     view.force = view.next_force;
+    if s.resets_gap {
+        view.next_gap = 63;
+    }
     view.timed_out = false;
     view.resets = view.resets.saturating_add(1);
     s.list.clear();

@@ -67,13 +67,13 @@ world_of_nodes d nodes = world_with_times d (longest_in_range d) nodes
 
 -- a node that was just powered on, with times in their ranges
 pub record IsNodeAtPowerOn (d : ℕ) (x : NodeState) : Type 0 where
-  pub is : x ≡ power.power_on x.ports x.attrs x.view.force x.timing
+  pub is : x ≡ power.power_on_with x.resets_gap x.ports x.attrs x.view.force x.timing
   pub valid : IsValid x
   pub timing : InRange d x.timing
 
 -- a node that was just powered on, with times that suit the bus
 pub record IsPowered (d : ℕ) (longest : Timing) (x : NodeState) : Type 0 where
-  pub is : x ≡ power.power_on x.ports x.attrs x.view.force x.timing
+  pub is : x ≡ power.power_on_with x.resets_gap x.ports x.attrs x.view.force x.timing
   pub valid : IsValid x
   pub timing : Suits d longest x.timing
 

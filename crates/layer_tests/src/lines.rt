@@ -116,6 +116,8 @@ const FAULTS: &[(&[u8], Kind)] = &[
     (b"node a 3 long 41", Kind::Range),
     (b"node a 3 power 8", Kind::Range),
     (b"node a 3 link 2", Kind::Range),
+    (b"node a 3 gapreset 2", Kind::Range),
+    (b"node a 3 gapreset 1 gapreset 0", Kind::Twice),
 ];
 
 #[test]
@@ -150,6 +152,7 @@ fn node(name: Name) -> Command {
         force: false,
         power: 0,
         gap: 63,
+        gap_reset: false,
         hold: None,
         short: None,
         long: None,

@@ -1,4 +1,4 @@
-//! Two nodes become a tree, and contend.
+//! Two nodes become a tree, and contend; and gap counts that are set back.
 ghost use Rattle.phy_machine.specs.PowerOn.{IsSpec};
 
 use crate::nodes::PLAIN;
@@ -144,4 +144,30 @@ fn two_nodes(rt: HostRuntime) {
     assert!(rt; contends(FieldMachine::new(spec())));
     assert!(rt; contends(PackedMachine::new(spec())));
     assert!(rt; contends(AnyMachine::Packed(PackedMachine::new(spec()))));
+}
+
+// The gap counts that a machine shows: just powered on, after a reset behind a packet that gives one,
+// and after another reset.
+fn gaps<M: PortMachine>(machine: &mut M) -> [u8; 3] {
+    let own = machine.attrs().gap;
+    machine.set_config(0, false, Some(5));
+    machine.disturb(&mut Sends::new());
+    let given = machine.attrs().gap;
+    machine.disturb(&mut Sends::new());
+    [own, given, machine.attrs().gap]
+}
+
+#[test]
+fn gap_counts(rt: HostRuntime) {
+    let mut keeps = FieldMachine::new(spec());
+    assert!(rt; gaps(&mut keeps) == [63, 5, 5]);
+    let mut field = FieldMachine::new(spec());
+    field.reset_gaps();
+    assert!(rt; gaps(&mut field) == [63, 5, 63]);
+    let mut packed = PackedMachine::new(spec());
+    packed.reset_gaps();
+    assert!(rt; gaps(&mut packed) == [63, 5, 63]);
+    let mut any = AnyMachine::Packed(PackedMachine::new(spec()));
+    any.reset_gaps();
+    assert!(rt; gaps(&mut any) == [63, 5, 63]);
 }

@@ -1,7 +1,7 @@
 -- A node as its specification says, at power-on.
 use Rattle.std.specs.Prelude.{◌≡◌, ◌≤◌}
 use Rattle.self_id.specs.Node.{FitBits}
-use Rattle.port_state.specs.PowerOn.{power_on}
+use Rattle.port_state.specs.PowerOn.{power_on, resetting_gap}
 use Rattle.port_state.specs.Clock.{even}
 use Rattle.port_state.specs.Machine.{PortNode}
 use Rattle.phy_machine.specs.declared.spec.NodeSpec.{NodeSpec}
@@ -20,3 +20,7 @@ node_of_spec s = record {
   coins = s.coins;
   clock = even;
 }
+
+-- a node that was just powered on, made one that resets its gap count
+abbrev pub with_gap_reset : PortNode → PortNode
+with_gap_reset x = record x { state = resetting_gap x.state }

@@ -1,6 +1,7 @@
 //! A machine of either kind.
 ghost use Rattle.std.specs.Prelude.{◌≡◌, ◌≤◌};
 ghost use Rattle.port_state.specs.Clock.{every};
+ghost use Rattle.phy_machine.specs.PowerOn.{with_gap_reset};
 
 use crate::field::FieldMachine;
 use crate::packed::PackedMachine;
@@ -28,6 +29,17 @@ impl AnyMachine {
         match self {
             AnyMachine::Field(machine) => machine.slow_down(gap, first),
             AnyMachine::Packed(machine) => machine.slow_down(gap, first),
+        }
+    }
+
+    /// The node, just powered on, sets its gap count back to 63 at the second reset without a new
+    /// configuration packet.
+    pub fn reset_gaps(&mut self)
+        ensures { any_node self.new ≡ with_gap_reset (any_node self.old) }
+    {
+        match self {
+            AnyMachine::Field(machine) => machine.reset_gaps(),
+            AnyMachine::Packed(machine) => machine.reset_gaps(),
         }
     }
 }

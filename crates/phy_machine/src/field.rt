@@ -3,7 +3,7 @@ ghost use Rattle.std.specs.Prelude.{◌≡◌, ◌≤◌};
 ghost use Rattle.port_state.specs.Clock.{every};
 ghost use Rattle.port_state.specs.Valid.{IsValid};
 ghost use Rattle.port_state.proofs.Lemmas.{valid_prop};
-ghost use Rattle.phy_machine.specs.PowerOn.{IsSpec, node_of_spec};
+ghost use Rattle.phy_machine.specs.PowerOn.{IsSpec, node_of_spec, with_gap_reset};
 
 use crate::clock::TickClock;
 use crate::spec::NodeSpec;
@@ -44,6 +44,14 @@ impl FieldMachine {
         ensures { field_node self.new ≡ record (field_node self.old) { clock = every gap first } }
     {
         self.clock = TickClock::slow(gap, first);
+    }
+
+    /// The node, just powered on, sets its gap count back to 63 at the second reset without a new
+    /// configuration packet.
+    pub fn reset_gaps(&mut self)
+        ensures { field_node self.new ≡ with_gap_reset (field_node self.old) }
+    {
+        node::reset_gaps(&mut self.state);
     }
 }
 

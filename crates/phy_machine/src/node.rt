@@ -1,7 +1,7 @@
 //! The calls of a machine over the record of its node.
 ghost use Rattle.std.specs.Prelude.{◌≡◌, ◌<◌, ◌≤◌, [], IsTrue, length, replicate};
 ghost use Rattle.port_state.specs.Ports.{is_connected};
-ghost use Rattle.port_state.specs.PowerOn.{free_port, power_on};
+ghost use Rattle.port_state.specs.PowerOn.{free_port, power_on, resetting_gap};
 ghost use Rattle.port_state.specs.Entry.{disturb, plugged, pulled};
 ghost use Rattle.port_state.specs.Config.{config_packet, set_config};
 ghost use Rattle.port_state.specs.Heard.{on_signal};
@@ -238,5 +238,16 @@ pub fn power_on(ports: u8, attrs: Attrs, force: bool, timing: Timing) -> NodeSta
         attrs,
         timing,
         ports,
+        resets_gap: false,
     }
+}
+
+/// From here on the node sets its gap count back to 63 at a reset without a new configuration packet.
+pub fn reset_gaps(s: &mut NodeState)
+    requires valid { IsValid s.old }
+    ensures state { s.new ≡ resetting_gap s.old }
+    ensures valid { IsValid s.new }
+{
+    s.view.next_gap = 63;
+    s.resets_gap = true;
 }

@@ -1,7 +1,7 @@
 //! The machine of a node of kind `packed`.
 ghost use Rattle.std.specs.Prelude.{◌≡◌, ◌≤◌};
 ghost use Rattle.port_state.specs.Clock.{every};
-ghost use Rattle.phy_machine.specs.PowerOn.{IsSpec, node_of_spec};
+ghost use Rattle.phy_machine.specs.PowerOn.{IsSpec, node_of_spec, with_gap_reset};
 
 use crate::field::FieldMachine;
 use crate::spec::NodeSpec;
@@ -36,6 +36,14 @@ impl PackedMachine {
         ensures { packed_node self.new ≡ record (packed_node self.old) { clock = every gap first } }
     {
         self.machine.slow_down(gap, first);
+    }
+
+    /// The node, just powered on, sets its gap count back to 63 at the second reset without a new
+    /// configuration packet.
+    pub fn reset_gaps(&mut self)
+        ensures { packed_node self.new ≡ with_gap_reset (packed_node self.old) }
+    {
+        self.machine.reset_gaps();
     }
 }
 

@@ -73,31 +73,37 @@ pub tick-cables : TickKeepsCables
 tick-cables coin x k = cables-kept (tick_names (next_row x)) x (tick coin x).state (row-leaves (next_row x)) (tick-keeps coin x) k
 
 heard-leaves :
-    (n : ℕ) (s : Signal) (ph : Phase) → list_all leaves_cables (heard_names n s ph) ≡ true
-heard-leaves n signal.Reset ph = go (is_resetting ph)
+    (g : Bool) (n : ℕ) (s : Signal) (ph : Phase) →
+    list_all leaves_cables (heard_names g n s ph) ≡ true
+heard-leaves g n signal.Reset ph = go g (is_resetting ph)
   where
     go :
-        (b : Bool) →
-        list_all leaves_cables (if b then name.level n ∷ [] else reset_names ++ name.level n ∷ [])
+        (g b : Bool) →
+        list_all leaves_cables (if b then name.level n ∷ [] else reset_names g ++ name.level n ∷ [])
         ≡ true
-    go true = refl
-    go false = refl
-heard-leaves n signal.Grant ph = refl
-heard-leaves n (signal.Packet quad) ph = refl
-heard-leaves n signal.Done ph = refl
-heard-leaves n s ph = refl
+    go g true = refl
+    go true false = refl
+    go false false = refl
+heard-leaves g n signal.Grant ph = refl
+heard-leaves g n (signal.Packet quad) ph = refl
+heard-leaves g n signal.Done ph = refl
+heard-leaves g n s ph = refl
 
 signal-leaves :
-    (b : Bool) (n : ℕ) (s : Signal) (ph : Phase) →
-    list_all leaves_cables (if b then heard_names n s ph else []) ≡ true
-signal-leaves true n s ph = heard-leaves n s ph
-signal-leaves false n s ph = refl
+    (b g : Bool) (n : ℕ) (s : Signal) (ph : Phase) →
+    list_all leaves_cables (if b then heard_names g n s ph else []) ≡ true
+signal-leaves true g n s ph = heard-leaves g n s ph
+signal-leaves false g n s ph = refl
+
+reset-leaves : (g : Bool) → list_all leaves_cables (reset_names g) ≡ true
+reset-leaves true = refl
+reset-leaves false = refl
 
 pub signal-cables : SignalKeepsCables
-signal-cables n s x k = cables-kept (signal_names n s x) x (on_signal n s x).state (signal-leaves (is_heard n s x) n s x.view.phase) (signal-keeps n s x) k
+signal-cables n s x k = cables-kept (signal_names n s x) x (on_signal n s x).state (signal-leaves (is_heard n s x) x.resets_gap n s x.view.phase) (signal-keeps n s x) k
 
 pub enter-cables : EntryKeepsCables
-enter-cables caused x k = cables-kept reset_names x (enter caused x).state refl (enter-keeps caused x) k
+enter-cables caused x k = cables-kept (reset_names x.resets_gap) x (enter caused x).state (reset-leaves x.resets_gap) (enter-keeps caused x) k
 
 -- ---- plugging and pulling
 

@@ -1,6 +1,6 @@
 -- What crates above use: each step of a valid record is sound, what steps leave as it was, and each
 -- step told port by port.
-pub use Rattle.port_state.proofs.Sound.{valid-raise_timer, sound-tick, sound-on_signal, sound-enter, sound-disturb, sound-plugged, sound-pulled, valid-set_config, valid-power_on}
+pub use Rattle.port_state.proofs.Sound.{valid-raise_timer, sound-tick, sound-on_signal, sound-enter, sound-disturb, sound-plugged, sound-pulled, valid-set_config, valid-power_on_with, valid-power_on, valid-resetting_gap}
 pub use Rattle.port_state.proofs.Stays.{tick-keeps, signal-keeps, enter-keeps, plugged-keeps, pulled-keeps, config-keeps}
 pub use Rattle.port_state.proofs.Cables.{tick-cables, signal-cables, enter-cables, plugged-cables, pulled-cables}
 pub use Rattle.port_state.proofs.Pointwise.{on_every-port, on_others-port, notices-port, packets-port, map-port, changed-port, sent_on-append}

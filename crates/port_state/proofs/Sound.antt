@@ -12,12 +12,15 @@ use Rattle.port_state.specs.declared.signal.Signal.{Signal}
 use Rattle.port_state.specs.declared.signal.Signal.TheVariants as signal
 use Rattle.port_state.specs.declared.ports.PortView.{PortView}
 use Rattle.port_state.specs.declared.states.NodeState.{NodeState}
+use Rattle.port_state.specs.declared.timing.Timing.{Timing}
+use Rattle.self_id.specs.declared.node.Attrs.{Attrs}
+use Rattle.self_id.specs.Node.{FitBits}
 use Rattle.port_state.specs.Ports.{is_idle, is_parent, is_child, asks, is_remaining, is_unnamed, lowest, every, port_is, change_port}
 use Rattle.port_state.specs.Sends.{packets_on_every, on_port}
 use Rattle.port_state.specs.Step.{Step, silent_step}
-use Rattle.port_state.specs.PowerOn.{free_port}
+use Rattle.port_state.specs.PowerOn.{free_port, power_on, resetting_gap}
 use Rattle.port_state.specs.Entry.{without_marks, enter, with_port}
-use Rattle.port_state.specs.Config.{set_config, gap_or}
+use Rattle.port_state.specs.Config.{set_config, gap_or, gap_after}
 use Rattle.port_state.specs.Heard as heard
 use Rattle.port_state.specs.Heard.{with_level, with_packet, hears, on_signal}
 use Rattle.port_state.specs.Resetting as reset
@@ -109,11 +112,16 @@ fits-at x ph v e = subst (λ q. FitsPhase q x.view.parent x.view.ports) e v.fits
 
 -- ---- entry
 
+-- the gap count of the reset after next has 6 bits
+next-small : (resets_gap : Bool) {next : ℕ} → next ≤ 63 → gap_after resets_gap next ≤ 63
+next-small true h = omega arith
+next-small false h = h
+
 pub sound-enter : EntriesAreSound
 unfolding enter
 sound-enter caused x b = record {
   valid = record {
-    bounded = bounded-by x (enter caused x).state b refl refl (length-map x.view.ports without_marks) b.next_gap b.next_gap (λ p e. absurd cc) (λ i e. absurd cc) (omega arith);
+    bounded = bounded-by x (enter caused x).state b refl refl (length-map x.view.ports without_marks) b.next_gap (next-small x.resets_gap b.next_gap) (λ p e. absurd cc) (λ i e. absurd cc) (omega arith);
     fits = (cleared x.view.ports, refl);
   };
   ports = refl;
@@ -154,8 +162,8 @@ valid-set_config packet x h v = record {
     small None h = v.bounded.next_gap
     small (Some g) h = h g refl
 
-pub valid-power_on : PowerOnIsValid
-valid-power_on ports attrs force timing some few fit none = record {
+pub valid-power_on_with : PowerOnIsValid
+valid-power_on_with resets_gap ports attrs force timing some few fit none = record {
   bounded = record {
     some_port = some;
     few_ports = few;
@@ -163,7 +171,7 @@ valid-power_on ports attrs force timing some few fit none = record {
     attrs = fit;
     no_delay = none;
     gap = let h : attrs.gap < 64 = fit.gap in omega arith;
-    next_gap = let h : attrs.gap < 64 = fit.gap in omega arith;
+    next_gap = let h : attrs.gap < 64 = fit.gap in next-small resets_gap (omega arith);
     parent = λ p e. absurd cc;
     id = λ i e. absurd cc;
     list = omega arith;
@@ -175,6 +183,19 @@ valid-power_on ports attrs force timing some few fit none = record {
     no_child zero k p at = absurd cc
     no_child (suc n) zero p at = let same : free_port ≡ p = cc in subst (λ r. r.child ≡ false) same refl
     no_child (suc n) (suc k) p at = no_child n k p at
+
+pub valid-power_on :
+    (ports : ℕ) (attrs : Attrs) (force : Bool) (timing : Timing) → 1 ≤ ports → ports ≤ 16 →
+    FitBits attrs → attrs.delay ≡ 0 → IsValid (power_on ports attrs force timing)
+valid-power_on ports attrs force timing some few fit none =
+    valid-power_on_with false ports attrs force timing some few fit none
+
+-- a node that was just powered on may be made one that resets its gap count
+pub valid-resetting_gap : (x : NodeState) → IsValid x → IsValid (resetting_gap x)
+valid-resetting_gap x v = record {
+  bounded = bounded-by x (resetting_gap x) v.bounded refl refl refl v.bounded.gap (omega arith) v.bounded.parent v.bounded.id v.bounded.list;
+  fits = v.fits;
+}
 
 -- ---- signals
 

@@ -1,5 +1,5 @@
 -- What each call leaves as it was: all but what it names.
-use Rattle.std.proofs.Common.{◌≡◌, ℕ, zero, suc, Bool, true, false, List, [], ◌∷◌, ◌++◌, map, Option, Some, None, slice_get, slice_set, refl, ◌∙◌, ap, if◌then◌else◌}
+use Rattle.std.proofs.Common.{◌≡◌, ℕ, zero, suc, Bool, true, false, List, [], ◌∷◌, ◌++◌, map, Option, Some, None, slice_get, slice_set, refl, sym, ◌∙◌, ap, if◌then◌else◌}
 use Rattle.std.proofs.lemmas.Option.{slice_get-map}
 use Rattle.port_state.specs.declared.signal.Level.{Level}
 use Rattle.port_state.specs.declared.signal.Level.TheVariants as level
@@ -9,7 +9,7 @@ use Rattle.port_state.specs.declared.ports.PortView.{PortView}
 use Rattle.port_state.specs.declared.states.NodeState.{NodeState}
 use Rattle.port_state.specs.Ports.{asks, change_port, change_port_at}
 use Rattle.port_state.specs.Step.{silent_step}
-use Rattle.port_state.specs.Entry.{without_marks, enter}
+use Rattle.port_state.specs.Entry.{without_marks, view_at_entry, enter, with_port}
 use Rattle.port_state.specs.Config.{config_packet, set_config}
 use Rattle.port_state.specs.Heard.{is_resetting, is_heard, with_level, hears, on_signal}
 use Rattle.port_state.specs.Row as row
@@ -17,7 +17,7 @@ use Rattle.port_state.specs.Row.{Row}
 use Rattle.port_state.specs.TreeIdentify.{adopt}
 use Rattle.port_state.specs.Tick.{raise_timer, does, next_row, tick}
 use Rattle.port_state.specs.Names as name
-use Rattle.port_state.specs.Names.{without_child, KeepsBut, reset_names, plug_names, heard_names, signal_names, tick_names, config_names}
+use Rattle.port_state.specs.Names.{Part, without, without_child, KeepsBut, reset_names, plug_names, heard_names, signal_names, tick_names, config_names}
 use Rattle.port_state.specs.Stays.{TickLeavesTheRest, SignalLeavesTheRest, EntryLeavesTheRest, PlugLeavesTheRest, PullLeavesTheRest, ConfigLeavesTheRest}
 
 -- ---- ports
@@ -116,17 +116,40 @@ reset-marks n f g h k ports =
     ap (change_port n g) (map-over without_marks without_marks (λ p. refl) (change_port n f ports) ∙ map-changed n without_marks f h ports)
     ∙ changed-over n f g k (map without_marks ports)
 
+-- the node behind an entry, whether it resets its gap count or not
+abbrev entered : Bool → Bool → NodeState → NodeState
+entered caused b x =
+    record x { view = view_at_entry caused b x.view; list = record { items = [] } }
+
 pub enter-keeps : EntryLeavesTheRest
 unfolding enter
-enter-keeps caused x = rw (map-over without_marks without_marks (λ p. refl) x.view.ports) refl
+enter-keeps caused x = go x.resets_gap
+  where
+    go : (b : Bool) → KeepsBut (reset_names b) x (entered caused b x)
+    go true = rw (map-over without_marks without_marks (λ p. refl) x.view.ports) refl
+    go false = rw (map-over without_marks without_marks (λ p. refl) x.view.ports) refl
+
+-- an entry behind a change of one port, where another change covers it
+entered-keeps :
+    (caused b : Bool) (n : ℕ) (f g : PortView → PortView) (part : Part) →
+    ((x : NodeState) → without part x ≡ with_port n g x) →
+    ((p : PortView) → without_marks (f p) ≡ f (without_marks p)) →
+    ((p : PortView) → g (f p) ≡ g p) → (x : NodeState) →
+    KeepsBut (reset_names b ++ part ∷ []) x (entered caused b (with_port n f x))
+entered-keeps caused true n f g part is h k x = is _ ∙ rw (reset-marks n f g h k x.view.ports) refl ∙ sym (is _)
+entered-keeps caused false n f g part is h k x = is _ ∙ rw (reset-marks n f g h k x.view.ports) refl ∙ sym (is _)
 
 pub plugged-keeps : PlugLeavesTheRest
 unfolding enter
-plugged-keeps n x = rw (reset-marks n (λ p. record p { connected = true; shown = level.Reset }) (λ p. record p { connected = false; shown = level.Idle }) (λ p. refl) (λ p. refl) x.view.ports) refl
+plugged-keeps n x =
+    entered-keeps true x.resets_gap n (λ p. record p { connected = true; shown = level.Reset })
+    (λ p. record p { connected = false; shown = level.Idle }) (name.line n) (λ y. refl) (λ p. refl) (λ p. refl) x
 
 pub pulled-keeps : PullLeavesTheRest
 unfolding enter
-pulled-keeps n x = rw (reset-marks n (λ p. record p { connected = false; shown = level.Idle }) (λ p. record p { connected = false; shown = level.Idle }) (λ p. refl) (λ p. refl) x.view.ports) refl
+pulled-keeps n x =
+    entered-keeps true x.resets_gap n (λ p. record p { connected = false; shown = level.Idle })
+    (λ p. record p { connected = false; shown = level.Idle }) (name.line n) (λ y. refl) (λ p. refl) (λ p. refl) x
 
 -- ---- signals
 
@@ -136,14 +159,16 @@ level-keeps n l x = rw (changed-over n (λ p. record p { shown = l }) (λ p. rec
 
 reset-keeps :
     (b : Bool) (n : ℕ) (x : NodeState) →
-    KeepsBut (if b then name.level n ∷ [] else reset_names ++ name.level n ∷ []) x (if b then silent_step (with_level n level.Reset x) else enter false (with_level n level.Reset x)).state
+    KeepsBut (if b then name.level n ∷ [] else reset_names x.resets_gap ++ name.level n ∷ []) x (if b then silent_step (with_level n level.Reset x) else enter false (with_level n level.Reset x)).state
 unfolding enter
 reset-keeps true n x = level-keeps n level.Reset x
-reset-keeps false n x = rw (reset-marks n (λ p. record p { shown = level.Reset }) (λ p. record p { shown = level.Idle }) (λ p. refl) (λ p. refl) x.view.ports) refl
+reset-keeps false n x =
+    entered-keeps false x.resets_gap n (λ p. record p { shown = level.Reset })
+    (λ p. record p { shown = level.Idle }) (name.level n) (λ y. refl) (λ p. refl) (λ p. refl) x
 
 hears-keeps :
     (n : ℕ) (s : Signal) (x : NodeState) →
-    KeepsBut (heard_names n s x.view.phase) x (hears n s x).state
+    KeepsBut (heard_names x.resets_gap n s x.view.phase) x (hears n s x).state
 hears-keeps n signal.Reset x = reset-keeps (is_resetting x.view.phase) n x
 hears-keeps n signal.Idle x = level-keeps n level.Idle x
 hears-keeps n signal.Parent x = level-keeps n level.Parent x
@@ -154,7 +179,7 @@ hears-keeps n signal.Done x = rw (changed-over n (λ p. record p { named = true 
 
 heard-keeps :
     (b : Bool) (n : ℕ) (s : Signal) (x : NodeState) →
-    KeepsBut (if b then heard_names n s x.view.phase else []) x (if b then hears n s x else silent_step x).state
+    KeepsBut (if b then heard_names x.resets_gap n s x.view.phase else []) x (if b then hears n s x else silent_step x).state
 heard-keeps true n s x = hears-keeps n s x
 heard-keeps false n s x = refl
 

@@ -14,7 +14,7 @@ use Rattle.port_state.specs.declared.states.NodeState.{NodeState}
 use Rattle.port_state.specs.Timing.{usual_timing}
 use Rattle.port_state.specs.Step.{Step}
 use Rattle.port_state.specs.Coins.{coin_at, coins_of_bits, coins_of_seed}
-use Rattle.port_state.specs.PowerOn.{power_on}
+use Rattle.port_state.specs.PowerOn.{power_on, power_on_with}
 use Rattle.port_state.specs.Entry.{enter, plugged, pulled}
 use Rattle.port_state.specs.Config.{config_packet, set_config}
 use Rattle.port_state.specs.Heard.{on_signal}
@@ -53,6 +53,34 @@ plugged-sends = refl
 plugged-ports : (plugged 0 (fresh false)).state.view.ports ≡ port level.Reset false false false
 unfolding enter
 plugged-ports = refl
+
+-- a reset with a packet before it that gives this gap count
+abbrev given : ℕ → NodeState → NodeState
+given gap x = (enter true (set_config (config_packet 0 false (Some gap)) x)).state
+
+-- a reset without a packet
+abbrev again : NodeState → NodeState
+again x = (enter true x).state
+
+-- a gap count stays until another packet gives one
+gap-stays : (again (again (given 5 (fresh false)))).view.gap ≡ 5
+unfolding enter
+gap-stays = refl
+
+-- a node that resets its gap count has 63 at the second reset without a packet
+abbrev resetting : NodeState
+resetting = power_on_with true 1 (record attrs { gap = 7 }) false (usual_timing 4)
+
+gap-resets :
+    ((given 5 resetting).view.gap ≡ 5) × ((again (given 5 resetting)).view.gap ≡ 63)
+    × ((given 6 (given 5 resetting)).view.gap ≡ 6)
+unfolding enter
+gap-resets = (refl, refl, refl)
+
+-- its power-on is the first of two
+own-gap-resets : (resetting.view.gap ≡ 7) × ((again resetting).view.gap ≡ 63)
+unfolding enter
+own-gap-resets = (refl, refl)
 
 plugged-resets : (plugged 0 (fresh false)).state.view.resets ≡ 2
 unfolding enter

@@ -24,6 +24,11 @@ abbrev pub gap_or : Option ℕ → ℕ → ℕ
 gap_or None old = old
 gap_or (Some gap) old = gap
 
+-- the gap count of the reset after next, if no packet sets it by then: a node that resets its gap count
+-- has 63 there, and any other what it has at the next
+abbrev pub gap_after : Bool → ℕ → ℕ
+gap_after resets_gap next = if resets_gap then 63 else next
+
 -- with R set the node is to be root from the next reset on if it has this ID, and else not; with T
 -- set it has this gap count from the next reset on
 abbrev pub set_config : ConfigPacket → NodeState → NodeState

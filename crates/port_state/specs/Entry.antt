@@ -6,6 +6,7 @@ use Rattle.port_state.specs.declared.signal.Signal.TheVariants as signal
 use Rattle.port_state.specs.declared.ports.PortView.{PortView}
 use Rattle.port_state.specs.declared.view.View.{View}
 use Rattle.port_state.specs.declared.states.NodeState.{NodeState}
+use Rattle.port_state.specs.Config.{gap_after}
 use Rattle.port_state.specs.Ports.{PortNumber, change_port}
 use Rattle.port_state.specs.Sends.{on_every}
 use Rattle.port_state.specs.Step.{Step}
@@ -14,9 +15,10 @@ use Rattle.port_state.specs.Step.{Step}
 abbrev pub without_marks : PortView → PortView
 without_marks p = record p { child = false; asked = false; named = false }
 
--- what the node forgets, and what it takes over for the next tree
-abbrev pub view_at_entry : Bool → View → View
-view_at_entry caused v = record v {
+-- what the node forgets, and what it takes over for the next tree; with `resets_gap` its gap count is 63
+-- from the reset after this one on, unless a packet sets it by then
+abbrev pub view_at_entry : Bool → Bool → View → View
+view_at_entry caused resets_gap v = record v {
   phase = ResetStart;
   timer = 0;
   wait = 0;
@@ -29,6 +31,7 @@ view_at_entry caused v = record v {
   initiated = caused;
   gap = v.next_gap;
   force = v.next_force;
+  next_gap = gap_after resets_gap v.next_gap;
   timed_out = false;
   resets = min (v.resets + 1) 4294967295;
 }
@@ -36,7 +39,10 @@ view_at_entry caused v = record v {
 -- the entry, with the cause: whether this node began the reset
 unfoldable pub enter : Bool → NodeState → Step
 enter caused x = record {
-  state = record x { view = view_at_entry caused x.view; list = record { items = [] } };
+  state = record x {
+    view = view_at_entry caused x.resets_gap x.view;
+    list = record { items = [] };
+  };
   sends = on_every signal.Reset x.view.ports;
 }
 

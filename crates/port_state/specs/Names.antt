@@ -86,28 +86,30 @@ KeepsBut parts was is = without_all parts is ≡ without_all parts was
 
 -- ---- what is named
 
--- a reset: cables and levels stay, and what a configuration packet said
-abbrev pub reset_names : List Part
-reset_names =
+-- a reset: cables and levels stay, and what a configuration packet said, but for the gap count of a node
+-- that resets it
+abbrev pub reset_names : Bool → List Part
+reset_names resets_gap =
     phase ∷ timer ∷ wait ∷ marks ∷ parent ∷ granted ∷ id ∷ list ∷ draws ∷ first_draws
-    ∷ timed_out ∷ initiated ∷ gap ∷ force ∷ resets ∷ []
+    ∷ timed_out ∷ initiated ∷ gap ∷ force ∷ resets ∷ (if resets_gap then next_gap ∷ [] else [])
 
 -- plugging and pulling
-abbrev pub plug_names : PortNumber → List Part
-plug_names port = reset_names ++ line port ∷ []
+abbrev pub plug_names : Bool → PortNumber → List Part
+plug_names resets_gap port = reset_names resets_gap ++ line port ∷ []
 
 -- a signal that counts: a level, and outside R0 a reset with Reset; a grant, a packet, Done
-abbrev pub heard_names : PortNumber → Signal → Phase → List Part
-heard_names port signal.Reset ph =
-    if is_resetting ph then level port ∷ [] else reset_names ++ level port ∷ []
-heard_names port signal.Grant ph = granted ∷ []
-heard_names port (signal.Packet quad) ph = list ∷ []
-heard_names port signal.Done ph = named port ∷ []
-heard_names port s ph = level port ∷ []
+abbrev pub heard_names : Bool → PortNumber → Signal → Phase → List Part
+heard_names resets_gap port signal.Reset ph =
+    if is_resetting ph then level port ∷ [] else reset_names resets_gap ++ level port ∷ []
+heard_names resets_gap port signal.Grant ph = granted ∷ []
+heard_names resets_gap port (signal.Packet quad) ph = list ∷ []
+heard_names resets_gap port signal.Done ph = named port ∷ []
+heard_names resets_gap port s ph = level port ∷ []
 
 -- a signal that doesn't count names nothing
 abbrev pub signal_names : PortNumber → Signal → NodeState → List Part
-signal_names port s x = if is_heard port s x then heard_names port s x.view.phase else []
+signal_names port s x =
+    if is_heard port s x then heard_names x.resets_gap port s x.view.phase else []
 
 -- a row of a tick, beside the timer that rises
 abbrev pub row_names : Row → List Part

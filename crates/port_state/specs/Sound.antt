@@ -11,7 +11,7 @@ use Rattle.port_state.specs.Config.{ConfigPacket, HasSixBits, set_config}
 use Rattle.port_state.specs.Entry.{enter, disturb, plugged, pulled}
 use Rattle.port_state.specs.Heard.{on_signal}
 use Rattle.port_state.specs.Ports.{PortNumber, is_connected}
-use Rattle.port_state.specs.PowerOn.{power_on}
+use Rattle.port_state.specs.PowerOn.{power_on_with}
 use Rattle.port_state.specs.Limits.{sends_limit}
 use Rattle.port_state.specs.Sends.{PortSignal}
 use Rattle.port_state.specs.Step.{Step}
@@ -63,6 +63,6 @@ ConfigsKeepValid =
 
 abbrev pub PowerOnIsValid : Type 0
 PowerOnIsValid =
-    (ports : ℕ) (attrs : Attrs) (force : Bool) (timing : Timing) →
+    (resets_gap : Bool) (ports : ℕ) (attrs : Attrs) (force : Bool) (timing : Timing) →
     1 ≤ ports → ports ≤ 16 → FitBits attrs → attrs.delay ≡ 0 →
-    IsValid (power_on ports attrs force timing)
+    IsValid (power_on_with resets_gap ports attrs force timing)

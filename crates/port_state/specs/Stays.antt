@@ -19,15 +19,18 @@ SignalLeavesTheRest =
     KeepsBut (signal_names port s x) x (on_signal port s x).state
 
 abbrev pub EntryLeavesTheRest : Type 0
-EntryLeavesTheRest = (caused : Bool) (x : NodeState) → KeepsBut reset_names x (enter caused x).state
+EntryLeavesTheRest =
+    (caused : Bool) (x : NodeState) → KeepsBut (reset_names x.resets_gap) x (enter caused x).state
 
 abbrev pub PlugLeavesTheRest : Type 0
 PlugLeavesTheRest =
-    (port : PortNumber) (x : NodeState) → KeepsBut (plug_names port) x (plugged port x).state
+    (port : PortNumber) (x : NodeState) →
+    KeepsBut (plug_names x.resets_gap port) x (plugged port x).state
 
 abbrev pub PullLeavesTheRest : Type 0
 PullLeavesTheRest =
-    (port : PortNumber) (x : NodeState) → KeepsBut (plug_names port) x (pulled port x).state
+    (port : PortNumber) (x : NodeState) →
+    KeepsBut (plug_names x.resets_gap port) x (pulled port x).state
 
 abbrev pub ConfigLeavesTheRest : Type 0
 ConfigLeavesTheRest =

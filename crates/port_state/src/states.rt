@@ -24,4 +24,7 @@ pub struct NodeState {
     pub timing: Timing,
     /// The number of ports, 1 to 16.
     pub ports: u8,
+    /// Whether the node sets its gap count back to 63 at the second reset without a new configuration
+    /// packet.
+    pub resets_gap: bool,
 }

@@ -256,7 +256,7 @@ record PassesTo (w : CableWorld) (names : Names) (stage : Stage) : Type 0 where
   same : (bus_of stage).notes.names ≡ names
 
 not-declared : (c : Command) → LeavesAlone c → Declares c → ⊥
-not-declared (command.Node name ports speed link contender force power gap hold short long word len seed packed) h d = h
+not-declared (command.Node name ports speed link contender force power gap gap_reset hold short long word len seed packed) h d = h
 not-declared (command.Delay delay) h d = h
 not-declared (command.Times standard nanoseconds) h d = h
 not-declared c h d = d

@@ -221,7 +221,7 @@ module _ (stay : TreesStay) (names-one : IdsNameOneNode) (bus : Bus) where
       known (Ok (after_access manager asks blind, text (answer_of (values_at manager blind) asks))) (record { report = refl; names = refl; trees = no-turn bus.world })
 
   keeps : (c : Command) → KeepsReport c → AllKeep (Does bus c)
-  keeps (Node name ports speed link contender force power gap holding short long word len seed packed) h = known (Err Kind.Late) tt
+  keeps (Node name ports speed link contender force power gap gap_reset holding short long word len seed packed) h = known (Err Kind.Late) tt
   keeps (Delay delay) h = known (Err Kind.Late) tt
   keeps (Times standard nanoseconds) h = known (Err Kind.Late) tt
   keeps (Plug a a_port b b_port) h = absurd h
@@ -263,7 +263,7 @@ by-answer bus c next t (Err kind) does same = absurd cc
 
 led : (bus : Bus) (c : Command) (next : Stage) (t : List ℕ) →
     DoesAtStage (running bus) c (Ok (next, t)) → Led bus c next t
-led bus (Node name ports speed link contender force power gap holding short long word len seed packed) next t f = absurd cc
+led bus (Node name ports speed link contender force power gap gap_reset holding short long word len seed packed) next t f = absurd cc
 led bus (Delay delay) next t f = absurd cc
 led bus (Times standard nanoseconds) next t f = absurd cc
 led bus c next t f = by-answer bus c next t f.0 f.1 f.2

@@ -96,7 +96,7 @@ joined (turns ∷ a) b w u v first next =
 -- a command of a bus that runs declares nothing
 late : (bus : Bus) (c : Command) (next : Stage) (text : List ℕ) → Declares c →
     DoesAtStage (running bus) c (Ok (next, text)) → ⊥
-late bus (command.Node name ports speed link contender force power gap hold short long word len seed packed) next text d f = absurd cc
+late bus (command.Node name ports speed link contender force power gap gap_reset hold short long word len seed packed) next text d f = absurd cc
 late bus (command.Delay delay) next text d f = absurd cc
 late bus (command.Times standard nanoseconds) next text d f = absurd cc
 late bus c next text d f = d
@@ -213,7 +213,7 @@ not-some-times draft false r bus text e = absurd cc
 not-running :
     (stage : Stage) (c : Command) (bus : Bus) (text : List ℕ) → Declares c →
     DoesAtStage stage c (Ok (running bus, text)) → ⊥
-not-running stage (command.Node name ports speed link contender force power gap hold short long word len seed packed) bus text d f =
+not-running stage (command.Node name ports speed link contender force power gap gap_reset hold short long word len seed packed) bus text d f =
     not-declared (draft_of stage) name _ bus text f
 not-running stage (command.Delay delay) bus text d f = not-delayed stage delay bus text f
 not-running stage (command.Times standard nanoseconds) bus text d f = go (draft_of stage) f
@@ -232,7 +232,7 @@ declared-on stage (declaring draft) c text d h f = just-on (declaring draft) (dr
 declared-on stage (running bus) c text d h f = absurd (not-running stage c bus text d f)
 
 declares-or-not : (c : Command) → Declares c ⊎ (Declares c → ⊥)
-declares-or-not (command.Node name ports speed link contender force power gap hold short long word len seed packed) = inl tt
+declares-or-not (command.Node name ports speed link contender force power gap gap_reset hold short long word len seed packed) = inl tt
 declares-or-not (command.Delay delay) = inl tt
 declares-or-not (command.Times standard nanoseconds) = inl tt
 declares-or-not c = inr (λ h. h)

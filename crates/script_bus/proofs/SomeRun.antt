@@ -43,13 +43,13 @@ declare draft name node h on = go (nat_lt 62 (length draft.names)) (is_declared 
     go false false e = record { answer = Ok (declaring (with_node draft name new), []); is = refl; sound = drafted draft name new e h on }
 
 declare-node :
-    (draft : Draft) → IsSoundDraft draft → (name : List ℕ) (ports speed : ℕ) (link contender force : Bool) (power gap : ℕ)
+    (draft : Draft) → IsSoundDraft draft → (name : List ℕ) (ports speed : ℕ) (link contender force : Bool) (power gap : ℕ) (gap_reset : Bool)
     (held short long : Option ℕ) (word len : ℕ) (seed : Option ℕ) → IsNodeInRange draft.times.ranges ports speed power gap held short long len →
     Step (Declares (Some draft) name (λ ranges number.
-    new_node (attrs_said speed link contender power gap) ports force (times_of ranges held short long) (coins_of number word len seed)))
-declare-node draft h name ports speed link contender force power gap held short long word len seed i =
-    declare draft name (λ ranges number. new_node (attrs_said speed link contender power gap) ports force (times_of ranges held short long) (coins_of number word len seed)) h
-    (node-at-power-on draft ports speed link contender force power gap held short long word len seed h.fitting i)
+    new_node (attrs_said speed link contender power gap) ports force gap_reset (times_of ranges held short long) (coins_of number word len seed)))
+declare-node draft h name ports speed link contender force power gap gap_reset held short long word len seed i =
+    declare draft name (λ ranges number. new_node (attrs_said speed link contender power gap) ports force gap_reset (times_of ranges held short long) (coins_of number word len seed)) h
+    (node-at-power-on draft ports speed link contender force power gap gap_reset held short long word len seed h.fitting i)
 
 delays : (stage : Stage) (delay : ℕ) → IsBetween 1 16 delay → Step (Delays stage delay)
 delays fresh delay i = record { answer = Ok (declaring (draft_with delay), []); is = refl; sound = no-nodes delay i.0 i.1 }
@@ -87,11 +87,11 @@ module _ (keeps : ActKeepsNodes) (commands : CommandsHaveAnswers) (plans : Plans
 
   follow : (stage : Stage) (command : Command) → IsSound stage →
       IsInRange (ranges_of stage) command → Step (DoesAtStage stage command)
-  follow fresh (Node name ports speed link contender force power gap held short long word len seed packed) h i =
-      declare-node first_draft (no-nodes 4 (omega arith) (omega arith)) name ports speed link contender force power gap held short long word len seed i
-  follow (declaring draft) (Node name ports speed link contender force power gap held short long word len seed packed) h i =
-      declare-node draft h name ports speed link contender force power gap held short long word len seed i
-  follow (running bus) (Node name ports speed link contender force power gap held short long word len seed packed) h i =
+  follow fresh (Node name ports speed link contender force power gap gap_reset held short long word len seed packed) h i =
+      declare-node first_draft (no-nodes 4 (omega arith) (omega arith)) name ports speed link contender force power gap gap_reset held short long word len seed i
+  follow (declaring draft) (Node name ports speed link contender force power gap gap_reset held short long word len seed packed) h i =
+      declare-node draft h name ports speed link contender force power gap gap_reset held short long word len seed i
+  follow (running bus) (Node name ports speed link contender force power gap gap_reset held short long word len seed packed) h i =
       record { answer = Err Kind.Late; is = refl; sound = tt }
   follow stage (Delay delay) h i = delays stage delay i
   follow fresh (Times standard nanoseconds) h i = say first_draft standard nanoseconds i.0 (no-nodes 4 (omega arith) (omega arith))

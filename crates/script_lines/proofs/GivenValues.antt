@@ -11,7 +11,7 @@ use Rattle.port_state.specs.declared.ranges.TimeRanges.{TimeRanges}
 use Rattle.script_lines.specs.declared.kind.Kind as faults
 use Rattle.script_lines.specs.declared.kind.Kind.TheVariants.{Number, Twice, Range}
 use Rattle.script_lines.specs.declared.key.Key.{Key}
-use Rattle.script_lines.specs.declared.key.Key.TheVariants.{Speed, Link, Contender, Force, Power, Gap, Hold, Short, Long, Coins, Seed, Kind}
+use Rattle.script_lines.specs.declared.key.Key.TheVariants.{Speed, Link, Contender, Force, Power, Gap, GapReset, Hold, Short, Long, Coins, Seed, Kind}
 use Rattle.line_words.specs.Digits.{of_digits}
 use Rattle.line_words.proofs.Lemmas.{small_digits}
 use Rattle.script_lines.specs.Number.{number_of}
@@ -30,6 +30,7 @@ key_of-word_of Contender = refl
 key_of-word_of Force = refl
 key_of-word_of Power = refl
 key_of-word_of Gap = refl
+key_of-word_of GapReset = refl
 key_of-word_of Hold = refl
 key_of-word_of Short = refl
 key_of-word_of Long = refl

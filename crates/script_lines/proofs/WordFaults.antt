@@ -12,7 +12,7 @@ use Rattle.port_state.specs.declared.ranges.TimeRanges.{TimeRanges}
 use Rattle.script_lines.specs.declared.kind.Kind as faults
 use Rattle.script_lines.specs.declared.kind.Kind.TheVariants.{Number, Name, Range, Twice}
 use Rattle.script_lines.specs.declared.key.Key.{Key}
-use Rattle.script_lines.specs.declared.key.Key.TheVariants.{Speed, Link, Contender, Force, Power, Gap, Hold, Short, Long, Coins, Seed, Kind}
+use Rattle.script_lines.specs.declared.key.Key.TheVariants.{Speed, Link, Contender, Force, Power, Gap, GapReset, Hold, Short, Long, Coins, Seed, Kind}
 use Rattle.script_lines.specs.Name.{is_name}
 use Rattle.script_lines.specs.Number.{number_of}
 use Rattle.script_lines.specs.Coins.{are_coins}
@@ -170,6 +170,7 @@ value_found times Contender value kind = number_found (limits times Contender).0
 value_found times Force value kind = number_found (limits times Force).0 (limits times Force).1 (number_of value) kind
 value_found times Power value kind = number_found (limits times Power).0 (limits times Power).1 (number_of value) kind
 value_found times Gap value kind = number_found (limits times Gap).0 (limits times Gap).1 (number_of value) kind
+value_found times GapReset value kind = number_found (limits times GapReset).0 (limits times GapReset).1 (number_of value) kind
 value_found times Hold value kind = number_found (limits times Hold).0 (limits times Hold).1 (number_of value) kind
 value_found times Short value kind = number_found (limits times Short).0 (limits times Short).1 (number_of value) kind
 value_found times Long value kind = number_found (limits times Long).0 (limits times Long).1 (number_of value) kind

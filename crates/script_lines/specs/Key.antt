@@ -5,7 +5,7 @@ use Rattle.port_state.specs.declared.ranges.TimeRanges.{TimeRanges}
 use Rattle.script_lines.specs.declared.kind.Kind as faults
 use Rattle.script_lines.specs.declared.kind.Kind.TheVariants.{Number}
 use Rattle.script_lines.specs.declared.key.Key.{Key}
-use Rattle.script_lines.specs.declared.key.Key.TheVariants.{Speed, Link, Contender, Force, Power, Gap, Hold, Short, Long, Coins, Seed, Kind}
+use Rattle.script_lines.specs.declared.key.Key.TheVariants.{Speed, Link, Contender, Force, Power, Gap, GapReset, Hold, Short, Long, Coins, Seed, Kind}
 use Rattle.script_lines.specs.Shape.{wrong_number}
 use Rattle.script_lines.specs.Coins.{are_coins}
 
@@ -16,6 +16,7 @@ word_of Contender = codes "contender"
 word_of Force = codes "force"
 word_of Power = codes "power"
 word_of Gap = codes "gap"
+word_of GapReset = codes "gapreset"
 word_of Hold = codes "hold"
 word_of Short = codes "short"
 word_of Long = codes "long"
@@ -25,7 +26,8 @@ word_of Kind = codes "kind"
 
 abbrev pub keys : List Key
 keys =
-    Speed ∷ Link ∷ Contender ∷ Force ∷ Power ∷ Gap ∷ Hold ∷ Short ∷ Long ∷ Coins ∷ Seed ∷ Kind ∷ []
+    Speed ∷ Link ∷ Contender ∷ Force ∷ Power ∷ Gap ∷ GapReset ∷ Hold ∷ Short ∷ Long ∷ Coins ∷ Seed
+    ∷ Kind ∷ []
 
 -- the key that a word is
 abbrev pub key_of : List ℕ → Option Key
@@ -47,6 +49,7 @@ limits times Contender = (0, 1)
 limits times Force = (0, 1)
 limits times Power = (0, 7)
 limits times Gap = (0, 63)
+limits times GapReset = (0, 1)
 limits times Hold = (times.least.hold, times.most.hold)
 limits times Short = (times.least.short, times.most.short)
 limits times Long = (times.least.long, times.most.long)

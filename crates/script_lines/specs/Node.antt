@@ -8,7 +8,7 @@ use Rattle.script_lines.specs.declared.kind.Kind.TheVariants.{Twice}
 use Rattle.script_lines.specs.declared.command.Command.{Command}
 use Rattle.script_lines.specs.declared.command.Command.TheVariants.{Node}
 use Rattle.script_lines.specs.declared.key.Key.{Key}
-use Rattle.script_lines.specs.declared.key.Key.TheVariants.{Speed, Link, Contender, Force, Power, Gap, Hold, Short, Long, Coins, Seed, Kind}
+use Rattle.script_lines.specs.declared.key.Key.TheVariants.{Speed, Link, Contender, Force, Power, Gap, GapReset, Hold, Short, Long, Coins, Seed, Kind}
 use Rattle.script_lines.specs.Number.{number_of}
 use Rattle.script_lines.specs.Shape.{Shape, the, a_name, a_number, fit, first_wrong}
 use Rattle.script_lines.specs.Form.{word_at, number_at}
@@ -77,6 +77,7 @@ node_of name ports pairs =
     (unwrap_or (number_given Force pairs) 0 == 1)
     (unwrap_or (number_given Power pairs) 0)
     (unwrap_or (number_given Gap pairs) 63)
+    (unwrap_or (number_given GapReset pairs) 0 == 1)
     (number_given Hold pairs)
     (number_given Short pairs)
     (number_given Long pairs)

@@ -30,7 +30,7 @@ pub record IsConfigInRange (root_id gap : Option ℕ) : Type 0 where
 -- each number of a command is in its range; a port, an offset and a value may be any
 abbrev pub IsInRange : TimeRanges → Command → Type 0
 IsInRange times
-    (Node name ports speed link contender force power gap hold short long word len seed packed) =
+    (Node name ports speed link contender force power gap gap_reset hold short long word len seed packed) =
     IsNodeInRange times ports speed power gap hold short long len
 IsInRange times (Turn count) = IsBetween 1 2000000 count
 IsInRange times (Hold name port turns) = IsBetween 1 65535 turns

@@ -17,6 +17,7 @@ pub enum Command {
         force: bool,
         power: u8,
         gap: u8,
+        gap_reset: bool,
         hold: Option<u16>,
         short: Option<u16>,
         long: Option<u16>,

@@ -18,6 +18,7 @@ pub(crate) enum Key {
     Force,
     Power,
     Gap,
+    GapReset,
     Hold,
     Short,
     Long,
@@ -43,6 +44,8 @@ impl Key {
             Some(Key::Power)
         } else if word.is(b"gap") {
             Some(Key::Gap)
+        } else if word.is(b"gapreset") {
+            Some(Key::GapReset)
         } else if word.is(b"hold") {
             Some(Key::Hold)
         } else if word.is(b"short") {
@@ -71,6 +74,7 @@ impl Key {
             Key::Force => word.is(b"force"),
             Key::Power => word.is(b"power"),
             Key::Gap => word.is(b"gap"),
+            Key::GapReset => word.is(b"gapreset"),
             Key::Hold => word.is(b"hold"),
             Key::Short => word.is(b"short"),
             Key::Long => word.is(b"long"),
@@ -100,7 +104,7 @@ impl Key {
         let TimeRanges { least, most } = times;
         match self {
             Key::Speed => (0, 2),
-            Key::Link | Key::Contender | Key::Force => (0, 1),
+            Key::Link | Key::Contender | Key::Force | Key::GapReset => (0, 1),
             Key::Power => (0, 7),
             Key::Gap => (0, 63),
             Key::Hold => (u32::from(least.hold), u32::from(most.hold)),

@@ -68,6 +68,7 @@ fn node_of(name: Name, ports: u8, pairs: &[Word], times: TimeRanges) -> Command
         force: flag(pairs, Key::Force, times, false),
         power: small(pairs, Key::Power, times, 0),
         gap: small(pairs, Key::Gap, times, 63),
+        gap_reset: flag(pairs, Key::GapReset, times, false),
         hold: time(pairs, Key::Hold, times),
         short: time(pairs, Key::Short, times),
         long: time(pairs, Key::Long, times),

@@ -17,7 +17,7 @@ made_name k = numbered (codes "n") k
 -- a contender with 3 ports and a seed
 abbrev pub declares : ℕ → ℕ → Command
 declares seed k =
-    Node (made_name k) 3 2 true true false 0 63 None None None 0 0
+    Node (made_name k) 3 2 true true false 0 63 false None None None 0 0
     (Some ((seed + k) % 4294967296)) false
 
 -- port 0 of node number k is plugged at an end

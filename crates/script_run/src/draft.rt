@@ -1,15 +1,15 @@
 //! The nodes that a script declares before its bus runs.
-ghost use Rattle.std.specs.Prelude.{◌≡◌, ◌≤◌, ℕ, [], Some, Ok, Err, false, IfOk, IfErr, OnOk, length, map, nat_lt};
+ghost use Rattle.std.specs.Prelude.{◌≡◌, ◌≤◌, ℕ, [], Some, Ok, Err, false, IfOk, IfErr, OnOk, length, map, nat_lt, if◌then◌else◌};
 ghost use Rattle.port_state.specs.TimeRanges.{AreWithin};
 ghost use Rattle.port_state.specs.declared.ranges.TimeRanges.{TimeRanges};
 ghost use Rattle.port_state.specs.Machine.{PortNode};
 ghost use Rattle.phy_machine.specs.Any.{any_node};
-ghost use Rattle.phy_machine.specs.PowerOn.{IsSpec, node_of_spec};
+ghost use Rattle.phy_machine.specs.PowerOn.{IsSpec, node_of_spec, with_gap_reset};
 ghost use Rattle.script_told.specs.Bus.{bus_of_nodes, is_declared};
 ghost use Rattle.script_told.specs.Script.{Declares, SaysTimes, draft_with, takes_times, declaring, with_node, times_of, coins_of};
 ghost use Rattle.script_told.specs.Fitting.{AreFitting, IsFitting};
 ghost use Rattle.script_bus.specs.Running.{Stops};
-ghost use Rattle.script_run.specs.codings.Declaring.{IsDraft, IsLine, IsDeclared, DeclaresNode, draft_now, node_said};
+ghost use Rattle.script_run.specs.codings.Declaring.{IsDraft, IsLine, IsDeclared, DeclaresNode, draft_now, node_said, plain_said};
 
 use phy_machine::{AnyMachine, FieldMachine, NodeSpec, PackedMachine};
 use port_state::{Coins, TimeRanges, Timing};
@@ -62,6 +62,8 @@ pub(crate) struct NodeLine {
     pub attrs: Attrs,
     /// Whether its force_root is set.
     pub force: bool,
+    /// Whether it sets its gap count back at the second reset.
+    pub gap_reset: bool,
     pub times: GivenTimes,
     pub coins: GivenCoins,
     /// Whether its state is kept packed.
@@ -99,13 +101,13 @@ fn coins(given: GivenCoins, number: u32) -> Coins
     }
 }
 
-/// What a node is made of that gets this number.
+/// What a node is made of that gets this number, but for whether it resets its gap count.
 fn spec(node: &NodeLine, ranges: TimeRanges, number: u32) -> NodeSpec
     requires least { AreWithin ranges ranges.least }
     requires line { IsLine ranges node.now }
     ensures is { IsSpec result }
     ensures timing { AreWithin ranges result.timing }
-    ensures value { node_of_spec result ≡ node_said node.now ranges number }
+    ensures value { node_of_spec result ≡ plain_said node.now ranges number }
 {
     NodeSpec {
         ports: node.ports,
@@ -128,6 +130,18 @@ fn machine(spec: NodeSpec, packed: bool) -> AnyMachine
     }
 }
 
+/// A machine that was just powered on, or the same that resets its gap count.
+fn with_gap_reset(machine: AnyMachine, gap_reset: bool) -> AnyMachine
+    ensures { any_node result ≡ (if gap_reset then with_gap_reset (any_node machine)
+        else any_node machine) }
+{
+    let mut machine = machine;
+    if gap_reset {
+        machine.reset_gaps();
+    }
+    machine
+}
+
 /// The node that a line declares, just powered on.
 fn powered_on(node: &NodeLine, ranges: TimeRanges, number: u32) -> AnyMachine
     requires least { AreWithin ranges ranges.least }
@@ -135,7 +149,8 @@ fn powered_on(node: &NodeLine, ranges: TimeRanges, number: u32) -> AnyMachine
     ensures value { any_node result ≡ node_said node.now ranges number }
     ensures power_on { (d : ℕ) → AreFitting d ranges → IsFitting d ranges (any_node result) }
 {
-    machine(spec(node, ranges, number), node.packed)
+    let plain = machine(spec(node, ranges, number), node.packed);
+    with_gap_reset(plain, node.gap_reset)
 }
 
 impl Draft {

@@ -196,6 +196,7 @@ impl Stage {
                 force,
                 power,
                 gap,
+                gap_reset,
                 hold,
                 short,
                 long,
@@ -218,6 +219,7 @@ impl Stage {
                     ports,
                     attrs,
                     force,
+                    gap_reset,
                     times: GivenTimes { hold, short, long },
                     coins: GivenCoins {
                         word: coin_word,

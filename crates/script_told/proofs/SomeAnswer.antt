@@ -180,7 +180,7 @@ looks bus node manager = known (Ok (put_look node (Some (seen_of (values_at mana
 
 pub some-answer : ComponentsExist → QuietWorldsHaveTexts → ReportedTreesAreManaged → MapsHaveTexts →
     CommandsHaveAnswers
-some-answer components texts trees all-maps bus (Node name ports speed link contender force power gap hold short long word len seed packed) h p = known (Err Kind.Late)
+some-answer components texts trees all-maps bus (Node name ports speed link contender force power gap gap_reset hold short long word len seed packed) h p = known (Err Kind.Late)
 some-answer components texts trees all-maps bus (Delay delay) h p = known (Err Kind.Late)
 some-answer components texts trees all-maps bus (Times standard nanoseconds) h p = known (Err Kind.Late)
 some-answer components texts trees all-maps bus (Plug a a_port b b_port) h p =

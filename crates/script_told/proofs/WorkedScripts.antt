@@ -180,13 +180,13 @@ node number =
       power = 0;
       initiated = false;
     })
-    3 false (times_of (profile_ranges 4) None None None) (coins_of number 0 0 None)
+    3 false false (times_of (profile_ranges 4) None None None) (coins_of number 0 0 None)
 
 abbrev declared : List (List ℕ) → List PortNode → Stage
 declared names nodes = declaring (record { delay = 4; times = profile_times 4; names = names; nodes = nodes })
 
 abbrev plain : List ℕ → Command
-plain name = Node name 3 2 true false false 0 63 None None None 0 0 None false
+plain name = Node name 3 2 true false false 0 63 false None None None 0 0 None false
 
 abbrev three : Stage
 three = declared (codes "a" ∷ codes "b" ∷ codes "c" ∷ []) (node 0 ∷ node 1 ∷ node 2 ∷ [])

@@ -6,7 +6,7 @@ use Rattle.self_id.specs.declared.standard.Standard.{Standard}
 use Rattle.port_state.specs.Coins.{Coins, coins_of_bits, coins_of_seed}
 use Rattle.port_state.specs.declared.timing.Timing.{Timing}
 use Rattle.port_state.specs.declared.ranges.TimeRanges.{TimeRanges}
-use Rattle.port_state.specs.PowerOn.{power_on}
+use Rattle.port_state.specs.PowerOn.{power_on_with}
 use Rattle.port_state.specs.Clock.{even}
 use Rattle.port_state.specs.Machine.{PortNode}
 use Rattle.script_lines.specs.declared.kind.Kind.{Kind}
@@ -64,9 +64,12 @@ coins_of number word len seed =
     if len == 0 then coins_of_seed (unwrap_or seed number) else coins_of_bits word len
 
 -- a node that was just powered on; its clock misses no turn
-abbrev pub new_node : Attrs → ℕ → Bool → Timing → Coins → PortNode
-new_node attrs ports force timing coins =
-    record { state = power_on ports attrs force timing; coins = coins; clock = even }
+abbrev pub new_node : Attrs → ℕ → Bool → Bool → Timing → Coins → PortNode
+new_node attrs ports force resets_gap timing coins = record {
+  state = power_on_with resets_gap ports attrs force timing;
+  coins = coins;
+  clock = even;
+}
 
 abbrev pub with_node : Draft → List ℕ → PortNode → Draft
 with_node draft name node =
@@ -141,7 +144,7 @@ DoesOnBus stage command answer =
 -- what a command comes to
 abbrev pub DoesAtStage : Stage → Command → StageAnswer → Type 0
 DoesAtStage stage
-    (Node name ports speed link contender force power gap hold short long word len seed packed)
+    (Node name ports speed link contender force power gap gap_reset hold short long word len seed packed)
     answer = Declares (draft_of stage) name (λ ranges number.
     new_node
     (record {
@@ -153,7 +156,7 @@ DoesAtStage stage
       power = power;
       initiated = false;
     })
-    ports force (times_of ranges hold short long) (coins_of number word len seed)) answer
+    ports force gap_reset (times_of ranges hold short long) (coins_of number word len seed)) answer
 DoesAtStage stage (Delay delay) answer = Delays stage delay answer
 DoesAtStage stage (Times standard nanoseconds) answer =
     SaysTimes (draft_of stage) standard nanoseconds answer

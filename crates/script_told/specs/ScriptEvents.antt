@@ -14,7 +14,7 @@ use Rattle.script_told.specs.Run.{Entry, ScriptRun, IsRun}
 
 -- a command that declares what there is
 abbrev pub Declares : Command → Type 0
-Declares (Node name ports speed link contender force power gap hold short long word len seed packed) =
+Declares (Node name ports speed link contender force power gap gap_reset hold short long word len seed packed) =
     Unit {0}
 Declares (Delay delay) = Unit {0}
 Declares (Times standard nanoseconds) = Unit {0}
@@ -22,7 +22,7 @@ Declares command = ⊥
 
 -- a command that takes time or asks, and neither acts nor reports
 abbrev pub LeavesAlone : Command → Type 0
-LeavesAlone (Node name ports speed link contender force power gap hold short long word len seed packed) =
+LeavesAlone (Node name ports speed link contender force power gap gap_reset hold short long word len seed packed) =
     ⊥
 LeavesAlone (Delay delay) = ⊥
 LeavesAlone (Times standard nanoseconds) = ⊥

@@ -241,7 +241,7 @@ MapsOf bus tree answer =
 
 -- what each command comes to on a bus whose nodes are all declared
 abbrev pub Does : Bus → Command → LineAnswer → Type 0
-Does bus (Node name ports speed link contender force power gap hold short long word len seed packed)
+Does bus (Node name ports speed link contender force power gap gap_reset hold short long word len seed packed)
     r = r ≡ Err Late
 Does bus (Delay delay) r = r ≡ Err Late
 Does bus (Times standard nanoseconds) r = r ≡ Err Late

@@ -172,7 +172,7 @@ stage-lines v stage command (running after) text f = by-command command f
     by-command : (c : Command) → DoesAtStage stage c (Ok (running after, text)) →
         HasLines v (bus_of stage) c after
     by-command
-        (Node name ports speed link contender force power gap hold short long word len seed packed)
+        (Node name ports speed link contender force power gap gap_reset hold short long word len seed packed)
         g = ([], refl)
     by-command (Delay delay) g = ([], refl)
     by-command (Times standard nanoseconds) g = ([], refl)

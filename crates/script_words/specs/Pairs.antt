@@ -19,6 +19,7 @@ limits_of times key =
     else if bytes_eq key (codes "force") then Some (0, 1)
     else if bytes_eq key (codes "power") then Some (0, 7)
     else if bytes_eq key (codes "gap") then Some (0, 63)
+    else if bytes_eq key (codes "gapreset") then Some (0, 1)
     else if bytes_eq key (codes "hold") then Some (times.least.hold, times.most.hold)
     else if bytes_eq key (codes "short") then Some (times.least.short, times.most.short)
     else if bytes_eq key (codes "long") then Some (times.least.long, times.most.long)
@@ -48,7 +49,7 @@ paired (key ∷ value ∷ words) =
 
 abbrev pub keys_wanted : List ℕ
 keys_wanted =
-    codes "speed, link, contender, force, power, gap, hold, short, long, coins, seed or kind.\n"
+    codes "speed, link, contender, force, power, gap, gapreset, hold, short, long, coins, seed or kind.\n"
 
 -- what may stand behind a word that should be a key
 abbrev pub behind_key : List ℕ → List ℕ
@@ -95,6 +96,8 @@ meaning_of key =
     else if bytes_eq key (codes "force") then codes " (1: it waits to become root).\n"
     else if bytes_eq key (codes "power") then codes " (its power class).\n"
     else if bytes_eq key (codes "gap") then codes " (its gap count).\n"
+    else if bytes_eq key (codes "gapreset") then
+    codes " (1: it sets its gap count back to 63 at the second reset).\n"
     else if bytes_eq key (codes "hold") then codes " (turns that it holds a bus reset).\n"
     else if bytes_eq key (codes "short") then codes " (turns of a short wait in a contention).\n"
     else if bytes_eq key (codes "long") then codes " (turns of a long wait in a contention).\n"

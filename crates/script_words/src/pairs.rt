@@ -28,6 +28,8 @@ fn limits_of(times: TimeRanges, key: &[u8]) -> Option<(u32, u32)>
         Some((0, 7))
     } else if same(key, b"gap") {
         Some((0, 63))
+    } else if same(key, b"gapreset") {
+        Some((0, 1))
     } else if same(key, b"hold") {
         Some((u32::from(least.hold), u32::from(most.hold)))
     } else if same(key, b"short") {
@@ -62,7 +64,7 @@ fn is_pair(key: &[u8], value: &[u8]) -> bool
 }
 
 const KEYS: &[u8] =
-    b"speed, link, contender, force, power, gap, hold, short, long, coins, seed or kind.\n";
+    b"speed, link, contender, force, power, gap, gapreset, hold, short, long, coins, seed or kind.\n";
 
 /// What may stand behind a word that should be a key.
 fn behind_key(key: &[u8]) -> &'static [u8]
@@ -174,6 +176,8 @@ fn meaning_of(key: &[u8]) -> &'static [u8]
         b" (its power class).\n"
     } else if same(key, b"gap") {
         b" (its gap count).\n"
+    } else if same(key, b"gapreset") {
+        b" (1: it sets its gap count back to 63 at the second reset).\n"
     } else if same(key, b"hold") {
         b" (turns that it holds a bus reset).\n"
     } else if same(key, b"short") {

@@ -5,7 +5,7 @@ use Rattle.std.proofs.lemmas.Option.{slice_get_within}
 use Rattle.outcomes.proofs.Common.{contrary, End, far, Level, Phase, ResetStart, Signal, PortView, NodeState, port_is, is_port, hears_packets, IsValid, PortNode, node_disturb, node_set_config, Act, Config, Travelling, new_signal, CableWorld, wire_of, IsPowerOnWorld, change_in_set, note_changes, Acted, ActLeads, hold, hold_fault, level_sent, level_shown, leads_down, level_after, signals_of, has_reset, is_before_tree, is_shaking, is_asking, IsLawful, acting, some-same, IsMarked, silent, quads_in, mode, fits, any_child, Greets, Identifies, IsIdentifying, config_packet}
 use Rattle.port_state.specs.declared.signal.Level.TheVariants as level
 use Rattle.port_state.specs.declared.signal.Signal.TheVariants as signal
-use Rattle.port_state.specs.PowerOn.{power_on, free_port}
+use Rattle.port_state.specs.PowerOn.{power_on_with, free_port}
 use Rattle.port_state.specs.Machine.{NodeStep, node_plugged, node_pulled}
 use Rattle.cable_world.specs.declared.act.Act.TheVariants.{Plug, Pull, Reset}
 use Rattle.cable_world.specs.Act.{step_at, with_step, pull_from}
@@ -306,7 +306,9 @@ free t h zero k e = true≢false (sym e)
 free t h (suc n) zero e = contrary e h
 free t h (suc n) (suc k) e = free t h n k e
 
-power-on-marked : (x : NodeState) → IsMarked (power_on x.ports x.attrs x.view.force x.timing)
+power-on-marked :
+    (x : NodeState) →
+    IsMarked (power_on_with x.resets_gap x.ports x.attrs x.view.force x.timing)
 power-on-marked x =
     let none : (k : ℕ) → port_is (λ p. p.asked) (replicate x.ports free_port) k ≡ true → ⊥ = free (λ p. p.asked) refl x.ports in
     record {

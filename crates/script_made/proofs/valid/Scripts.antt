@@ -62,7 +62,7 @@ node seed k ranges number =
       power = 0;
       initiated = false;
     })
-    3 false (times_of ranges None None None) (coins_of number 0 0 (Some ((seed + k) % 4294967296)))
+    3 false false (times_of ranges None None None) (coins_of number 0 0 (Some ((seed + k) % 4294967296)))
 
 one-more-three : (k : ℕ) → threes k ++ 3 ∷ [] ≡ threes (suc k)
 one-more-three k =

@@ -1,5 +1,5 @@
 -- The nodes that a script declares, as the code keeps them.
-use Rattle.std.specs.Prelude.{◌≡◌, ℕ, ◌≤◌, All, length, map, Ok, Some, []}
+use Rattle.std.specs.Prelude.{◌≡◌, ℕ, ◌≤◌, false, All, length, map, Ok, Some, []}
 use Rattle.phy_machine.specs.Any.{any_node}
 use Rattle.port_state.specs.Machine.{PortNode}
 use Rattle.port_state.specs.declared.ranges.TimeRanges.{TimeRanges}
@@ -38,7 +38,14 @@ pub record IsLine (ranges : TimeRanges) (node : NodeLine) : Type 0 where
 -- number
 abbrev pub node_said : NodeLine → TimeRanges → ℕ → PortNode
 node_said node ranges number =
-    new_node node.attrs node.ports node.force
+    new_node node.attrs node.ports node.force node.gap_reset
+    (times_of ranges node.times.hold node.times.short node.times.long)
+    (coins_of number node.coins.word node.coins.len node.coins.seed)
+
+-- the same node, if it didn't reset its gap count
+abbrev pub plain_said : NodeLine → TimeRanges → ℕ → PortNode
+plain_said node ranges number =
+    new_node node.attrs node.ports node.force false
     (times_of ranges node.times.hold node.times.short node.times.long)
     (coins_of number node.coins.word node.coins.len node.coins.seed)
 

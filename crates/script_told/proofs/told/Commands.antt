@@ -338,7 +338,7 @@ pub does :
     NoListHasTwoTrees → (bus : Bus) (command : Command) → IsCabled bus.world →
     IsOne (Does bus command)
 does trees bus
-    (Node name ports speed link contender force power gap hold short long word len seed packed)
+    (Node name ports speed link contender force power gap gap_reset hold short long word len seed packed)
     h = λ a b x y. known (Err Kind.Late) a b tt x y
 does trees bus (Delay delay) h = λ a b x y. known (Err Kind.Late) a b tt x y
 does trees bus (Times standard nanoseconds) h = λ a b x y. known (Err Kind.Late) a b tt x y

@@ -238,7 +238,7 @@ pulled bus name port r x = go (node_named bus.notes.names name) refl x
 pub does-events :
     (d : TimeRanges) (bus : Bus) (command : Command) → IsInRange d command → (r : LineAnswer) → Does bus command r →
     Led bus command r
-does-events d bus (Node name ports speed link contender force power gap held short long word len seed packed) i r x = is-known (Led bus _) (λ k. tt) (Err Kind.Late) tt r x
+does-events d bus (Node name ports speed link contender force power gap gap_reset held short long word len seed packed) i r x = is-known (Led bus _) (λ k. tt) (Err Kind.Late) tt r x
 does-events d bus (Delay delay) i r x = is-known (Led bus (Delay delay)) (λ k. tt) (Err Kind.Late) tt r x
 does-events d bus (Times standard nanoseconds) i r x = is-known (Led bus (Times standard nanoseconds)) (λ k. tt) (Err Kind.Late) tt r x
 does-events d bus (Plug a a_port b b_port) i r x =
@@ -295,7 +295,7 @@ follows-runs :
     (stage : Stage) (c : Command) (answer : StageAnswer) →
     (Declares c → ⊥) → DoesAtStage stage c answer →
     DoesOnBus stage c answer
-follows-runs stage (Node name ports speed link contender force power gap held short long word len seed packed) answer not f = absurd (not tt)
+follows-runs stage (Node name ports speed link contender force power gap gap_reset held short long word len seed packed) answer not f = absurd (not tt)
 follows-runs stage (Delay delay) answer not f = absurd (not tt)
 follows-runs stage (Times standard nanoseconds) answer not f = absurd (not tt)
 follows-runs stage c answer not f = f

@@ -98,9 +98,9 @@ says draft standard nanoseconds some h =
 
 -- the node that a line declares, by the ranges of times and the number that it gets
 abbrev node_of :
-    (ports speed : ℕ) (link contender force : Bool) (power gap : ℕ) (hold short long : Option ℕ) (word len : ℕ) (seed : Option ℕ) → TimeRanges → ℕ → PortNode
-node_of ports speed link contender force power gap hold short long word len seed ranges number =
-    new_node (attrs_said speed link contender power gap) ports force (times_of ranges hold short long) (coins_of number word len seed)
+    (ports speed : ℕ) (link contender force : Bool) (power gap : ℕ) (gap_reset : Bool) (hold short long : Option ℕ) (word len : ℕ) (seed : Option ℕ) → TimeRanges → ℕ → PortNode
+node_of ports speed link contender force power gap gap_reset hold short long word len seed ranges number =
+    new_node (attrs_said speed link contender power gap) ports force gap_reset (times_of ranges hold short long) (coins_of number word len seed)
 
 module _ (trees : NoListHasTwoTrees) (keeps : ActKeepsNodes) where
   runs : (stage : Stage) (command : Command) → IsSound stage → IsInRange (ranges_of stage) command →
@@ -114,11 +114,11 @@ module _ (trees : NoListHasTwoTrees) (keeps : ActKeepsNodes) where
 
   pub follows : (stage : Stage) (command : Command) → IsSound stage →
       IsInRange (ranges_of stage) command → IsOneStage (DoesAtStage stage command)
-  follows fresh (Node name ports speed link contender force power gap held short long word len seed packed) h i =
-      declares first_draft name (node_of ports speed link contender force power gap held short long word len seed) (no-nodes 4 (omega arith) (omega arith)) (node-at-power-on first_draft ports speed link contender force power gap held short long word len seed (no-nodes 4 (omega arith) (omega arith)).fitting i)
-  follows (declaring draft) (Node name ports speed link contender force power gap held short long word len seed packed) h i =
-      declares draft name (node_of ports speed link contender force power gap held short long word len seed) h (node-at-power-on draft ports speed link contender force power gap held short long word len seed h.fitting i)
-  follows (running bus) (Node name ports speed link contender force power gap held short long word len seed packed) h i =
+  follows fresh (Node name ports speed link contender force power gap gap_reset held short long word len seed packed) h i =
+      declares first_draft name (node_of ports speed link contender force power gap gap_reset held short long word len seed) (no-nodes 4 (omega arith) (omega arith)) (node-at-power-on first_draft ports speed link contender force power gap gap_reset held short long word len seed (no-nodes 4 (omega arith) (omega arith)).fitting i)
+  follows (declaring draft) (Node name ports speed link contender force power gap gap_reset held short long word len seed packed) h i =
+      declares draft name (node_of ports speed link contender force power gap gap_reset held short long word len seed) h (node-at-power-on draft ports speed link contender force power gap gap_reset held short long word len seed h.fitting i)
+  follows (running bus) (Node name ports speed link contender force power gap gap_reset held short long word len seed packed) h i =
       λ a b x y. known (Err Kind.Late) a b tt x y
   follows stage (Delay delay) h i = delays stage delay i
   follows fresh (Times standard nanoseconds) h i = says first_draft standard nanoseconds i.0 (no-nodes 4 (omega arith) (omega arith))

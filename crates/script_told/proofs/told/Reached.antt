@@ -12,7 +12,7 @@ use Rattle.port_state.specs.Coins.{Coins}
 use Rattle.port_state.specs.declared.timing.Timing.{Timing}
 use Rattle.port_state.specs.declared.ranges.TimeRanges.{TimeRanges}
 use Rattle.port_state.specs.Machine.{PortNode}
-use Rattle.port_state.proofs.Lemmas.{valid-power_on}
+use Rattle.port_state.proofs.Lemmas.{valid-power_on_with}
 use Rattle.cable_world.specs.World.{CableWorld, NodeNumber, IsPowerOnWorld, world_with_times}
 use Rattle.cable_world.proofs.Lemmas.{even-paced, power-on, some-same, reached-lawful, power-on-reached, turns-reached, act-reached, hold-reached, one-hold, rests-then, turns-rest}
 use Rattle.cable_world.specs.Run.{IsReached, Rests, still}
@@ -231,7 +231,7 @@ config-act node root_id gap h = record {
 
 pub leaves : ActKeepsNodes → (times : TimeRanges) (bus : Bus) (command : Command) → IsReachedBus bus →
     IsInRange times command → Leaves (Does bus command)
-leaves keeps times bus (Node name ports speed link contender force power gap held short long word len seed packed) h i = known (Err Kind.Late) tt
+leaves keeps times bus (Node name ports speed link contender force power gap gap_reset held short long word len seed packed) h i = known (Err Kind.Late) tt
 leaves keeps times bus (Delay delay) h i = known (Err Kind.Late) tt
 leaves keeps times bus (Times standard nanoseconds) h i = known (Err Kind.Late) tt
 leaves keeps times bus (Plug a a_port b b_port) h i = named bus a _ (λ n. named bus b _ (λ m. do-act keeps bus (act.Plug (end_of n a_port) (end_of m b_port)) h tt))
@@ -322,16 +322,16 @@ more-at (z ∷ nodes) x P h p zero y e = h zero y e
 more-at (z ∷ nodes) x P h p (suc k) y e = more-at nodes x P (λ j w f. h (suc j) w f) p k y e
 
 pub at-power-on :
-    (d : ℕ) (r : TimeRanges) (ports : ℕ) (attrs : Attrs) (force : Bool) (held short long : Option ℕ) (len : ℕ) (coins : Coins) → attrs.delay ≡ 0 →
+    (d : ℕ) (r : TimeRanges) (ports : ℕ) (attrs : Attrs) (force resets_gap : Bool) (held short long : Option ℕ) (len : ℕ) (coins : Coins) → attrs.delay ≡ 0 →
     AreFitting d r → IsNodeInRange r ports attrs.speed attrs.power attrs.gap held short long len →
-    IsFitting d r (new_node attrs ports force (times_of r held short long) coins)
-at-power-on d r ports attrs force held short long len coins none fit h =
+    IsFitting d r (new_node attrs ports force resets_gap (times_of r held short long) coins)
+at-power-on d r ports attrs force resets_gap held short long len coins none fit h =
     let t : Timing = times_of r held short long in
     let in_ranges = times-within r ports attrs.speed attrs.power attrs.gap held short long len fit.least h in
     record {
       powered = record {
         is = refl;
-        valid = valid-power_on ports attrs force t h.some_port h.few_ports
+        valid = valid-power_on_with resets_gap ports attrs force t h.some_port h.few_ports
             (record { gap = omega (arith, h.gap_most); speed = omega (arith, h.speed_most); delay = omega (arith, none); power = omega (arith, h.power_most) }) none;
         timing = suits d r t fit.suitable in_ranges;
       };
@@ -379,13 +379,13 @@ attrs_said speed link contender power gap = record {
 }
 
 pub node-at-power-on :
-    (draft : Draft) (ports speed : ℕ) (link contender force : Bool) (power gap : ℕ)
+    (draft : Draft) (ports speed : ℕ) (link contender force : Bool) (power gap : ℕ) (gap_reset : Bool)
     (held short long : Option ℕ) (word len : ℕ) (seed : Option ℕ) → AreFitting draft.delay draft.times.ranges →
     IsNodeInRange draft.times.ranges ports speed power gap held short long len →
     IsFitting draft.delay draft.times.ranges
-    (new_node (attrs_said speed link contender power gap) ports force (times_of draft.times.ranges held short long) (coins_of (length draft.names) word len seed))
-node-at-power-on draft ports speed link contender force power gap held short long word len seed fit i =
-    at-power-on draft.delay draft.times.ranges ports (attrs_said speed link contender power gap) force held short long len (coins_of (length draft.names) word len seed) refl fit i
+    (new_node (attrs_said speed link contender power gap) ports force gap_reset (times_of draft.times.ranges held short long) (coins_of (length draft.names) word len seed))
+node-at-power-on draft ports speed link contender force power gap gap_reset held short long word len seed fit i =
+    at-power-on draft.delay draft.times.ranges ports (attrs_said speed link contender power gap) force gap_reset held short long len (coins_of (length draft.names) word len seed) refl fit i
 
 -- the world that runs from a stage on comes of power-on
 pub stage-reached : (stage : Stage) → IsSound stage → IsReached (bus_of stage).world
