@@ -397,7 +397,8 @@ enum busconf_event_kind {
   BUSCONF_EVENT_COIN = 10,     /* it draws a coin, `second`, and waits `value` turns; the coin is 0 or 1, or
                                   BUSCONF_NUMBER_NONE behind the first 32 since the reset */
   BUSCONF_EVENT_PHY_ID = 11,   /* it takes the ID `value` */
-  BUSCONF_EVENT_SENDS = 12     /* it sends on the port the signal `value`, an enum busconf_signal */
+  BUSCONF_EVENT_SENDS = 12,    /* it sends on the port the signal `value`, an enum busconf_signal */
+  BUSCONF_EVENT_MISSES = 13    /* its clock misses this turn, so that it doesn't tick */
 };
 
 /* The states of a node by the standard's names. Self-ID is entered at S0. */

@@ -179,6 +179,7 @@ class EventKind(IntEnum):
     COIN = 10
     PHY_ID = 11
     SENDS = 12
+    MISSES = 13
 
 
 class State(IntEnum):

@@ -51,6 +51,7 @@ static void put_what(char *to, const struct busconf_event *it) {
     sprintf(to, " wait %u", it->value);
     break;
   case BUSCONF_EVENT_PHY_ID: sprintf(to, " phy_ID %u", it->value); break;
+  case BUSCONF_EVENT_MISSES: sprintf(to, " misses a tick"); break;
   case BUSCONF_EVENT_SENDS:
     to += sprintf(to, " port %u sends %s", it->port, signals[it->value]);
     if (it->value == BUSCONF_SIGNAL_PACKET) sprintf(to, " %08x", it->second);
@@ -86,11 +87,13 @@ static void try_names(void) {
       "turn 5 plug enters R0\n", "turn 5 reset configuration timeout\n", "turn 5 reset enters\n", "turn 5 reset reset\n",
       "turn 5 plug coin 1 wait 2\n", "turn 5 config phy_ID 3\n", "turn 5 config config - 3\n", "turn 5 hold port 1 2\n",
       "turn 5 hold port 1 to a child\n", "turn 5 pull port 1\n", "turn 5 pull port 1 to its parent\n",
-      "turn 4294967295 a port 0 sends packet 00ff1234\n", "turn 5 plug plug 0 plug 1\n", "turn 5 config a 62 63\n"};
+      "turn 4294967295 a port 0 sends packet 00ff1234\n", "turn 5 plug plug 0 plug 1\n", "turn 5 config a 62 63\n",
+      "turn 5 misses misses a tick\n", "turn 5 reset misses a tick\n"};
   static const char *const none[] = {
       "", "\n", "turn 5\n", "turn 05 reset a\n", "turn +5 reset a\n", "turn 5 reset A\n", "turn 5 reset a \n",
       "turn 4294967296 reset a\n", "turn 5  reset a\n", "turn 5 a port 0 sends packet 00FF1234\n", "turn 5 reset a\r\n",
-      "turn 5 a enters Q2\n", "turn 5 reset abcdefghijklmnopq\n", "Turn 5 reset a\n", "turn 5 reset a"};
+      "turn 5 a enters Q2\n", "turn 5 reset abcdefghijklmnopq\n", "Turn 5 reset a\n", "turn 5 reset a",
+      "turn 5 a misses a turn\n"};
   char made[160];
   size_t n, next = 7;
   struct busconf_event event;

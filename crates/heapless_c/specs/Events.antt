@@ -7,7 +7,7 @@ use Rattle.port_state.specs.declared.signal.Phase.{Phase}
 use Rattle.port_state.specs.declared.signal.Phase.TheVariants as phase
 use Rattle.trace_event.specs.declared.event.Part.{Part}
 use Rattle.trace_event.specs.declared.event.What.{What}
-use Rattle.trace_event.specs.declared.event.What.TheVariants.{Plug, Pull, Reset, Hold, Config, Enters, Timeout, ToParent, ToChild, Coin, PhyId, Sends}
+use Rattle.trace_event.specs.declared.event.What.TheVariants.{Plug, Pull, Reset, Hold, Config, Enters, Timeout, ToParent, ToChild, Coin, PhyId, Sends, Misses}
 use Rattle.trace_event.specs.declared.event.Event.{Event}
 use Rattle.trace_event.specs.Event.{IsEventAt, IsShownAt}
 use Rattle.heapless_c.specs.declared.records.EventRecord.{EventRecord}
@@ -83,6 +83,7 @@ what_record turn (Coin node coin wait) = at_node 10 turn node 0 wait (number_or_
 what_record turn (PhyId node id) = at_node 11 turn node 0 id 0
 what_record turn (Sends node port signal) =
     at_node 12 turn node port (signal_number signal) (quad_of_signal signal)
+what_record turn (Misses node) = at_node 13 turn node 0 0 0
 
 abbrev pub event_record : Event → EventRecord
 event_record e = what_record e.turn e.what

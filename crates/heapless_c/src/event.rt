@@ -121,6 +121,7 @@ fn what_record(turn: u32, what: What) -> EventRecord
                 quad_of_signal(signal),
             )
         }
+        What::Misses { node } => at_node(13, turn, node, 0, 0, 0),
     }
 }
 

@@ -20,7 +20,7 @@ use Rattle.cable_world.specs.Lawful.{IsLawful}
 use Rattle.cable_world.proofs.Lemmas.{some-same}
 use Rattle.world_laws.specs.ByNumber.{NodeStands, Changes, ActsByNumber}
 use Rattle.script_trace.specs.Event.{Seen}
-use Rattle.script_trace.specs.Step.{seen_before_act, counts_from}
+use Rattle.script_trace.specs.Step.{seen_before_act, node_before_act, counts_from}
 use Rattle.script_trace.specs.News.{ShowsNothingNew}
 use Rattle.script_trace.specs.ActTouches.{MayTouch, TakesTouched, TouchesAtMost}
 use Rattle.script_trace.proofs.News.{IsOld}
@@ -28,14 +28,13 @@ use Rattle.script_trace.proofs.News.{IsOld}
 -- what stands among what the nodes showed before an act
 act-at :
     (w : CableWorld) (first i k : ℕ) (nodes : List PortNode) (s : Seen) → k ≡ first + i → slice_get (seen_before_act w first nodes) i ≡ Some s →
-    (x : PortNode) × (slice_get nodes i ≡ Some x) × (s ≡ record { view = x.state.view; there = counts_from w k 0 x.state.view.ports })
+    (x : PortNode) × (slice_get nodes i ≡ Some x) × (s ≡ node_before_act w k x)
 act-at w first i k [] s at is = absurd cc
 act-at w first zero k (y ∷ nodes) s at is =
     let here : first ≡ k = omega (arith, at) in (
       y,
       refl,
-      some-same s (record { view = y.state.view; there = counts_from w k 0 y.state.view.ports })
-          (sym is ∙ ap (λ (j : ℕ). Some (record { view = y.state.view; there = counts_from w j 0 y.state.view.ports })) here),
+      some-same s (node_before_act w k y) (sym is ∙ ap (λ (j : ℕ). Some (node_before_act w j y)) here),
     )
 act-at w first (suc i) k (y ∷ nodes) s at is = act-at w (first + 1) i k nodes s (omega (arith, at)) is
 
@@ -82,8 +81,9 @@ module _ (w v : CableWorld) (l : IsLawful w) (k : NodeNumber) (x : PortNode) (at
       none-old (drop n (wire_of v end).signals) (ap (λ (u : Wire). drop n u.signals) same ∙ none)
 
   stands-old : (y : PortNode) → slice_get v.nodes k ≡ Some y →
-      ShowsNothingNew v k (record { view = x.state.view; there = counts_from w k 0 x.state.view.ports }) y.state.view
+      ShowsNothingNew v k (node_before_act w k x) y.state.view
   stands-old y now = record {
+    ticked = refl;
     view = ap (λ (z : PortNode). z.state.view) same ∙ ap (λ (z : PortNode). record x.state.view { timer = z.state.view.timer }) (sym same);
     sent = sent-old;
   }

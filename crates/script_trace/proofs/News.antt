@@ -13,6 +13,7 @@ use Rattle.port_state.specs.declared.states.NodeState.{NodeState}
 use Rattle.port_state.specs.declared.view.View.{View}
 use Rattle.port_state.specs.Ports.{PortNumber, port_is, passes}
 use Rattle.port_state.specs.Sends.{PortSignal, sent_on}
+use Rattle.port_state.specs.Clock.{Clock, even, slow, every, misses, TicksFor}
 use Rattle.port_state.specs.Machine.{PortNode, node_tick}
 use Rattle.port_state.specs.Idle.{IsIdleTick, after_ticks}
 use Rattle.cabling.specs.NodeSet.{Nodes}
@@ -29,7 +30,7 @@ use Rattle.world_agenda.specs.Alone.{TurnLeavesAlone, LeavesAloneBut}
 use Rattle.world_agenda.proofs.Lemmas.{still-turn}
 use Rattle.script_text.specs.ReportText.{Names}
 use Rattle.script_trace.proofs.Shown.{older}
-use Rattle.script_trace.specs.Event.{Seen, head, enters, state_number, state_line, timeout_line, parent_line, child_lines, coin_line, id_line, sent_line, sent_lines, all_sent_lines, lines_at, node_lines}
+use Rattle.script_trace.specs.Event.{Seen, head, enters, state_number, miss_line, state_line, timeout_line, parent_line, child_lines, coin_line, id_line, sent_line, sent_lines, all_sent_lines, lines_at, node_lines}
 use Rattle.script_trace.specs.Step.{all_lines, seen_before_turn}
 use Rattle.script_trace.specs.News.{ShowsNothingNew, IsNewWithin}
 use Rattle.script_trace.specs.Voice.{TellsNewsAlone}
@@ -126,9 +127,10 @@ module _ (front : List ℕ) (w : CableWorld) (k : ℕ) where
       let t = v.timer in
       let u = s.view in
       subst (λ (z : View). lines_at front w k s z ≡ []) (sym h.view)
+      (both-none _ _ (cond-false s.missed _ [] h.ticked)
       (both-none _ _ (no-state front u t) (both-none _ _ (no-timeout front u t)
       (both-none _ _ (no-parent front u t) (both-none _ _ (no-child front u.ports)
-      (both-none _ _ (no-coin front u t) (both-none _ _ (no-id front u t) (no-sent s.there 0 u.ports h.sent)))))))
+      (both-none _ _ (no-coin front u t) (both-none _ _ (no-id front u t) (no-sent s.there 0 u.ports h.sent))))))))
 
 pub no-line :
     (names : Names) (w : CableWorld) (k : ℕ) (s : Seen) (v : View) → ShowsNothingNew w k s v →
@@ -250,6 +252,7 @@ module _ (w : CableWorld) (nodes : NodesTakeTurns) (wires : WiresTakeTurns) (l :
       let alone = leaves k x found.1 out in
       let is : y ≡ (turn_at w k x).node = some-same y (turn_at w k x).node (sym now ∙ nodes w k x l.well_formed.count found.1) in
       subst (λ (u : Seen). ShowsNothingNew (turn w) k u y.state.view) (sym found.2) (record {
+        ticked = alone.ticks;
         view = ap (λ (z : PortNode). z.state.view) is
             ∙ ap (λ (z : NodeState). record z.view { timer = (turn_at w k x).node.state.view.timer }) alone.state
             ∙ ap (λ (z : PortNode). record x.state.view { timer = z.state.view.timer }) (sym is);
@@ -258,9 +261,20 @@ module _ (w : CableWorld) (nodes : NodesTakeTurns) (wires : WiresTakeTurns) (l :
 
 -- ---- turns in which nothing happens
 
-pub still-news : (w : CableWorld) → StillTurnsPass → length w.nodes ≡ length w.cabling → IsStillFor 1 w →
+-- no clock misses one of the next so many turns
+abbrev pub AllTick : ℕ → CableWorld → Type 0
+AllTick count w = (k : ℕ) (x : PortNode) → slice_get w.nodes k ≡ Some x → TicksFor count x.clock
+
+ticks-next : (c : Clock) → TicksFor 1 c → misses c ≡ false
+ticks-next even t = refl
+ticks-next (slow zero next) t = absurd (omega (arith, t))
+ticks-next (slow (suc k) next) t = refl
+ticks-next (every gap zero) t = absurd (omega (arith, t))
+ticks-next (every gap (suc k)) t = refl
+
+pub still-news : (w : CableWorld) → StillTurnsPass → length w.nodes ≡ length w.cabling → IsStillFor 1 w → AllTick 1 w →
     IsNewWithin 0 (map seen_before_turn w.nodes) (turn w)
-still-news w law e h = subst (IsNewWithin 0 (map seen_before_turn w.nodes)) (sym (still-turn law w e h)) (λ k s y at now out.
+still-news w law e h ticks = subst (IsNewWithin 0 (map seen_before_turn w.nodes)) (sym (still-turn law w e h)) (λ k s y at now out.
     let found = before-turn w.nodes k s at in
     let x = found.0 in
     let idle : IsIdleTick x = subst IsIdleTick (get_or_from_slice_get w.nodes k x x found.1) (h.idle k x (slice_get_within w.nodes k x found.1) 0 (omega arith)) in
@@ -268,6 +282,7 @@ still-news w law e h = subst (IsNewWithin 0 (map seen_before_turn w.nodes)) (sym
     (sym now ∙ slice_get-map (after_ticks 1) w.nodes k ∙ ap (option_map (after_ticks 1)) found.1) in
     let none = still-silent 1 w.wires (h.silent (omega arith)) in
     subst (λ (u : Seen). ShowsNothingNew (after_still 1 w) k u y.state.view) (sym found.2) (record {
+      ticked = ticks-next x.clock (ticks k x found.1);
       view = ap (λ (z : PortNode). z.state.view) is ∙ timer-alone x idle ∙ ap (λ (z : PortNode). record x.state.view { timer = z.state.view.timer }) (sym is);
       sent = λ port. drop-old (slice_index_or [] port 0) _
           (subst (All IsOld) (sym (silent-wire (after_still 1 w) (record { node = k; port = port }) none)) (λ i d inside. absurd (omega (arith, inside))));

@@ -1,5 +1,6 @@
 -- The lines of a node stand among those of all nodes.
-use Rattle.std.proofs.Common.{◌≡◌, ◌++◌, ◌+◌, ℕ, zero, suc, List, [], ◌∷◌, Some, map, slice_get, sym, ◌∙◌, ap, arith}
+use Rattle.std.proofs.Common.{◌≡◌, ◌++◌, ◌+◌, ℕ, Bool, zero, suc, List, [], ◌∷◌, Some, map, slice_get, sym, ◌∙◌, ap, arith}
+use Rattle.std.specs.Prelude.{codes}
 use Rattle.std.proofs.lemmas.List.{append_assoc}
 use Rattle.cable_world.proofs.Lemmas.{some-same}
 use Rattle.cable_world.specs.World.{CableWorld}
@@ -7,9 +8,9 @@ use Rattle.cable_world.specs.Turn.{turn, turn_at}
 use Rattle.cable_world.specs.ByNumber.{NodesTakeTurns}
 use Rattle.port_state.specs.Machine.{PortNode}
 use Rattle.script_text.specs.ReportText.{Names}
-use Rattle.script_trace.specs.Event.{Seen, node_lines}
-use Rattle.script_trace.specs.Step.{all_lines, seen_before_turn, seen_before_act, counts_from, turn_lines, act_lines}
-use Rattle.script_trace.specs.NodeShown.{StandIn, TurnsShowEachNode, ActsShowEachNode}
+use Rattle.script_trace.specs.Event.{Seen, head, line_of, miss_line, changed_lines, node_lines}
+use Rattle.script_trace.specs.Step.{all_lines, seen_before_turn, seen_before_act, node_before_act, turn_lines, act_lines}
+use Rattle.script_trace.specs.NodeShown.{StandIn, TurnsShowEachNode, MissedTurnsAreShown, ActsShowEachNode}
 
 among :
     (names : Names) (w : CableWorld) (first i k : ℕ) (seen : List Seen) (nodes : List PortNode) (s : Seen) (x : PortNode) →
@@ -41,12 +42,11 @@ before-turn (y ∷ nodes) (suc i) x is = before-turn nodes i x is
 
 pub before-act :
     (w : CableWorld) (first i k : ℕ) (nodes : List PortNode) (x : PortNode) → k ≡ first + i → slice_get nodes i ≡ Some x →
-    slice_get (seen_before_act w first nodes) i ≡ Some (record { view = x.state.view; there = counts_from w k 0 x.state.view.ports })
+    slice_get (seen_before_act w first nodes) i ≡ Some (node_before_act w k x)
 before-act w first i k [] x at is = absurd cc
 before-act w first zero k (y ∷ nodes) x at is =
     let here : first ≡ k = omega (arith, at) in
-    ap (λ (j : ℕ). Some (record { view = y.state.view; there = counts_from w j 0 y.state.view.ports })) here
-    ∙ ap (λ (z : PortNode). Some (record { view = z.state.view; there = counts_from w k 0 z.state.view.ports })) (some-same y x is)
+    ap (λ (j : ℕ). Some (node_before_act w j y)) here ∙ ap (λ (z : PortNode). Some (node_before_act w k z)) (some-same y x is)
 before-act w first (suc i) k (y ∷ nodes) x at is = before-act w (first + 1) i k nodes x (omega (arith, at)) is
 
 pub turn-shown : NodesTakeTurns → TurnsShowEachNode
@@ -54,6 +54,19 @@ unfolding turn_lines
 turn-shown nodes names w k x count at =
     among names (turn w) 0 k k (map seen_before_turn w.nodes) (turn w).nodes (seen_before_turn x) (turn_at w k x).node
     (omega arith) (before-turn w.nodes k x at) (nodes w k x count at)
+
+-- the line of a turn that the clock misses is the first of the node
+pub missed-shown : NodesTakeTurns → MissedTurnsAreShown
+missed-shown nodes names w k x count at late =
+    let front = head names (turn w).turns k in
+    let changed = changed_lines front (turn w) k (seen_before_turn x) (turn_at w k x).node.state.view in
+    let whole = turn-shown nodes names w k x count at in (
+      whole.0,
+      changed ++ whole.1,
+      whole.2
+          ∙ ap (λ (b : Bool). whole.0 ++ ((miss_line front b ++ changed) ++ whole.1)) late
+          ∙ ap (λ (l : List ℕ). whole.0 ++ l) (append_assoc (line_of front (codes " misses a tick")) changed whole.1),
+    )
 
 pub act-shown : ActsShowEachNode
 unfolding act_lines

@@ -1,5 +1,5 @@
 -- Lists that are gone through by number.
-use Rattle.std.proofs.Common.{◌≡◌, ◌++◌, ◌+◌, ◌<◌, ◌≤◌, ℕ, List, [], ◌∷◌, length, drop, map, get_or, Some, zero, suc, refl, sym, ◌∙◌, ap, append_assoc, add-one, arith}
+use Rattle.std.proofs.Common.{◌≡◌, ◌++◌, ◌+◌, ◌<◌, ◌≤◌, ℕ, Bool, false, List, [], ◌∷◌, length, drop, map, get_or, Some, zero, suc, refl, sym, ◌∙◌, ap, append_assoc, add-one, arith}
 use Rattle.std.specs.Prelude.{codes, slice_get, slice_index_or}
 use Rattle.std.proofs.Math.Seq.{drop-cons}
 use Rattle.std.specs.Option.{option_map}
@@ -7,7 +7,9 @@ use Rattle.std.proofs.lemmas.List.{append-nil}
 use Rattle.std.proofs.lemmas.Option.{slice_get-map, slice_get_within, get_or_from_slice_get}
 use Rattle.port_state.specs.declared.ports.PortView.{PortView}
 use Rattle.port_state.specs.declared.view.View.{View}
+use Rattle.port_state.specs.Clock.{misses}
 use Rattle.port_state.specs.Machine.{PortNode}
+use Rattle.cable_world.proofs.Lemmas.{some-same}
 use Rattle.cable_world.specs.World.{CableWorld, wire_of}
 use Rattle.script_text.specs.ReportText.{Names, numbered, spaced}
 use Rattle.script_trace.specs.Event.{Seen, head, sent_lines, all_sent_lines}
@@ -88,28 +90,39 @@ next-sent front w node k n there ports before after all h count is so =
 
 -- ---- nodes
 
-seen-of : View → List ℕ → Seen
-seen-of v there = record { view = v; there = there }
+seen-of : View → List ℕ → Bool → Seen
+seen-of v there missed = record { view = v; there = there; missed = missed }
 
 -- what a node showed before a turn, or before an act
 pub turn-seen :
-    (nodes : List PortNode) (k : ℕ) (x : PortNode) (v : View) (none : List ℕ) → slice_get nodes k ≡ Some x → v ≡ x.state.view →
-    none ≡ [] → slice_get (map seen_before_turn nodes) k ≡ Some (record { view = v; there = none })
+    (nodes : List PortNode) (k : ℕ) (x : PortNode) (v : View) (none : List ℕ) (missed : Bool) → slice_get nodes k ≡ Some x →
+    v ≡ x.state.view → none ≡ [] → missed ≡ misses x.clock →
+    slice_get (map seen_before_turn nodes) k ≡ Some (record { view = v; there = none; missed = missed })
 unfolding seen-of
-turn-seen nodes k x v none at is empty =
+turn-seen nodes k x v none missed at is empty so =
     slice_get-map seen_before_turn nodes k ∙ ap (option_map seen_before_turn) at
-    ∙ ap (λ (u : View). Some (seen-of u [])) (sym is) ∙ ap (λ (l : List ℕ). Some (seen-of v l)) (sym empty)
+    ∙ ap (λ (u : View). Some (seen-of u [] (misses x.clock))) (sym is)
+    ∙ ap (λ (l : List ℕ). Some (seen-of v l (misses x.clock))) (sym empty)
+    ∙ ap (λ (b : Bool). Some (seen-of v none b)) (sym so)
+
+-- whichever call told of the node
+pub missed-of :
+    (nodes : List PortNode) (k : ℕ) (x y : PortNode) (missed : Bool) → slice_get nodes k ≡ Some x → slice_get nodes k ≡ Some y →
+    missed ≡ misses y.clock → missed ≡ misses x.clock
+missed-of nodes k x y missed at also is =
+    is ∙ ap (λ (z : PortNode). misses z.clock) (some-same y x (sym also ∙ at))
 
 pub act-seen :
     (w : CableWorld) (nodes : List PortNode) (k : ℕ) (x : PortNode) (v : View) (ports : List PortView) (there : List ℕ) →
     slice_get nodes k ≡ Some x → v ≡ x.state.view → ports ≡ v.ports → there ≡ counts_from w k 0 ports →
-    slice_get (seen_before_act w 0 nodes) k ≡ Some (record { view = v; there = there })
+    slice_get (seen_before_act w 0 nodes) k ≡ Some (record { view = v; there = there; missed = false })
 unfolding seen-of
 act-seen w nodes k x v ports there at is its counted =
     let same : there ≡ counts_from w k 0 x.state.view.ports =
     counted ∙ ap (counts_from w k 0) (its ∙ ap (λ (u : View). u.ports) is) in
     before-act w 0 k k nodes x (omega arith) at
-    ∙ ap (λ (l : List ℕ). Some (seen-of x.state.view l)) (sym same) ∙ ap (λ (u : View). Some (seen-of u there)) (sym is)
+    ∙ ap (λ (l : List ℕ). Some (seen-of x.state.view l false)) (sym same)
+    ∙ ap (λ (u : View). Some (seen-of u there false)) (sym is)
 
 no-node : (names : Names) (w : CableWorld) (k : ℕ) (seen : List Seen) →
     all_lines names w k seen [] ≡ []

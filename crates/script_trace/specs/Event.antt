@@ -99,6 +99,12 @@ id_line front before after =
     cond (is_none before.id && is_some after.id)
     (line_of front (numbered (codes " phy_ID ") (unwrap_or after.id 0))) []
 
+-- ---- clocks
+
+-- the clock of the node missed the turn
+abbrev pub miss_line : List ℕ → Bool → List ℕ
+miss_line front missed = cond missed (line_of front (codes " misses a tick")) []
+
 -- ---- signals
 
 -- the standard's name of a signal
@@ -132,15 +138,17 @@ all_sent_lines front w node there k (p ∷ ports) =
 
 -- ---- a node
 
--- what a node showed before, and how many signals were under way on each of its wires
+-- what a node showed before, how many signals were under way on each of its wires, and whether what
+-- comes since is a turn that its clock misses
 pub record Seen : Type 0 where
   pub view : View
   pub there : List ℕ
+  pub missed : Bool
 
--- A node, which showed this before and now has this view, in lines that begin so: what state it
--- entered, which roles its ports took, its coin, its ID, and what it sent.
-abbrev pub lines_at : List ℕ → CableWorld → NodeNumber → Seen → View → List ℕ
-lines_at front w node seen v =
+-- What changed at a node, which showed this before and now has this view, in lines that begin so: what
+-- state it entered, which roles its ports took, its coin, its ID, and what it sent.
+abbrev pub changed_lines : List ℕ → CableWorld → NodeNumber → Seen → View → List ℕ
+changed_lines front w node seen v =
     state_line front seen.view v
     ++ (timeout_line front seen.view v
     ++ (parent_line front seen.view v
@@ -148,6 +156,10 @@ lines_at front w node seen v =
     ++ (coin_line front seen.view v
     ++ (id_line front seen.view v
     ++ all_sent_lines front w node seen.there 0 v.ports)))))
+
+-- all of the node: before that its clock missed the turn, if it did
+abbrev pub lines_at : List ℕ → CableWorld → NodeNumber → Seen → View → List ℕ
+lines_at front w node seen v = miss_line front seen.missed ++ changed_lines front w node seen v
 
 -- the same in lines that begin with the turn and the name of the node
 abbrev pub node_lines : Names → CableWorld → NodeNumber → Seen → View → List ℕ

@@ -15,9 +15,10 @@ picked set k [] = []
 picked set k (s ∷ seen) =
     if bit_at set k == 1 then s ∷ picked set (k + 1) seen else picked set (k + 1) seen
 
--- A node, which showed this before, now has this view: no more than its timer is other, and behind the
--- signals that were there before none was sent just now.
+-- A node, which showed this before, now has this view: its clock missed no turn, no more than its timer
+-- is other, and behind the signals that were there before none was sent just now.
 pub record ShowsNothingNew (w : CableWorld) (k : NodeNumber) (s : Seen) (v : View) : Type 0 where
+  pub ticked : s.missed ≡ false
   pub view : v ≡ record s.view { timer = v.timer }
   pub sent :
       (port : PortNumber) →

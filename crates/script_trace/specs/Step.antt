@@ -1,7 +1,8 @@
 -- What happens in a turn and at an act: the nodes by rising number.
-use Rattle.std.specs.Prelude.{ℕ, ◌+◌, List, [], ◌∷◌, ◌++◌, map, length}
+use Rattle.std.specs.Prelude.{ℕ, ◌+◌, false, List, [], ◌∷◌, ◌++◌, map, length}
 use Rattle.port_state.specs.declared.ports.PortView.{PortView}
 use Rattle.port_state.specs.Ports.{PortNumber}
+use Rattle.port_state.specs.Clock.{misses}
 use Rattle.port_state.specs.Machine.{PortNode}
 use Rattle.cable_world.specs.World.{CableWorld, NodeNumber, wire_of}
 use Rattle.cable_world.specs.Turn.{turn}
@@ -22,7 +23,7 @@ lines_since names seen w = all_lines names w 0 seen w.nodes
 
 -- in a turn each signal ages, so that none of those before is counted as just sent
 abbrev pub seen_before_turn : PortNode → Seen
-seen_before_turn x = record { view = x.state.view; there = [] }
+seen_before_turn x = record { view = x.state.view; there = []; missed = misses x.clock }
 
 -- what happens in the next turn
 unfoldable pub turn_lines : Names → CableWorld → List ℕ
@@ -36,12 +37,18 @@ counts_from w node k [] = []
 counts_from w node k (p ∷ ports) =
     length (wire_of w (record { node = node; port = k })).signals ∷ counts_from w node (k + 1) ports
 
--- the nodes from number k on, before an act
+-- node number k, before an act, in which no clock goes on
+abbrev pub node_before_act : CableWorld → NodeNumber → PortNode → Seen
+node_before_act w k x = record {
+  view = x.state.view;
+  there = counts_from w k 0 x.state.view.ports;
+  missed = false;
+}
+
+-- the nodes from number k on
 abbrev pub seen_before_act : CableWorld → NodeNumber → List PortNode → List Seen
 seen_before_act w k [] = []
-seen_before_act w k (x ∷ nodes) =
-    record { view = x.state.view; there = counts_from w k 0 x.state.view.ports }
-    ∷ seen_before_act w (k + 1) nodes
+seen_before_act w k (x ∷ nodes) = node_before_act w k x ∷ seen_before_act w (k + 1) nodes
 
 -- what an act does that leads from the first world to the second
 unfoldable pub act_lines : Names → CableWorld → CableWorld → List ℕ

@@ -3,7 +3,7 @@ ghost use Rattle.script_trace.specs.OneTrace.{ScriptsHaveOneTrace, TracedScripts
 ghost use Rattle.script_trace.specs.OneTelling.{RunsAreToldOnce, RunsAreTold};
 ghost use Rattle.script_trace.specs.Shown.{TurnsShowWhatIsSent};
 ghost use Rattle.script_trace.specs.ActShown.{ActsShowTheirResets};
-ghost use Rattle.script_trace.specs.NodeShown.{TurnsShowEachNode, ActsShowEachNode};
+ghost use Rattle.script_trace.specs.NodeShown.{TurnsShowEachNode, MissedTurnsAreShown, ActsShowEachNode};
 ghost use Rattle.script_trace.specs.waves.OneDump.{ScriptsHaveOneDump, DumpedScriptsAreTold, DumpFaultsAreTold, RunsHaveDumps};
 
 use cable_world::{acts_keep, turn_by_number, worlds_stay_lawful};
@@ -61,9 +61,10 @@ pub fn acts_show_their_resets()
 
 /// A law: the lines of a turn, and those of an act, have for each node those of what is other then: the
 /// state that it entered, its roles, its coin and its ID, and then what it sent. In a turn that is what
-/// its step of the turn changed.
+/// its step of the turn changed. Before them stands a line for a turn that the node's clock misses.
 pub fn each_node_is_shown()
     ensures turns { TurnsShowEachNode }
+    ensures missed { MissedTurnsAreShown }
     ensures acts { ActsShowEachNode }
 {
     turn_by_number();

@@ -2,7 +2,7 @@
 ghost use Rattle.std.specs.Prelude.{◌≡◌, ◌++◌, ◌<◌, codes, length, OnOk};
 ghost use Rattle.port_state.specs.Ports.{port_is};
 ghost use Rattle.script_text.specs.ReportText.{numbered, spaced};
-ghost use Rattle.script_trace.specs.Event.{line_of, state_words, state_number, enters, state_line, timeout_line, parent_line, child_line, child_lines, coin_digit, coin_line, id_line, signal_words, sent_line};
+ghost use Rattle.script_trace.specs.Event.{line_of, miss_line, state_words, state_number, enters, state_line, timeout_line, parent_line, child_line, child_lines, coin_digit, coin_line, id_line, signal_words, sent_line};
 
 use cable_world::Travelling;
 use port_state::{Phase, PortView, PortViews, Signal, View};
@@ -49,6 +49,16 @@ fn put_number_line(
     put_numbered(out, word, u64::from(number))?;
     out.extend_from_slice(words)?;
     out.push(b'\n')?;
+    Ok(())
+}
+
+/// Appends the line of a turn that the node's clock missed, if it did.
+pub(crate) fn put_miss(out: &mut Vec<u8>, front: &[u8], missed: bool) -> Result<(), OutOfMemory>
+    ensures { OnOk result (out.new.items ≡ out.old.items ++ miss_line front.now missed) }
+{
+    if missed {
+        put_line(out, front, b" misses a tick")?;
+    }
     Ok(())
 }
 

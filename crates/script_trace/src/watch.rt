@@ -2,12 +2,13 @@
 ghost use Rattle.std.specs.Prelude.{◌≡◌, ◌<◌, ◌≤◌, ◌++◌, List, Some, true, length, map, slice_get, slice_index_or, drop, IfOk, OnOk};
 ghost use Rattle.port_state.specs.Machine.{PortNode};
 ghost use Rattle.cable_world.specs.World.{wire_of};
-ghost use Rattle.script_trace.specs.Event.{Seen, lines_at, sent_lines, all_sent_lines};
+ghost use Rattle.script_trace.specs.Event.{Seen, changed_lines, lines_at, sent_lines, all_sent_lines};
 ghost use Rattle.script_trace.specs.News.{picked, IsEnough};
 ghost use Rattle.script_trace.specs.Step.{lines_since, seen_before_turn, seen_before_act, counts_from};
 
 use crate::node::{
-    begin_lines, put_children, put_coin, put_id, put_parent, put_sent_one, put_state, put_timeout,
+    begin_lines, put_children, put_coin, put_id, put_miss, put_parent, put_sent_one, put_state,
+    put_timeout,
 };
 use cable_world::ShowsWires;
 use cabling::{End, NodeSet};
@@ -16,11 +17,13 @@ use script_text::{Name, OutOfMemory, put_numbered};
 use std::alloc::Global;
 use std::marker::Model;
 
-/// What a node shows, and how many signals are under way on each of its wires.
+/// What a node shows, how many signals are under way on each of its wires, and whether what comes next is
+/// a turn that its clock misses.
 #[derive(Drop)]
 pub struct Seen {
     view: View,
     there: Vec<usize>,
+    missed: bool,
 }
 
 impl Model for Seen {
@@ -28,7 +31,11 @@ impl Model for Seen {
 
     ghost Value = { Seen };
 
-    ghost view = { λ s. record { view = s.view; there = s.there.items } };
+    ghost view = { λ s. record {
+      view = s.view;
+      there = s.there.items;
+      missed = s.missed;
+    } };
 }
 
 impl Seen {
@@ -44,6 +51,13 @@ impl Seen {
         ensures { result.now ≡ self.now.there }
     {
         self.there.as_slice()
+    }
+
+    /// Whether its clock misses the turn that comes next.
+    pub fn missed(&self) -> bool
+        ensures { result ≡ self.now.missed }
+    {
+        self.missed
     }
 }
 
@@ -67,6 +81,7 @@ pub fn seen_before_turn<W: ShowsWires>(
         seen.push(Seen {
             view: world.view(node as u8),
             there: Vec::new(alloc),
+            missed: world.misses(node as u8),
         })?;
     }
     Ok(seen)
@@ -111,7 +126,11 @@ pub fn seen_before_act<W: ShowsWires>(
         }
         let view = world.view(node as u8);
         let there = counts(alloc, world, node as u8, &view.ports)?;
-        seen.push(Seen { view, there })?;
+        seen.push(Seen {
+            view,
+            there,
+            missed: false,
+        })?;
     }
     Ok(seen)
 }
@@ -167,6 +186,27 @@ fn put_all_sent<W: ShowsWires>(
     Ok(())
 }
 
+/// Appends what changed at a node since it showed this, in lines that begin with `front`.
+fn put_changed<W: ShowsWires>(
+    out: &mut Vec<u8>,
+    front: &[u8],
+    world: &W,
+    node: u8,
+    seen: &Seen,
+    view: &View,
+) -> Result<(), OutOfMemory>
+    ensures { OnOk result (out.new.items
+        ≡ out.old.items ++ changed_lines front.now (W.world world.now) node seen.now view.now) }
+{
+    put_state(out, front, &seen.view, view)?;
+    put_timeout(out, front, &seen.view, view)?;
+    put_parent(out, front, &seen.view, view)?;
+    put_children(out, front, &seen.view.ports, &view.ports)?;
+    put_coin(out, front, &seen.view, view)?;
+    put_id(out, front, &seen.view, view)?;
+    put_all_sent(out, front, world, node, &seen.there, &view.ports)
+}
+
 /// Appends what happened at a node since it showed this, in lines that begin with `front`.
 fn put_node<W: ShowsWires>(
     out: &mut Vec<u8>,
@@ -179,13 +219,8 @@ fn put_node<W: ShowsWires>(
     ensures { OnOk result (out.new.items
         ≡ out.old.items ++ lines_at front.now (W.world world.now) node seen.now view.now) }
 {
-    put_state(out, front, &seen.view, view)?;
-    put_timeout(out, front, &seen.view, view)?;
-    put_parent(out, front, &seen.view, view)?;
-    put_children(out, front, &seen.view.ports, &view.ports)?;
-    put_coin(out, front, &seen.view, view)?;
-    put_id(out, front, &seen.view, view)?;
-    put_all_sent(out, front, world, node, &seen.there, &view.ports)
+    put_miss(out, front, seen.missed)?;
+    put_changed(out, front, world, node, seen, view)
 }
 
 /// Appends what happened at a node since it showed what stands at a place, if something does, in lines that

@@ -1,7 +1,7 @@
 //! What stands in a dump before the first change.
 ghost use Rattle.std.specs.Prelude.{◌≡◌, ◌≤◌, ◌<◌, [], ◌∷◌, ◌++◌, length, IfOk, OnOk};
 ghost use Rattle.script_trace.specs.waves.Value.{node_code, port_code};
-ghost use Rattle.script_trace.specs.waves.Head.{all_port_values, all_port_variables, all_scopes, all_values, head, level_variables, node_scope, node_values, node_variables, opening, own_values, picoseconds, port_values, port_variable, port_variables, role_variables, unit, variable};
+ghost use Rattle.script_trace.specs.waves.Head.{all_port_values, all_port_variables, all_scopes, all_values, head, level_variables, missed_variable, node_scope, node_values, node_variables, opening, own_values, picoseconds, port_values, port_variable, port_variables, role_variables, unit, variable};
 
 use crate::legend::Legend;
 use crate::waves_listener::Waves;
@@ -149,22 +149,35 @@ fn put_node_variables(out: &mut Vec<u8>, node: u8) -> Result<(), OutOfMemory>
     put_variable(out, node, b"reg 1", b'r', b"root")
 }
 
-/// Appends the module of a node.
+/// Appends the variable of the turns that a node's clock misses, if the clock isn't even.
+fn put_missed_variable(out: &mut Vec<u8>, node: u8, steady: bool) -> Result<(), OutOfMemory>
+    requires { node ≤ 62 }
+    ensures { OnOk result (out.new.items ≡ out.old.items ++ missed_variable node steady) }
+{
+    if steady {
+        return Ok(());
+    }
+    put_variable(out, node, b"event 1", b'm', b"missed")
+}
+
+/// Appends the module of a node, whose clock is even or isn't.
 fn put_scope(
     out: &mut Vec<u8>,
     names: &[Name],
     node: u8,
+    steady: bool,
     ports: &PortViews,
 ) -> Result<(), OutOfMemory>
     requires node { node ≤ 62 }
     requires named { node < length names.now }
     ensures { OnOk result (out.new.items
-        ≡ out.old.items ++ node_scope names.now node ports.now) }
+        ≡ out.old.items ++ node_scope names.now node steady ports.now) }
 {
     out.extend_from_slice(b"$scope module")?;
     put_name(out, names, node)?;
     out.extend_from_slice(b" $end\n")?;
     put_node_variables(out, node)?;
+    put_missed_variable(out, node, steady)?;
     put_all_port_variables(out, node, ports)?;
     out.extend_from_slice(b"$upscope $end\n")?;
     Ok(())
@@ -199,7 +212,8 @@ fn put_scopes<W: WorldRun>(out: &mut Vec<u8>, names: &[Name], world: &W) -> Resu
 {
     for node in 0..names.len() {
         let view = world.view(node as u8);
-        put_scope(out, names, node as u8, &view.ports)?;
+        let steady = world.is_even(node as u8);
+        put_scope(out, names, node as u8, steady, &view.ports)?;
     }
     Ok(())
 }

@@ -10,7 +10,7 @@ ghost use Rattle.script_trace.specs.waves.Moment.{all_changes, at_time, time_of,
 use crate::legend::Legend;
 use crate::listener::Listener;
 use crate::watch::Seen;
-use crate::waves_node::{put_id, put_root, put_state, put_timeout};
+use crate::waves_node::{put_id, put_miss, put_root, put_state, put_timeout};
 use crate::waves_port::{put_gone, put_role, put_sent_one, put_shown, there_at};
 use cable_world::ShowsWires;
 use cabling::{End, NodeSet};
@@ -109,6 +109,7 @@ fn put_node<W: ShowsWires>(
     ensures { OnOk result (out.new.items
         ≡ out.old.items ++ node_changes (W.world world.now) node seen.now view.now) }
 {
+    put_miss(out, node, seen.missed())?;
     put_state(out, node, seen.view(), view)?;
     put_id(out, node, seen.view(), view)?;
     put_timeout(out, node, seen.view(), view)?;

@@ -1,7 +1,7 @@
 //! What comes to be another value of a node's own variables in a dump.
 ghost use Rattle.std.specs.Prelude.{◌≡◌, ◌≤◌, ◌<◌, ◌++◌, OnOk};
 ghost use Rattle.script_trace.specs.waves.Value.{flag, id_number, is_root, state_lines, state_value};
-ghost use Rattle.script_trace.specs.waves.Change.{id_change, root_change, state_change, timeout_change};
+ghost use Rattle.script_trace.specs.waves.Change.{id_change, miss_change, root_change, state_change, timeout_change};
 
 use crate::node::state_number;
 use crate::waves_value::{put_node_line, put_node_number};
@@ -57,6 +57,17 @@ pub(crate) fn put_state_lines(out: &mut Vec<u8>, node: u8, phase: Phase) -> Resu
 {
     put_node_line(out, node, b's', state_value(phase))?;
     put_node_number(out, node, b'c', 3, u32::from(state_number(phase)))
+}
+
+/// Appends that the clock missed the turn, if it did.
+pub(crate) fn put_miss(out: &mut Vec<u8>, node: u8, missed: bool) -> Result<(), OutOfMemory>
+    requires { node ≤ 62 }
+    ensures { OnOk result (out.new.items ≡ out.old.items ++ miss_change node missed) }
+{
+    if missed {
+        put_node_line(out, node, b'm', b"1")?;
+    }
+    Ok(())
 }
 
 /// Appends the state, if it is another.

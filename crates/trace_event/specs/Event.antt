@@ -7,7 +7,7 @@ use Rattle.port_state.specs.declared.signal.Phase.{Phase}
 use Rattle.port_state.specs.declared.signal.Phase.TheVariants as phase
 use Rattle.trace_event.specs.declared.event.Part.{Part}
 use Rattle.trace_event.specs.declared.event.What.{What}
-use Rattle.trace_event.specs.declared.event.What.TheVariants.{Plug, Pull, Reset, Hold, Config, Enters, Timeout, ToParent, ToChild, Coin, PhyId, Sends}
+use Rattle.trace_event.specs.declared.event.What.TheVariants.{Plug, Pull, Reset, Hold, Config, Enters, Timeout, ToParent, ToChild, Coin, PhyId, Sends, Misses}
 use Rattle.trace_event.specs.declared.event.Event.{Event}
 use Rattle.trace_event.specs.Stands.{Stands, bytes_of, IsNameIn}
 
@@ -77,6 +77,7 @@ what_words text (Coin node coin wait) =
     name_word text node ++ (codes " coin" ++ (coin_digit coin ++ numbered (codes " wait ") wait))
 what_words text (PhyId node id) = name_word text node ++ numbered (codes " phy_ID ") id
 what_words text (Sends node port signal) = port_words text node port ++ (codes " sends" ++ signal_words signal)
+what_words text (Misses node) = name_word text node ++ codes " misses a tick"
 
 -- `turn T`, what happens, and a line feed
 abbrev pub event_line : List ℕ → Event → List ℕ
@@ -98,6 +99,7 @@ HasNames text (ToChild node port) = IsNameIn text node
 HasNames text (Coin node coin wait) = IsNameIn text node
 HasNames text (PhyId node id) = IsNameIn text node
 HasNames text (Sends node port signal) = IsNameIn text node
+HasNames text (Misses node) = IsNameIn text node
 
 -- ---- numbers
 
@@ -120,6 +122,7 @@ HasNumbers (ToChild node port) = port < 4294967296
 HasNumbers (Coin node coin wait) = IsShort coin × (wait < 4294967296)
 HasNumbers (PhyId node id) = id < 4294967296
 HasNumbers (Sends node port signal) = port < 4294967296
+HasNumbers (Misses node) = Unit {0}
 
 -- ---- what stands at a place
 

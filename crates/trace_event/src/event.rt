@@ -78,6 +78,10 @@ pub enum What {
         port: u32,
         signal: Signal,
     },
+    /// A node's clock misses the turn, so that the node doesn't tick in it.
+    Misses {
+        node: Part,
+    },
 }
 
 /// An event: what happens once so many turns are done.

@@ -112,6 +112,19 @@ pub(crate) fn timeout_at(text: &[u8], at: usize) -> Option<WhatRead>
     Some(WhatRead { what, next })
 }
 
+/// A turn that the clock of a node misses.
+pub(crate) fn misses_at(text: &[u8], at: usize) -> Option<WhatRead>
+    ensures found { IfSome result (λ r. IsWhatAt text.now at r.what r.next) }
+    ensures only { (node : Part) (next : ℕ) →
+        IsWhatAt text.now at (What.Misses node) next → IsSome result }
+{
+    let node = name_at(text, at)?;
+    let behind = word_at(text, node.next, b" misses a tick")?;
+    let next = word_at(text, behind, b"\n")?;
+    let what = What::Misses { node: node.name };
+    Some(WhatRead { what, next })
+}
+
 /// A port to the parent.
 pub(crate) fn parent_at(text: &[u8], at: usize) -> Option<WhatRead>
     ensures found { IfSome result (λ r. IsWhatAt text.now at r.what r.next) }

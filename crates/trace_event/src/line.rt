@@ -7,7 +7,9 @@ ghost use Rattle.trace_event.specs.codings.Kind.{is_act, is_of_node, is_of_port}
 
 use crate::acts::{config_at, hold_at, plug_at, pull_at, reset_at};
 use crate::event::{Event, What};
-use crate::happenings::{child_at, coin_at, enters_at, id_at, parent_at, sends_at, timeout_at};
+use crate::happenings::{
+    child_at, coin_at, enters_at, id_at, misses_at, parent_at, sends_at, timeout_at,
+};
 use crate::words::number_at;
 
 /// What happens, and the place behind its line.
@@ -62,7 +64,10 @@ fn node_at(text: &[u8], at: usize) -> Option<WhatRead>
     if let Some(found) = coin_at(text, at) {
         return Some(found);
     }
-    id_at(text, at)
+    if let Some(found) = id_at(text, at) {
+        return Some(found);
+    }
+    misses_at(text, at)
 }
 
 /// What happens on a port of a node.

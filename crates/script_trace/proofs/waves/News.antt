@@ -1,5 +1,5 @@
 -- What is dumped where nothing is new.
-use Rattle.std.proofs.Common.{◌≡◌, ℕ, suc, ◌+◌, ◌==◌, ◌&&◌, not, Bool, List, [], ◌∷◌, All, Some, drop, cond, slice_get, slice_index_or, refl, sym, ap, subst, arith}
+use Rattle.std.proofs.Common.{◌≡◌, ℕ, suc, ◌+◌, ◌==◌, ◌&&◌, not, Bool, false, List, [], ◌∷◌, All, Some, drop, cond, slice_get, slice_index_or, refl, sym, ap, subst, arith}
 use Rattle.std.proofs.lemmas.Bool.{cond-false}
 use Rattle.std.proofs.lemmas.List.Elements.{All-head, All-tail}
 use Rattle.std.proofs.lemmas.Option.{get_or_from_slice_get}
@@ -30,6 +30,7 @@ none-sent k j (t ∷ ts) h =
     (cond-false (t.age == 0) _ [] (All-head IsOld t ts h)) (none-sent k j ts (All-tail IsOld t ts h))
 
 module _ (w : CableWorld) (k : ℕ) (s : Seen) (t : ℕ)
+    (ticked : s.missed ≡ false)
     (sent : (port : PortNumber) → All IsOld (drop (slice_index_or s.there port 0) (wire_of w (record { node = k; port = port })).signals))
   where
     abbrev later : View
@@ -57,14 +58,15 @@ module _ (w : CableWorld) (k : ℕ) (s : Seen) (t : ℕ)
 
     no-change : node_changes w k s later ≡ []
     no-change =
-        both-none _ _ (none-same (state_number s.view.phase) _) (both-none _ _ (none-same (id_number s.view.id) _)
+        both-none _ _ (cond-false s.missed _ [] ticked)
+        (both-none _ _ (none-same (state_number s.view.phase) _) (both-none _ _ (none-same (id_number s.view.id) _)
         (both-none _ _ (none-same (flag s.view.timed_out) _) (both-none _ _ (none-same (flag (is_root s.view)) _)
         (no-ports 0 s.view.ports (λ i p e.
         let here : i ≡ 0 + i = omega arith in
-        subst (λ (n : ℕ). slice_get s.view.ports n ≡ Some p) here e)))))
+        subst (λ (n : ℕ). slice_get s.view.ports n ≡ Some p) here e))))))
 
 pub no-news : (w : CableWorld) (k : ℕ) (s : Seen) (v : View) → ShowsNothingNew w k s v → node_changes w k s v ≡ []
-no-news w k s v h = subst (λ (z : View). node_changes w k s z ≡ []) (sym h.view) (no-change w k s v.timer h.sent)
+no-news w k s v h = subst (λ (z : View). node_changes w k s z ≡ []) (sym h.view) (no-change w k s v.timer h.ticked h.sent)
 
 no-changes : (w : CableWorld) (k : ℕ) (seen : List Seen) (nodes : List PortNode) → IsOldFrom w k seen nodes →
     all_changes w k seen nodes ≡ []

@@ -1,8 +1,10 @@
 -- Nodes, ports and turns that are gone through by number, and texts of several parts.
-use Rattle.std.proofs.Common.{◌≡◌, ◌++◌, ◌+◌, ◌<◌, ◌≤◌, ℕ, List, [], ◌∷◌, length, drop, Some, refl, sym, ◌∙◌, ap, append_assoc}
+use Rattle.std.proofs.Common.{◌≡◌, ◌++◌, ◌+◌, ◌<◌, ◌≤◌, ℕ, Bool, List, [], ◌∷◌, length, drop, Some, refl, sym, ◌∙◌, ap, append_assoc}
 use Rattle.std.specs.Prelude.{slice_get}
 use Rattle.port_state.specs.declared.ports.PortView.{PortView}
+use Rattle.port_state.specs.Clock.{is_even}
 use Rattle.port_state.specs.Machine.{PortNode}
+use Rattle.cable_world.proofs.Lemmas.{some-same}
 use Rattle.cable_world.specs.World.{CableWorld}
 use Rattle.script_text.specs.ReportText.{Names}
 use Rattle.script_trace.specs.Event.{Seen}
@@ -48,16 +50,24 @@ next-port-values node k ports before after all h new so =
     (all_port_values node k (drop k ports)) all new (ap (all_port_values node k) (some-left ports k h).1) so
 
 pub next-scope :
-    (names : Names) (k : ℕ) (x : PortNode) (ports : List PortView) (nodes : List PortNode)
-    (before after all : List ℕ) → slice_get nodes k ≡ Some x → ports ≡ x.state.view.ports →
-    after ≡ before ++ node_scope names k ports → before ++ all_scopes names k (drop k nodes) ≡ all →
+    (names : Names) (k : ℕ) (x : PortNode) (steady : Bool) (ports : List PortView) (nodes : List PortNode)
+    (before after all : List ℕ) → slice_get nodes k ≡ Some x → steady ≡ is_even x.clock → ports ≡ x.state.view.ports →
+    after ≡ before ++ node_scope names k steady ports → before ++ all_scopes names k (drop k nodes) ≡ all →
     after ++ all_scopes names (k + 1) (drop (k + 1) nodes) ≡ all
-next-scope names k x ports nodes before after all at is new so =
+next-scope names k x steady ports nodes before after all at so is new told =
     let rest = all_scopes names (k + 1) (drop (k + 1) nodes) in
-    one-more before after (node_scope names k ports) rest (all_scopes names k (drop k nodes)) all new
+    one-more before after (node_scope names k steady ports) rest (all_scopes names k (drop k nodes)) all new
     (ap (all_scopes names k) (left-from nodes k x at)
-    ∙ ap (λ (l : List PortView). node_scope names k l ++ rest) (sym is))
-    so
+    ∙ ap (λ (l : List PortView). node_scope names k (is_even x.clock) l ++ rest) (sym is)
+    ∙ ap (λ (b : Bool). node_scope names k b ports ++ rest) (sym so))
+    told
+
+-- whichever call told of the node
+pub steady-of :
+    (nodes : List PortNode) (k : ℕ) (x y : PortNode) (steady : Bool) → slice_get nodes k ≡ Some x → slice_get nodes k ≡ Some y →
+    steady ≡ is_even y.clock → steady ≡ is_even x.clock
+steady-of nodes k x y steady at also is =
+    is ∙ ap (λ (z : PortNode). is_even z.clock) (some-same y x (sym also ∙ at))
 
 pub next-values :
     (k : ℕ) (x : PortNode) (ports : List PortView) (nodes : List PortNode)

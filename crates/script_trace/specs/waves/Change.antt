@@ -1,5 +1,5 @@
 -- What comes to be another value at a node.
-use Rattle.std.specs.Prelude.{ℕ, ◌+◌, ◌==◌, ◌&&◌, not, List, [], ◌∷◌, ◌++◌, codes, cond, drop, slice_index_or}
+use Rattle.std.specs.Prelude.{ℕ, ◌+◌, ◌==◌, ◌&&◌, not, Bool, List, [], ◌∷◌, ◌++◌, codes, cond, drop, slice_index_or}
 use Rattle.port_state.specs.declared.signal.Signal.{Signal}
 use Rattle.port_state.specs.declared.signal.Signal.TheVariants as signal
 use Rattle.port_state.specs.declared.ports.PortView.{PortView}
@@ -16,6 +16,10 @@ abbrev pub unless_same : ℕ → ℕ → List ℕ → List ℕ
 unless_same before after line = cond (before == after) [] line
 
 -- ---- a node's own
+
+-- the clock missed the turn
+abbrev pub miss_change : NodeNumber → Bool → List ℕ
+miss_change node missed = cond missed (node_line node (codes "m") (codes "1")) []
 
 abbrev pub state_change : NodeNumber → View → View → List ℕ
 state_change node u v =
@@ -97,8 +101,9 @@ all_port_changes w node seen v port (p ∷ ports) =
 -- a node, which showed this before and now has this view
 abbrev pub node_changes : CableWorld → NodeNumber → Seen → View → List ℕ
 node_changes w node seen v =
-    state_change node seen.view v
+    miss_change node seen.missed
+    ++ (state_change node seen.view v
     ++ (id_change node seen.view v
     ++ (timeout_change node seen.view v
     ++ (root_change node seen.view v
-    ++ all_port_changes w node seen v 0 v.ports)))
+    ++ all_port_changes w node seen v 0 v.ports))))

@@ -1,10 +1,11 @@
 -- What stands before the first change: the variables, and their values when all nodes have just powered
 -- on.
-use Rattle.std.specs.Prelude.{ℕ, ◌+◌, Option, None, Some, List, [], ◌∷◌, ◌++◌, codes}
+use Rattle.std.specs.Prelude.{ℕ, ◌+◌, Bool, Option, None, Some, List, [], ◌∷◌, ◌++◌, codes, cond}
 use Rattle.port_state.specs.declared.signal.Level.TheVariants as level
 use Rattle.port_state.specs.declared.signal.Phase.TheVariants as phase
 use Rattle.port_state.specs.declared.ports.PortView.{PortView}
 use Rattle.port_state.specs.Ports.{PortNumber}
+use Rattle.port_state.specs.Clock.{is_even}
 use Rattle.port_state.specs.Machine.{PortNode}
 use Rattle.cable_world.specs.World.{CableWorld, NodeNumber}
 use Rattle.script_text.specs.ReportText.{Names, spaced, numbered}
@@ -75,11 +76,18 @@ node_variables node =
     ++ (variable (codes "reg 1") (node_code node (codes "t")) (codes "timeout")
     ++ variable (codes "reg 1") (node_code node (codes "r")) (codes "root"))))
 
+-- that the clock missed a turn: there is no such variable where the clock is even, as it then is in the
+-- whole run
+abbrev pub missed_variable : NodeNumber → Bool → List ℕ
+missed_variable node steady =
+    cond steady [] (variable (codes "event 1") (node_code node (codes "m")) (codes "missed"))
+
 -- the module of a node, by its name
-abbrev pub node_scope : Names → NodeNumber → List PortView → List ℕ
-node_scope names node ports =
+abbrev pub node_scope : Names → NodeNumber → Bool → List PortView → List ℕ
+node_scope names node steady ports =
     codes "$scope module" ++ (spaced names node ++ (codes " $end\n"
-    ++ (node_variables node ++ (all_port_variables node 0 ports ++ codes "$upscope $end\n"))))
+    ++ (node_variables node ++ (missed_variable node steady
+    ++ (all_port_variables node 0 ports ++ codes "$upscope $end\n")))))
 
 -- R0, and no ID
 unfoldable pub own_values : NodeNumber → List ℕ
@@ -95,7 +103,7 @@ node_values node ports = own_values node ++ all_port_values node 0 ports
 abbrev pub all_scopes : Names → NodeNumber → List PortNode → List ℕ
 all_scopes names node [] = []
 all_scopes names node (x ∷ nodes) =
-    node_scope names node x.state.view.ports ++ all_scopes names (node + 1) nodes
+    node_scope names node (is_even x.clock) x.state.view.ports ++ all_scopes names (node + 1) nodes
 
 abbrev pub all_values : NodeNumber → List PortNode → List ℕ
 all_values node [] = []

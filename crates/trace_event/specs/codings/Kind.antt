@@ -1,7 +1,7 @@
 -- Sorts of what happens. No public contract cites this file.
 use Rattle.std.specs.Prelude.{Bool, true, false}
 use Rattle.trace_event.specs.declared.event.What.{What}
-use Rattle.trace_event.specs.declared.event.What.TheVariants.{Plug, Pull, Reset, Hold, Config, Enters, Timeout, ToParent, ToChild, Coin, PhyId, Sends}
+use Rattle.trace_event.specs.declared.event.What.TheVariants.{Plug, Pull, Reset, Hold, Config, Enters, Timeout, ToParent, ToChild, Coin, PhyId, Sends, Misses}
 
 -- an act or a hold
 abbrev pub is_act : What → Bool
@@ -18,6 +18,7 @@ is_of_node (Enters node phase) = true
 is_of_node (Timeout node) = true
 is_of_node (Coin node coin wait) = true
 is_of_node (PhyId node id) = true
+is_of_node (Misses node) = true
 is_of_node what = false
 
 -- something on a port of one
