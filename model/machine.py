@@ -40,6 +40,7 @@ class Node:
         self.resets = 0
         self.sends = []
         self.ends = set(times.values())
+        self.clock = None  # of a slow one: in how many turns it ticks between two that it misses, and before the next
         self.idle = False  # whether no row applied at the last tick, and nothing was heard since
         self.enter_reset(True)  # power-on: as after a reset of its own, with no port to send on
 
@@ -126,6 +127,16 @@ class Node:
             for other in self.connected():
                 if other != port:
                     self.send(other, signal)
+
+    # The clock.
+
+    def misses_turn(self):
+        """Whether the clock misses this turn; then it goes on to the next."""
+        if not self.clock:
+            return False
+        between, before = self.clock
+        self.clock = between, before - 1 if before else between
+        return not before
 
     # A tick: the timer rises, and then at most one row applies, that of the node's phase.
 

@@ -9,10 +9,10 @@ from .machine import Node
 from .maps import maps_text
 from .reach import reached
 from .scripts import lines_of, parse, words_of
-from .times import profile, real_times, suit, turns_to_settle
+from .times import profile, real_times, suit, turns_to_settle, widened
 from .world import Fault, World
 
-STAGES = {"delay": 1, "times": 2, "node": 3}
+STAGES = {"delay": 1, "times": 2, "node": 3, "clock": 4}
 MAX_TURNS = 2000000
 MAX_MAPS = 100
 
@@ -33,7 +33,7 @@ class Script:
     def __init__(self, listener=None):
         self.delay, self.times = 4, profile(4)
         self.nanoseconds = None
-        self.stage = 0  # how far the lines have come in the order `delay`, `times`, `node`, all else
+        self.stage = 0  # how far the lines have come in the order `delay`, `times`, `node`, `clock`, all else
         self.world = World(self.delay, [])
         self.world.listener = listener
         self.node_of = {}
@@ -73,7 +73,7 @@ class Script:
     # Lines that say how nodes are made.
 
     def enter_stage(self, verb):
-        stage = STAGES.get(verb, 4)
+        stage = STAGES.get(verb, 5)
         if stage < self.stage or stage == self.stage and verb in ("delay", "times"):
             raise Fault("Late")
         self.stage = stage
@@ -104,6 +104,21 @@ class Script:
         force = bool(keys.get("force", 0))
         self.world.nodes.append(Node(name, ports, times, traits, gap, resets_gap, force, coins))
         self.world.changed.append(0)
+
+    def line_clock(self, form, name, parts, first=None):
+        node = self.world.nodes[self.node(name)]
+        if node.clock:
+            raise Fault("Twice")
+        between = 1000000 // parts
+        self.times = widened(self.times, node.times)
+        suits = suit(self.times, self.delay, slow=True)
+        if between < node.times["long"] or not suits:
+            raise Fault("Range")
+        node.clock = between, between if first is None else first - 1
+
+    def turns_to_settle(self):
+        slow = any(node.clock for node in self.world.nodes)
+        return turns_to_settle(self.times, self.delay, len(self.world.nodes), slow)
 
     def node(self, name):
         if name not in self.node_of:
@@ -145,7 +160,7 @@ class Script:
             self.world.turn()
 
     def line_settle(self, form):
-        self.turn(turns_to_settle(self.times, self.delay, len(self.world.nodes)))
+        self.turn(self.turns_to_settle())
         self.take_report()
 
     def take_report(self):
@@ -209,7 +224,7 @@ class Script:
         node, part, held = self.managed(name)
         if held[registers.BUS_MANAGER_ID] != self.world.nodes[node].id:
             raise Fault("NotManager")
-        turns = turns_to_settle(self.times, self.delay, len(self.world.nodes))
+        turns = self.turns_to_settle()
         if self.world.turns + turns > MAX_TURNS:
             raise Fault("TooManyTurns")
         tree = part["tree"]

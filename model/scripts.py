@@ -13,6 +13,8 @@ LINES = (
     "times 1394a NS",
     "times 1394-1995 NS",
     "node NAME PORTS",  # and pairs of a key and a value
+    "clock NAME PPM",
+    "clock NAME PPM TURN",
     "plug NAME PORT NAME PORT",
     "pull NAME PORT",
     "reset NAME",
@@ -36,6 +38,8 @@ RANGES = {
     "NS": (1, MAX_NUMBER),
     "PORTS": (1, 16),
     "PORT": (0, MAX_NUMBER),
+    "PPM": (1, 1000000),
+    "TURN": (1, 2000000),
     "COUNT": (1, 2000000),
     "TURNS": (1, 65535),
     "ROOT": (0, 62),

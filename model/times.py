@@ -1,4 +1,4 @@
-"""The times of nodes: docs/SCRIPTS.md, 'Nodes', 'Real times' and 'Reports'. A time is a range of turns, of which both
+"""The times of nodes: docs/SCRIPTS.md, 'Nodes', 'Real times', 'Slow clocks' and 'Reports'. A time is a range of turns, of which both
 ends are part."""
 
 from .reach import reached
@@ -41,25 +41,32 @@ def real_times(standard, nanoseconds, delay):
     }
 
 
-def suit(times, delay):
-    """Whether all times in these ranges suit the cables."""
+def widened(times, own):
+    """The ranges, wide enough for a node that has these times and misses turns."""
+    taken = {time: own[time] + own[time] // own["long"] + 1 for time in ("hold", "force", "timeout")}
+    taken.update((time, own[time] + 1) for time in ("short", "long"))
+    return {time: (low, max(high, taken[time])) for time, (low, high) in times.items()}
+
+
+def suit(times, delay, slow=False):
+    """Whether all times in these ranges suit the cables; `slow` if a clock misses turns."""
     conditions = {
         "a node counts so far": max(high for _, high in times.values()) <= 65535,
         "a hold goes round a ring": 64 * delay <= times["hold"][0],
         "a short wait goes there and back": 2 * delay < times["short"][0],
         "a long wait is that much longer": times["short"][1] + 2 * delay <= times["long"][0],
-        "a forced node waits": times["hold"][1] + 127 * delay < times["hold"][0] + times["force"][0],
+        "a forced node waits": times["hold"][1] + 127 * (delay + slow) < times["hold"][0] + times["force"][0],
     }
     for condition, holds in conditions.items():
         reached[f"times where {condition}: {holds}"] += 1
     return all(conditions.values())
 
 
-def turns_to_settle(times, delay, nodes):
-    """How many turns `settle` lets pass."""
+def turns_to_settle(times, delay, nodes, slow):
+    """How many turns `settle` lets pass; `slow` if a clock misses turns."""
     hold, force, timeout, long = (times[time][1] for time in ("hold", "force", "timeout", "long"))
     return max(
         delay * (2000 + 4 * nodes * nodes + 8 * nodes),
-        delay * (nodes + 1) + hold + timeout + 1,
-        delay * (14 * nodes + 384) + hold + force + 35 * long + 1,
+        delay * (nodes + 1) + hold + timeout + 1 + (2 if slow else 0),
+        delay * (14 * nodes + 384) + hold + force + 35 * long + 1 + (13 * nodes + 385 if slow else 0),
     )

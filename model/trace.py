@@ -21,8 +21,8 @@ class Listener:
         self.steps = []
         self.out = []
 
-    def stepped(self, node, before, after, sends):
-        self.steps.append((node, before, after, sends))
+    def stepped(self, node, before, after, sends, missed):
+        self.steps.append((node, before, after, sends, missed))
 
     def done(self, turn, act=None):
         """An act, with the words of its line, or a turn."""
@@ -37,15 +37,17 @@ class Trace(Listener):
 
     def write(self, turn, act, steps):
         lines = [act] if act else []
-        for node, before, after, sends in steps:
-            for kind, said in events(before, after, sends):
+        for node, before, after, sends, missed in steps:
+            for kind, said in events(before, after, sends, missed):
                 reached[f"event {kind}"] += 1
                 lines.append(f"{self.nodes[node].name} {said}")
         self.out += [f"turn {turn} {line}\n" for line in lines]
 
 
-def events(before, after, sends):
+def events(before, after, sends, missed):
     """What happened to a node from one snapshot to the next, in the order of the table: kinds of lines, and lines."""
+    if missed:
+        yield "misses", "misses a tick"
     if after["phase"] != before["phase"] or after["resets"] != before["resets"]:
         yield "enters", f"enters {after['phase']}"
     if after["timed_out"] and not before["timed_out"]:

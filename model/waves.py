@@ -87,7 +87,8 @@ class Dump(Listener):
 
     def write(self, turn, act, steps):
         lines = []
-        for node, before, after, sends in steps:
+        for node, before, after, sends, missed in steps:
+            lines += [f"1{mark(node)}m"] if missed else []
             for old, new in zip(node_values(node, before), node_values(node, after)):
                 lines += new if new != old else []
             for port, connected in enumerate(after["connected"]):
@@ -112,6 +113,7 @@ def head(script):
     for node, state in enumerate(script.world.nodes):
         lines.append(f"$scope module {state.name} $end")
         lines += [f"$var {kind} {mark(node)}{letter} {name} $end" for letter, kind, name in OF_NODE]
+        lines += [f"$var event 1 {mark(node)}m missed $end"] if state.clock else []
         fresh = {"phase": "R0", "id": None, "timed_out": False, "parent": None}
         fresh.update(children=[False] * len(state.ports), shown=[IDLE] * len(state.ports))
         groups = node_values(node, fresh)

@@ -2,7 +2,7 @@
 
 A wire is a list of [age, signal], the oldest first; it is named by the end that it leaves, a pair of node and port.
 A listener, if there is one, hears what each act and each turn does to a node (`stepped`, with the node's snapshots
-before and after, and what it sent), and then that the act or turn is done (`done`).
+before and after, what it sent, and whether its clock missed the turn), and then that the act or turn is done (`done`).
 """
 
 from .reach import reached
@@ -63,7 +63,7 @@ class World:
             raise Fault("NotPlugged")
         self.held[end] = turns
 
-    def step(self, node, act):
+    def step(self, node, act, missed=False):
         """Lets a node act or take its turn, puts what it sends onto its wires, and notes whether its list changed."""
         state = self.nodes[node]
         packets = list(state.packets)
@@ -75,7 +75,7 @@ class World:
         if state.packets != packets:
             self.changed[node] = self.turns
         if self.listener:
-            self.listener.stepped(node, before, state.snapshot(), sends)
+            self.listener.stepped(node, before, state.snapshot(), sends, missed)
 
     # A turn.
 
@@ -83,8 +83,11 @@ class World:
         arrived = self.deliver()
         self.turns += 1
         for node, state in enumerate(self.nodes):
-            if node in arrived or not state.passes_over_tick():
-                self.step(node, lambda state: hear_and_tick(state, arrived.get(node, {})))
+            missed = state.misses_turn()
+            if missed:
+                reached["turn missed"] += 1
+            if missed or node in arrived or not state.passes_over_tick():
+                self.step(node, lambda state: hear_and_tick(state, arrived.get(node, {}), missed), missed)
         if self.listener:
             self.listener.done(self.turns)
 
@@ -121,8 +124,9 @@ class World:
         return found
 
 
-def hear_and_tick(state, heard):
+def hear_and_tick(state, heard, missed):
     for port in sorted(heard):
         for signal in heard[port]:
             state.hear(port, signal)
-    state.tick()
+    if not missed:
+        state.tick()

@@ -33,7 +33,7 @@ pub struct View {
     pub next_gap: u8,
     /// Whether the node is to become root from the next reset on.
     pub next_force: bool,
-    /// The configuration timed out: there is a loop.
+    /// The configuration timed out: the node waited too long in T0, in a loop or since it was reset again.
     pub timed_out: bool,
     /// How many resets there were, the power-on included. It stays at its greatest value.
     pub resets: u32,

@@ -22,11 +22,10 @@ use Rattle.cable_world.specs.Phases.{is_in_bus_reset}
 use Rattle.cable_world.specs.Outcome.{IsTree, AtView}
 use Rattle.cable_world.specs.Run.{IsReached, Rests, still}
 use Rattle.cable_world.specs.Events.{turn_count}
-use Rattle.cable_world.proofs.Lemmas.{some-of, some-at, quiet-run, rests-come, rests-then, turns-rest, reached-comes, reached-lawful, act-reached, step-cables, after-cabling, after-length, after-delay, after-longest}
+use Rattle.cable_world.proofs.Lemmas.{some-of, some-at, quiet-run, rests-slack, rests-then, turns-rest, reached-comes, reached-lawful, act-reached, step-cables, after-cabling, after-length, after-delay, after-longest}
 use Rattle.convergence.specs.Turns.{slack, turns_to_settle}
 use Rattle.outcomes.specs.Forced.{NamesRoot}
 use Rattle.outcomes.specs.Settled.{TreesStay, IdsNameOneNode, ConfigsMoveRoots, PacketsSetGaps}
-use Rattle.convergence.proofs.Lemmas.{reached-slack}
 use Rattle.outcomes.proofs.Lemmas.{ComesBy, comes-by, reached-enough}
 use Rattle.settle.specs.declared.report.Part.{Part}
 use Rattle.settle.specs.Report.{AreParts, IsTreeFrom, IsAfterQuiet, quiet_turns_of}
@@ -104,7 +103,7 @@ module _
       (ap (λ (x : CableWorld). length x.nodes) c.is ∙ after-length c.schedule sent sent-lawful j)
       (ap (λ (x : CableWorld). x.delay) c.is ∙ after-delay c.schedule sent sent-lawful j)
       (ap (λ (x : CableWorld). x.longest) c.is ∙ after-longest c.schedule sent sent-lawful j)
-      (reached-slack u (rests-come rests sent-reached) ∙ sym (reached-slack sent sent-reached)) in
+      (rests-slack rests sent-reached) in
       omega (arith, same, turns-enough u)
 
   calm : (k : ℕ) → Holds s.set k → AtView w k (λ x. is_in_bus_reset x.phase ≡ false)
@@ -259,6 +258,7 @@ not-declared : (c : Command) → LeavesAlone c → Declares c → ⊥
 not-declared (command.Node name ports speed link contender force power gap gap_reset hold short long word len seed packed) h d = h
 not-declared (command.Delay delay) h d = h
 not-declared (command.Times standard nanoseconds) h d = h
+not-declared (command.Clock name ppm first) h d = h
 not-declared c h d = d
 
 passes :

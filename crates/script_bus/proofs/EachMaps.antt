@@ -43,7 +43,7 @@ use Rattle.bus_manager.specs.Election.{lock_for}
 use Rattle.script_text.specs.CommandText.{csr_text, grant_text, bid_text}
 use Rattle.script_lines.specs.declared.kind.Kind.{Kind}
 use Rattle.script_lines.specs.declared.command.Command.{Command}
-use Rattle.script_lines.specs.declared.command.Command.TheVariants.{Node, Plug, Pull, Reset, Turn, Hold, Settle, Config, CsrRead, CsrWrite, CsrLock, Look, Allocate, Release, Manager, Plan, Maps, Delay, Times}
+use Rattle.script_lines.specs.declared.command.Command.TheVariants.{Node, Plug, Pull, Reset, Turn, Hold, Settle, Config, CsrRead, CsrWrite, CsrLock, Look, Allocate, Release, Manager, Plan, Maps, Delay, Times, Clock}
 use Rattle.script_lines.specs.Refusal.{kind_of}
 use Rattle.script_text.specs.Maps.{IsMapsText}
 use Rattle.script_text.proofs.Lemmas.{same_maps}
@@ -224,6 +224,7 @@ module _ (stay : TreesStay) (names-one : IdsNameOneNode) (bus : Bus) where
   keeps (Node name ports speed link contender force power gap gap_reset holding short long word len seed packed) h = known (Err Kind.Late) tt
   keeps (Delay delay) h = known (Err Kind.Late) tt
   keeps (Times standard nanoseconds) h = known (Err Kind.Late) tt
+  keeps (Clock name ppm first) h = known (Err Kind.Late) tt
   keeps (Plug a a_port b b_port) h = absurd h
   keeps (Pull name port) h = absurd h
   keeps (Reset name) h = absurd h
@@ -266,6 +267,7 @@ led : (bus : Bus) (c : Command) (next : Stage) (t : List ℕ) →
 led bus (Node name ports speed link contender force power gap gap_reset holding short long word len seed packed) next t f = absurd cc
 led bus (Delay delay) next t f = absurd cc
 led bus (Times standard nanoseconds) next t f = absurd cc
+led bus (Clock name ppm first) next t f = absurd cc
 led bus c next t f = by-answer bus c next t f.0 f.1 f.2
 
 abbrev EachKeeps : Type 0

@@ -31,9 +31,12 @@ use Rattle.script_lines.specs.declared.command.Command.{Command}
 use Rattle.script_lines.specs.declared.command.Command.TheVariants as command
 use Rattle.script_text.specs.ReportText.{Names, IsReportText}
 use Rattle.port_state.specs.declared.ranges.TimeRanges.{TimeRanges}
-use Rattle.script_told.specs.Bus.{Bus, Notes, is_declared}
+use Rattle.script_lines.specs.Clock.{gap_of, clock_said, slow_ranges}
+use Rattle.script_lines.specs.declared.clock.TooSlow.{TooSlow}
+use Rattle.port_state.specs.Clock.{is_even}
+use Rattle.script_told.specs.Bus.{Bus, Notes, is_declared, node_named}
 use Rattle.script_told.specs.Step.{Reports, config_of}
-use Rattle.script_told.specs.Script.{Draft, Stage, fresh, declaring, running, StageAnswer, bus_of, first_draft, takes_times, with_times, with_node, draft_of, Declares as IsDeclared, Delays, SaysTimes, DoesAtStage}
+use Rattle.script_told.specs.Script.{Draft, Stage, fresh, declaring, running, StageAnswer, bus_of, first_draft, takes_times, with_times, with_node, with_clock, slows_node, slows_named, draft_of, Declares as IsDeclared, Delays, SaysTimes, Slows, DoesAtStage}
 use Rattle.script_told.specs.Run.{Entry}
 use Rattle.script_told.specs.Reached.{world_of}
 use Rattle.script_told.specs.SomeAnswer.{IsReachedBus}
@@ -99,6 +102,7 @@ late : (bus : Bus) (c : Command) (next : Stage) (text : List ℕ) → Declares c
 late bus (command.Node name ports speed link contender force power gap gap_reset hold short long word len seed packed) next text d f = absurd cc
 late bus (command.Delay delay) next text d f = absurd cc
 late bus (command.Times standard nanoseconds) next text d f = absurd cc
+late bus (command.Clock name ppm first) next text d f = absurd cc
 late bus c next text d f = d
 
 none-in : (P : Entry → Type 0) → Any P [] → ⊥
@@ -181,19 +185,20 @@ not-left : (bus : Bus) (draft : Draft) → running bus ≡ declaring draft → �
 not-left bus draft e = absurd cc
 
 not-a-node :
-    (many twice : Bool) (next : Draft) (bus : Bus) (text : List ℕ) →
+    (slowed many twice : Bool) (next : Draft) (bus : Bus) (text : List ℕ) →
     ◌≡◌ {A = StageAnswer} (Ok (running bus, text))
-    (if many then Err TooManyNodes else if twice then Err Twice else Ok (declaring next, [])) → ⊥
-not-a-node true twice next bus text e = absurd cc
-not-a-node false true next bus text e = absurd cc
-not-a-node false false next bus text e = not-left bus next (ap stage-in e)
+    (if slowed then Err Late else if many then Err TooManyNodes else if twice then Err Twice else Ok (declaring next, [])) → ⊥
+not-a-node true many twice next bus text e = absurd cc
+not-a-node false true twice next bus text e = absurd cc
+not-a-node false false true next bus text e = absurd cc
+not-a-node false false false next bus text e = not-left bus next (ap stage-in e)
 
 not-declared :
     (o : Option Draft) (name : List ℕ) (node : TimeRanges → ℕ → PortNode) (bus : Bus) (text : List ℕ) →
     IsDeclared o name node (Ok (running bus, text)) → ⊥
 not-declared None name node bus text e = absurd cc
 not-declared (Some draft) name node bus text e =
-    not-a-node (nat_lt 62 (length draft.names)) (is_declared draft.names name)
+    not-a-node draft.slowed (nat_lt 62 (length draft.names)) (is_declared draft.names name)
     (with_node draft name (node draft.times.ranges (length draft.names))) bus text e
 
 not-delayed : (stage : Stage) (delay : ℕ) (bus : Bus) (text : List ℕ) →
@@ -209,6 +214,31 @@ not-some-times draft true (Ok times) bus text e = not-left bus _ (ap stage-in e)
 not-some-times draft true (Err kind) bus text e = absurd cc
 not-some-times draft false r bus text e = absurd cc
 
+not-one-clock :
+    (draft : Draft) (ppm : ℕ) (first : Option ℕ) (number : NodeNumber) (o : Option PortNode) (bus : Bus) (text : List ℕ) →
+    ◌≡◌ {A = StageAnswer} (Ok (running bus, text)) (slows_node draft ppm first number o) → ⊥
+not-one-clock draft ppm first number None bus text e = absurd cc
+not-one-clock draft ppm first number (Some x) bus text e =
+    go (is_even x.clock) (slow_ranges draft.delay draft.times.ranges x.state.timing (gap_of ppm)) e
+  where
+    go :
+        (b : Bool) (judged : Result TimeRanges TooSlow) →
+        ◌≡◌ {A = StageAnswer} (Ok (running bus, text)) (if b then with_clock draft number x (clock_said ppm first) judged else Err Twice) → ⊥
+    go true (Ok ranges) f = not-left bus _ (ap stage-in f)
+    go true (Err reason) f = absurd cc
+    go false judged f = absurd cc
+
+not-slowed :
+    (o : Option Draft) (name : List ℕ) (ppm : ℕ) (first : Option ℕ) (bus : Bus) (text : List ℕ) →
+    Slows o name ppm first (Ok (running bus, text)) → ⊥
+not-slowed None name ppm first bus text e = absurd cc
+not-slowed (Some draft) name ppm first bus text e = go (node_named draft.names name) e
+  where
+    go :
+        (n : Option NodeNumber) → ◌≡◌ {A = StageAnswer} (Ok (running bus, text)) (slows_named draft ppm first n) → ⊥
+    go None f = absurd cc
+    go (Some number) f = not-one-clock draft ppm first number (slice_get draft.nodes number) bus text f
+
 -- a declaration leaves no bus that runs
 not-running :
     (stage : Stage) (c : Command) (bus : Bus) (text : List ℕ) → Declares c →
@@ -221,6 +251,7 @@ not-running stage (command.Times standard nanoseconds) bus text d f = go (draft_
     go : (o : Option Draft) → SaysTimes o standard nanoseconds (Ok (running bus, text)) → ⊥
     go None e = absurd cc
     go (Some draft) e = not-some-times draft (takes_times draft) (standard_times standard draft.delay nanoseconds) bus text e
+not-running stage (command.Clock name ppm first) bus text d f = not-slowed (draft_of stage) name ppm first bus text f
 not-running stage c bus text d f = d
 
 declared-on :
@@ -235,6 +266,7 @@ declares-or-not : (c : Command) → Declares c ⊎ (Declares c → ⊥)
 declares-or-not (command.Node name ports speed link contender force power gap gap_reset hold short long word len seed packed) = inl tt
 declares-or-not (command.Delay delay) = inl tt
 declares-or-not (command.Times standard nanoseconds) = inl tt
+declares-or-not (command.Clock name ppm first) = inl tt
 declares-or-not c = inr (λ h. h)
 
 -- so it is behind a command in which no turn passes

@@ -3,23 +3,24 @@ use Rattle.std.proofs.Common.{◌≡◌, ◌≤◌, ℕ, ◌+◌, Bool, true, fa
 use Rattle.std.specs.Prelude.{Result, Ok, Err, nat_lt, if◌then◌else◌}
 use Rattle.self_id.specs.declared.standard.Standard.{Standard}
 use Rattle.port_state.specs.declared.ranges.TimeRanges.{TimeRanges}
+use Rattle.port_state.specs.Clock.{is_even}
 use Rattle.port_state.specs.Machine.{PortNode}
 use Rattle.cable_world.specs.Unchanged.{ActKeepsNodes}
 use Rattle.script_lines.specs.declared.kind.Kind.{Kind}
 use Rattle.script_lines.specs.declared.command.Command.{Command}
-use Rattle.script_lines.specs.declared.command.Command.TheVariants.{Node, Delay, Times, Plan}
+use Rattle.script_lines.specs.declared.command.Command.TheVariants.{Node, Delay, Times, Clock, Plan}
 use Rattle.script_lines.specs.Times.{standard_times}
 use Rattle.script_lines.specs.Range.{IsBetween, IsInRange, IsNodeInRange}
 use Rattle.script_lines.specs.Line.{ReadsLine}
 use Rattle.script_lines.specs.Ranged.{CommandsAreInRange}
 use Rattle.script_lines.proofs.Lemmas.{some_reading}
-use Rattle.script_told.specs.Bus.{Bus, is_declared}
+use Rattle.script_told.specs.Bus.{Bus, is_declared, node_named}
 use Rattle.script_told.specs.Step.{Does}
-use Rattle.script_told.specs.Script.{Draft, Stage, fresh, declaring, running, StageAnswer, bus_of, ranges_of, first_draft, draft_with, takes_times, with_times, new_node, times_of, coins_of, with_node, Declares, Delays, SaysTimes, onwards, DoesOnBus, DoesAtStage, script_lines}
+use Rattle.script_told.specs.Script.{Draft, Stage, fresh, declaring, running, StageAnswer, bus_of, ranges_of, first_draft, draft_with, takes_times, with_times, new_node, times_of, coins_of, with_node, slows_named, Declares, Delays, SaysTimes, Slows, onwards, DoesOnBus, DoesAtStage, script_lines}
 use Rattle.script_told.specs.Run.{ScriptRun, done, stopped, behind, last_run, Proceeds, TakesLine, RunsFrom}
 use Rattle.script_told.specs.SomeAnswer.{IsReachedBus, HasAnswer, CommandsHaveAnswers, PlansHaveAnswers, BusesSettle}
 use Rattle.script_told.specs.Fitting.{IsFitting}
-use Rattle.script_told.proofs.Lemmas.{says, IsSoundDraft, IsSound, LeavesSound, sound-bus, no-nodes, drafted, leaves, onwards-sound, attrs_said, node-at-power-on}
+use Rattle.script_told.proofs.Lemmas.{says, slows-sound, IsSoundDraft, IsSound, LeavesSound, sound-bus, no-nodes, drafted, leaves, onwards-sound, attrs_said, node-at-power-on}
 use Rattle.script_bus.specs.SomeRun.{EachScriptHasARun}
 
 record Step (Comes : StageAnswer → Type 0) : Type 0 where
@@ -29,18 +30,21 @@ record Step (Comes : StageAnswer → Type 0) : Type 0 where
 
 declare :
     (draft : Draft) (name : List ℕ) (node : TimeRanges → ℕ → PortNode) → IsSoundDraft draft →
-    IsFitting draft.delay draft.times.ranges (node draft.times.ranges (length draft.names)) → Step (Declares (Some draft) name node)
-declare draft name node h on = go (nat_lt 62 (length draft.names)) (is_declared draft.names name) refl
+    IsFitting draft.delay draft.times.ranges (node draft.times.ranges (length draft.names)) →
+    is_even (node draft.times.ranges (length draft.names)).clock ≡ true → Step (Declares (Some draft) name node)
+declare draft name node h on even = go draft.slowed (nat_lt 62 (length draft.names)) (is_declared draft.names name) refl
   where
     new : PortNode
     new = node draft.times.ranges (length draft.names)
 
-    go : (full twice : Bool) → nat_lt 62 (length draft.names) ≡ full →
-        Step (λ r. r ≡ (if full then Err Kind.TooManyNodes
+    go : (slowed full twice : Bool) → nat_lt 62 (length draft.names) ≡ full →
+        Step (λ r. r ≡ (if slowed then Err Kind.Late
+        else if full then Err Kind.TooManyNodes
         else if twice then Err Kind.Twice else Ok (declaring (with_node draft name new), [])))
-    go true twice e = record { answer = Err Kind.TooManyNodes; is = refl; sound = tt }
-    go false true e = record { answer = Err Kind.Twice; is = refl; sound = tt }
-    go false false e = record { answer = Ok (declaring (with_node draft name new), []); is = refl; sound = drafted draft name new e h on }
+    go true full twice e = record { answer = Err Kind.Late; is = refl; sound = tt }
+    go false true twice e = record { answer = Err Kind.TooManyNodes; is = refl; sound = tt }
+    go false false true e = record { answer = Err Kind.Twice; is = refl; sound = tt }
+    go false false false e = record { answer = Ok (declaring (with_node draft name new), []); is = refl; sound = drafted draft name new e even h on }
 
 declare-node :
     (draft : Draft) → IsSoundDraft draft → (name : List ℕ) (ports speed : ℕ) (link contender force : Bool) (power gap : ℕ) (gap_reset : Bool)
@@ -49,7 +53,7 @@ declare-node :
     new_node (attrs_said speed link contender power gap) ports force gap_reset (times_of ranges held short long) (coins_of number word len seed)))
 declare-node draft h name ports speed link contender force power gap gap_reset held short long word len seed i =
     declare draft name (λ ranges number. new_node (attrs_said speed link contender power gap) ports force gap_reset (times_of ranges held short long) (coins_of number word len seed)) h
-    (node-at-power-on draft ports speed link contender force power gap gap_reset held short long word len seed h.fitting i)
+    (node-at-power-on draft ports speed link contender force power gap gap_reset held short long word len seed h.fitting i) refl
 
 delays : (stage : Stage) (delay : ℕ) → IsBetween 1 16 delay → Step (Delays stage delay)
 delays fresh delay i = record { answer = Ok (declaring (draft_with delay), []); is = refl; sound = no-nodes delay i.0 i.1 }
@@ -68,6 +72,14 @@ say draft standard nanoseconds some h = record {
   answer = said draft standard nanoseconds;
   is = refl;
   sound = (says draft standard nanoseconds some h (said draft standard nanoseconds) (said draft standard nanoseconds) refl refl).1;
+}
+
+slow : (draft : Draft) (name : List ℕ) (ppm : ℕ) (first : Option ℕ) → IsSoundDraft draft →
+    Step (Slows (Some draft) name ppm first)
+slow draft name ppm first h = record {
+  answer = slows_named draft ppm first (node_named draft.names name);
+  is = refl;
+  sound = slows-sound draft ppm first (node_named draft.names name) h;
 }
 
 module _ (keeps : ActKeepsNodes) (commands : CommandsHaveAnswers) (plans : PlansHaveAnswers) (settle : BusesSettle) (ranged : CommandsAreInRange) where
@@ -97,6 +109,9 @@ module _ (keeps : ActKeepsNodes) (commands : CommandsHaveAnswers) (plans : Plans
   follow fresh (Times standard nanoseconds) h i = say first_draft standard nanoseconds i.0 (no-nodes 4 (omega arith) (omega arith))
   follow (declaring draft) (Times standard nanoseconds) h i = say draft standard nanoseconds i.0 h
   follow (running bus) (Times standard nanoseconds) h i = record { answer = Err Kind.Late; is = refl; sound = tt }
+  follow fresh (Clock name ppm first) h i = slow first_draft name ppm first (no-nodes 4 (omega arith) (omega arith))
+  follow (declaring draft) (Clock name ppm first) h i = slow draft name ppm first h
+  follow (running bus) (Clock name ppm first) h i = record { answer = Err Kind.Late; is = refl; sound = tt }
   follow stage command h i = runs stage command h i
 
   -- ---- lines

@@ -3,8 +3,8 @@ ghost use Rattle.std.specs.Prelude.{◌≡◌, ◌<◌, ◌≤◌, ◌+◌, ◌=
 ghost use Rattle.std.specs.Int.{bit_at};
 ghost use Rattle.std.specs.Option.{option_copied, option_map, ok_or};
 ghost use Rattle.phy_machine.specs.Any.{any_node};
-ghost use Rattle.cable_world.specs.World.{IsPowered};
-ghost use Rattle.cable_world.specs.Times.{CanBeForced};
+ghost use Rattle.cable_world.specs.World.{IsPowered, slack_of};
+ghost use Rattle.cable_world.specs.Times.{CanBeForced, KeepsTime};
 ghost use Rattle.cable_world.specs.Act.{IsAct, act_fault, hold, hold_fault};
 ghost use Rattle.cable_world.specs.Run.{IsReached};
 ghost use Rattle.cable_world.specs.Unchanged.{TurnsPass};
@@ -238,8 +238,8 @@ fn hold_boxed<W: WorldRun>(world: &mut Box<W>, end: End, turns: u16) -> Result<(
 
 impl Bus {
     /// The bus of nodes with these names, each just powered on, without cables. A cable delays a signal
-    /// by at most `delay` turns, 1 to 16. No node's times are longer than the longest of these ranges,
-    /// and all suit the delay.
+    /// by at most `delay` turns, 1 to 16. No node takes longer than the longest of these ranges, and all
+    /// suit the delay.
     pub fn new(
         alloc: Global,
         names: NameTable,
@@ -253,8 +253,10 @@ impl Bus {
         requires named { length names ≡ length machines.items }
         requires power_on { All (λ m. IsPowered delay times.ranges.most (any_node m).state)
             machines.items }
-        requires forced { All (λ m. CanBeForced delay times.ranges.most (any_node m).state.timing)
-            machines.items }
+        requires clocks { All (λ m. KeepsTime times.ranges.most
+            (any_node m).state.timing (any_node m).clock) machines.items }
+        requires forced { All (λ m. CanBeForced (delay + slack_of (map any_node machines.items))
+            times.ranges.most (any_node m).state.timing) machines.items }
         ensures { IfOk result (λ bus.
             bus ≡ bus_of_nodes delay times names (map any_node machines.items)) }
     {

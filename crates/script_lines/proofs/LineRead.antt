@@ -8,7 +8,7 @@ use Rattle.script_lines.specs.declared.kind.Kind.{Kind}
 use Rattle.script_lines.specs.declared.kind.Kind.TheVariants.{Word}
 use Rattle.script_lines.specs.Words.{words_of}
 use Rattle.script_lines.specs.Shape.{fit}
-use Rattle.script_lines.specs.Form.{Form, plug, pull, reset, turn, hold, settle, config_root, config_gap, config_both, csr_read, csr_write, csr_lock, look, allocate, release, manager, plan, maps, delay, times_2000, times_1995, forms, shapes}
+use Rattle.script_lines.specs.Form.{Form, plug, pull, reset, turn, hold, settle, config_root, config_gap, config_both, csr_read, csr_write, csr_lock, look, allocate, release, manager, plan, maps, delay, times_2000, times_1995, clock_paced, clock_first, forms, shapes}
 use Rattle.script_lines.specs.Node.{has_node_form}
 use Rattle.script_lines.specs.Line.{LineForm, node, other, has_form, wrong_word, meaning, IsWrong, HasNoForm, is_skipped, is_permitted_line, IsNoLine, ReadsStripped, ReadsLine}
 use Rattle.script_lines.specs.codings.Reading.{unless, read_words, in_line, read_line}
@@ -45,6 +45,8 @@ none_at words h maps = h.1.1.1.1.1.1.1.1.1.1.1.1.1.1.1.1.1.0
 none_at words h delay = h.1.1.1.1.1.1.1.1.1.1.1.1.1.1.1.1.1.1.0
 none_at words h times_2000 = h.1.1.1.1.1.1.1.1.1.1.1.1.1.1.1.1.1.1.1.0
 none_at words h times_1995 = h.1.1.1.1.1.1.1.1.1.1.1.1.1.1.1.1.1.1.1.1.0
+none_at words h clock_paced = h.1.1.1.1.1.1.1.1.1.1.1.1.1.1.1.1.1.1.1.1.1.0
+none_at words h clock_first = h.1.1.1.1.1.1.1.1.1.1.1.1.1.1.1.1.1.1.1.1.1.1.0
 
 some_of : (forms : List Form) (words : List (List ℕ))
     → ((form : Form) × (fit (shapes form) words ≡ true)) ⊎ NoneOf forms words

@@ -90,6 +90,12 @@ fixed times form.maps words h w = tt
 fixed times form.delay words h w = at-place (shapes form.delay) words h w 1
 fixed times form.times_2000 words h w = at-place (shapes form.times_2000) words h w 2
 fixed times form.times_1995 words h w = at-place (shapes form.times_1995) words h w 2
+fixed times form.clock_paced words h w =
+    record { pace = at-place (shapes form.clock_paced) words h w 2; first_within = tt }
+fixed times form.clock_first words h w = record {
+  pace = at-place (shapes form.clock_first) words h w 2;
+  first_within = at-place (shapes form.clock_first) words h w 3;
+}
 
 -- ---- the line of a node
 

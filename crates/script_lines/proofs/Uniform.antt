@@ -9,7 +9,7 @@ use Rattle.script_lines.specs.declared.command.Command.{Command}
 use Rattle.script_lines.specs.declared.kind.Kind.{Kind}
 use Rattle.script_lines.specs.declared.kind.Kind.TheVariants.{Word}
 use Rattle.script_lines.specs.Shape.{Shape, the, a_name, a_number, a_given, any_number, fit, first_wrong}
-use Rattle.script_lines.specs.Form.{Form, plug, pull, reset, turn, hold, settle, config_root, config_gap, config_both, csr_read, csr_write, csr_lock, look, allocate, release, manager, plan, maps, delay, times_2000, times_1995, forms, shapes, command_of}
+use Rattle.script_lines.specs.Form.{Form, plug, pull, reset, turn, hold, settle, config_root, config_gap, config_both, csr_read, csr_write, csr_lock, look, allocate, release, manager, plan, maps, delay, times_2000, times_1995, clock_paced, clock_first, forms, shapes, command_of}
 use Rattle.script_lines.specs.Node.{are_pairs, has_node_form, wrong_node, node_command}
 use Rattle.script_lines.specs.Line.{LineForm, node, other, has_form, wrong_word, meaning, HasNoForm}
 use Rattle.script_lines.specs.codings.Reading.{unless, read_by, read_node, read_words}
@@ -69,6 +69,8 @@ verb maps = codes "maps"
 verb delay = codes "delay"
 verb times_2000 = codes "times"
 verb times_1995 = codes "times"
+verb clock_paced = codes "clock"
+verb clock_first = codes "clock"
 
 -- the forms that begin with it
 abbrev group : Form → List Form
@@ -93,6 +95,8 @@ group maps = maps ∷ []
 group delay = delay ∷ []
 group times_2000 = times_2000 ∷ times_1995 ∷ []
 group times_1995 = times_2000 ∷ times_1995 ∷ []
+group clock_paced = clock_paced ∷ clock_first ∷ []
+group clock_first = clock_paced ∷ clock_first ∷ []
 
 grouped : (form : Form) (args : List (List ℕ))
     → read_by forms (verb form ∷ args) ≡ read_by (group form) (verb form ∷ args)
@@ -117,6 +121,8 @@ grouped maps args = refl
 grouped delay args = refl
 grouped times_2000 args = refl
 grouped times_1995 args = refl
+grouped clock_paced args = refl
+grouped clock_first args = refl
 
 not_node_verb : (form : Form) → bytes_eq (verb form) (codes "node") ≡ false
 not_node_verb plug = refl
@@ -140,6 +146,8 @@ not_node_verb maps = refl
 not_node_verb delay = refl
 not_node_verb times_2000 = refl
 not_node_verb times_1995 = refl
+not_node_verb clock_paced = refl
+not_node_verb clock_first = refl
 
 begins_so : (word text : List ℕ) (rest : Bool) → (bytes_eq word text && rest) ≡ true → word ≡ text
 begins_so word text rest h = (bytes_eq-Decides word text).0 (and_parts (bytes_eq word text) rest h).0
@@ -167,6 +175,8 @@ begins maps word args h = begins_so word _ _ h
 begins delay word args h = begins_so word _ _ h
 begins times_2000 word args h = begins_so word _ _ h
 begins times_1995 word args h = begins_so word _ _ h
+begins clock_paced word args h = begins_so word _ _ h
+begins clock_first word args h = begins_so word _ _ h
 
 -- what words say by a form that they have
 abbrev by_form : Form → List (List ℕ) → Result Command Kind
@@ -230,6 +240,14 @@ both_no_gap (name ∷ []) h = absurd (cc)
 both_no_gap (name ∷ root ∷ rest) h =
     not_so (bytes_eq root (codes "-")) (fit (a_given 0 63 ∷ []) rest) (fit (a_given 0 63 ∷ []) rest) h
 
+first_no_end : (args : List (List ℕ)) →
+    fit (a_name ∷ a_number 1 1000000 ∷ a_number 1 2000000 ∷ []) args ≡ true
+    → fit (a_name ∷ a_number 1 1000000 ∷ []) args ≡ false
+first_no_end [] h = absurd (cc)
+first_no_end (name ∷ []) h = absurd (cc)
+first_no_end (name ∷ ppm ∷ []) h = absurd (cc)
+first_no_end (name ∷ ppm ∷ first ∷ rest) h = refl
+
 in_group : (form : Form) (args : List (List ℕ)) → fit (shapes form) (verb form ∷ args) ≡ true
     → read_by (group form) (verb form ∷ args) ≡ by_form form (verb form ∷ args)
 in_group config_root args h =
@@ -274,6 +292,10 @@ in_group times_1995 args h =
     (apart (codes "1394-1995") (codes "1394a") refl (a_number 1 4294967295 ∷ [])
     (a_number 1 4294967295 ∷ []) args h)
     ∙ taken times_1995 [] (codes "times" ∷ args) h
+in_group clock_paced args h = taken clock_paced (clock_first ∷ []) (codes "clock" ∷ args) h
+in_group clock_first args h =
+    passed clock_paced (clock_first ∷ []) (codes "clock" ∷ args) (first_no_end args h)
+    ∙ taken clock_first [] (codes "clock" ∷ args) h
 
 unfit : (form : Form) → fit (shapes form) [] ≡ false
 unfit plug = refl
@@ -297,6 +319,8 @@ unfit maps = refl
 unfit delay = refl
 unfit times_2000 = refl
 unfit times_1995 = refl
+unfit clock_paced = refl
+unfit clock_first = refl
 
 read_fixed : (times : TimeRanges) (form : Form) (words : List (List ℕ)) → fit (shapes form) words ≡ true
     → read_words times words ≡ by_form form words

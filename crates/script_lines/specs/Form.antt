@@ -2,7 +2,7 @@
 use Rattle.std.specs.Prelude.{ℕ, List, [], ◌∷◌, codes, slice_get, unwrap_or, Some, None}
 use Rattle.self_id.specs.declared.standard.Standard.TheVariants.{Ieee1995, Ieee2000}
 use Rattle.script_lines.specs.declared.command.Command.{Command}
-use Rattle.script_lines.specs.declared.command.Command.TheVariants.{Plug, Pull, Reset, Turn, Hold, Settle, Config, CsrRead, CsrWrite, CsrLock, Look, Allocate, Release, Manager, Plan, Maps, Delay, Times}
+use Rattle.script_lines.specs.declared.command.Command.TheVariants.{Plug, Pull, Reset, Turn, Hold, Settle, Config, CsrRead, CsrWrite, CsrLock, Look, Allocate, Release, Manager, Plan, Maps, Delay, Times, Clock}
 use Rattle.script_lines.specs.Number.{number_of}
 use Rattle.script_lines.specs.Shape.{Shape, the, a_name, a_number, a_given, any_number}
 
@@ -28,13 +28,15 @@ pub data Form : Type 0 where
   delay : Form
   times_2000 : Form
   times_1995 : Form
+  clock_paced : Form
+  clock_first : Form
 
 -- all of them
 abbrev pub forms : List Form
 forms =
     plug ∷ pull ∷ reset ∷ turn ∷ hold ∷ settle ∷ config_root ∷ config_gap ∷ config_both ∷ csr_read
     ∷ csr_write ∷ csr_lock ∷ look ∷ allocate ∷ release ∷ manager ∷ plan ∷ maps ∷ delay
-    ∷ times_2000 ∷ times_1995 ∷ []
+    ∷ times_2000 ∷ times_1995 ∷ clock_paced ∷ clock_first ∷ []
 
 -- the words of each form
 abbrev pub shapes : Form → List Shape
@@ -62,6 +64,9 @@ shapes maps = the (codes "maps") ∷ a_name ∷ []
 shapes delay = the (codes "delay") ∷ a_number 1 16 ∷ []
 shapes times_2000 = the (codes "times") ∷ the (codes "1394a") ∷ a_number 1 4294967295 ∷ []
 shapes times_1995 = the (codes "times") ∷ the (codes "1394-1995") ∷ a_number 1 4294967295 ∷ []
+shapes clock_paced = the (codes "clock") ∷ a_name ∷ a_number 1 1000000 ∷ []
+shapes clock_first =
+    the (codes "clock") ∷ a_name ∷ a_number 1 1000000 ∷ a_number 1 2000000 ∷ []
 
 -- the word at a place, counted from 0
 abbrev pub word_at : List (List ℕ) → ℕ → List ℕ
@@ -95,3 +100,5 @@ command_of maps ws = Maps (word_at ws 1)
 command_of delay ws = Delay (number_at ws 1)
 command_of times_2000 ws = Times Ieee2000 (number_at ws 2)
 command_of times_1995 ws = Times Ieee1995 (number_at ws 2)
+command_of clock_paced ws = Clock (word_at ws 1) (number_at ws 2) None
+command_of clock_first ws = Clock (word_at ws 1) (number_at ws 2) (Some (number_at ws 3))

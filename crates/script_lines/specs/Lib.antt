@@ -12,5 +12,6 @@ pub mod Answer
 pub mod Range
 pub mod Ranged
 pub mod Times
+pub mod Clock
 pub mod Refusal
 pub mod codings

@@ -2,7 +2,7 @@
 use Rattle.std.specs.Prelude.{ℕ, ◌≤◌, ◌||◌, is_some, IsTrue, Option, IfSome}
 use Rattle.port_state.specs.declared.ranges.TimeRanges.{TimeRanges}
 use Rattle.script_lines.specs.declared.command.Command.{Command}
-use Rattle.script_lines.specs.declared.command.Command.TheVariants.{Node, Turn, Hold, Config, CsrLock, Allocate, Release, Delay, Times}
+use Rattle.script_lines.specs.declared.command.Command.TheVariants.{Node, Turn, Hold, Config, CsrLock, Allocate, Release, Delay, Times, Clock}
 
 abbrev pub IsBetween : ℕ → ℕ → ℕ → Type 0
 IsBetween least most n = (least ≤ n) × (n ≤ most)
@@ -27,6 +27,11 @@ pub record IsConfigInRange (root_id gap : Option ℕ) : Type 0 where
   pub root_most : IfSome root_id (λ n. n ≤ 62)
   pub gap_most : IfSome gap (λ n. n ≤ 63)
 
+-- the ranges of a clock, of which the first turn that it misses may be said
+pub record IsClockInRange (ppm : ℕ) (first : Option ℕ) : Type 0 where
+  pub pace : IsBetween 1 1000000 ppm
+  pub first_within : IfSome first (IsBetween 1 2000000)
+
 -- each number of a command is in its range; a port, an offset and a value may be any
 abbrev pub IsInRange : TimeRanges → Command → Type 0
 IsInRange times
@@ -40,4 +45,5 @@ IsInRange times (Allocate name channel units) = (channel ≤ 63) × (units ≤ 4
 IsInRange times (Release name channel units) = (channel ≤ 63) × (units ≤ 4915)
 IsInRange times (Delay delay) = IsBetween 1 16 delay
 IsInRange times (Times standard nanoseconds) = IsBetween 1 4294967295 nanoseconds
+IsInRange times (Clock name ppm first) = IsClockInRange ppm first
 IsInRange times command = Unit {0}

@@ -1,7 +1,7 @@
 //! The lines that change the bus or let turns pass.
 ghost use Rattle.std.specs.Prelude.{◌≡◌, codes, [], ◌∷◌, IfOk};
 ghost use Rattle.port_state.specs.declared.ranges.TimeRanges.{TimeRanges};
-ghost use Rattle.script_lines.specs.Form.{pull, plug, reset, turn, hold, settle, delay, times_2000, times_1995};
+ghost use Rattle.script_lines.specs.Form.{pull, plug, reset, turn, hold, settle, delay, times_2000, times_1995, clock_paced, clock_first};
 ghost use Rattle.script_lines.specs.Range.{IsInRange};
 ghost use Rattle.script_lines.specs.codings.Reading.{read_by};
 
@@ -117,6 +117,27 @@ pub(crate) fn times(args: &[Word]) -> Result<Command, Kind>
         [standard, nanoseconds] if standard.is(b"1394-1995") => Ok(Command::Times {
             standard: Standard::Ieee1995,
             nanoseconds: nanoseconds.number(1, u32::MAX)?,
+        }),
+        _ => Err(Kind::Word),
+    }
+}
+
+/// `clock NAME PPM`, or `clock NAME PPM TURN`
+pub(crate) fn clock(args: &[Word]) -> Result<Command, Kind>
+    ensures value { result
+        ≡ read_by (clock_paced ∷ clock_first ∷ []) (codes "clock" ∷ args.now) }
+    ensures ranged { (times : TimeRanges) → IfOk result (IsInRange times) }
+{
+    match args {
+        [name, ppm] => Ok(Command::Clock {
+            name: name.name()?,
+            ppm: ppm.number(1, 1_000_000)?,
+            first: None,
+        }),
+        [name, ppm, first] => Ok(Command::Clock {
+            name: name.name()?,
+            ppm: ppm.number(1, 1_000_000)?,
+            first: Some(first.number(1, 2_000_000)?),
         }),
         _ => Err(Kind::Word),
     }

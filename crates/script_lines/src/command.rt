@@ -116,4 +116,10 @@ pub enum Command {
         standard: Standard,
         nanoseconds: u32,
     },
+    /// `clock NAME PPM`, or `clock NAME PPM TURN`
+    Clock {
+        name: Name,
+        ppm: u32,
+        first: Option<u32>,
+    },
 }

@@ -5,7 +5,7 @@ ghost use Rattle.script_lines.specs.Form.{forms};
 ghost use Rattle.script_lines.specs.Range.{IsInRange};
 ghost use Rattle.script_lines.specs.codings.Reading.{read_by};
 
-use crate::acts::{delay, hold, plug, pull, reset, settle, times, turn};
+use crate::acts::{clock, delay, hold, plug, pull, reset, settle, times, turn};
 use crate::asks::{allocate, config, csr, look, manager, maps, plan, release};
 use crate::command::Command;
 use crate::kind::Kind;
@@ -63,6 +63,9 @@ pub(crate) fn read_fixed(verb: &Word, args: &[Word]) -> Result<Command, Kind>
     }
     if verb.is(b"times") {
         return times(args);
+    }
+    if verb.is(b"clock") {
+        return clock(args);
     }
     Err(Kind::Word)
 }

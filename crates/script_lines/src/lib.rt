@@ -6,6 +6,7 @@
 
 mod acts;
 mod asks;
+mod clock;
 mod coins;
 mod command;
 mod fixed;
@@ -20,6 +21,7 @@ mod times;
 mod word;
 mod words;
 
+pub use clock::{TooSlow, before_first, gap_of, slow_ranges};
 pub use command::Command;
 pub use kind::{Kind, LineStop, ScriptFault, ScriptStop};
 pub use laws::{commands_are_in_range, lines_are_refused_so, names_are_tested, one_reading};

@@ -1,3 +1,4 @@
+pub mod Slowing
 pub mod ScriptLines
 pub mod Going
 pub mod Answering

@@ -1,20 +1,21 @@
 //! The nodes that a script declares before its bus runs.
-ghost use Rattle.std.specs.Prelude.{◌≡◌, ◌≤◌, ℕ, [], Some, Ok, Err, false, IfOk, IfErr, OnOk, length, map, nat_lt, if◌then◌else◌};
+ghost use Rattle.std.specs.Prelude.{◌≡◌, ◌<◌, ◌≤◌, ℕ, [], Some, Ok, Err, false, IfOk, IfErr, OnOk, length, map, nat_lt, slice_get, if◌then◌else◌};
 ghost use Rattle.port_state.specs.TimeRanges.{AreWithin};
 ghost use Rattle.port_state.specs.declared.ranges.TimeRanges.{TimeRanges};
 ghost use Rattle.port_state.specs.Machine.{PortNode};
 ghost use Rattle.phy_machine.specs.Any.{any_node};
 ghost use Rattle.phy_machine.specs.PowerOn.{IsSpec, node_of_spec, with_gap_reset};
 ghost use Rattle.script_told.specs.Bus.{bus_of_nodes, is_declared};
-ghost use Rattle.script_told.specs.Script.{Declares, SaysTimes, draft_with, takes_times, declaring, with_node, times_of, coins_of};
+ghost use Rattle.script_lines.specs.Range.{IsClockInRange};
+ghost use Rattle.script_told.specs.Script.{Declares, SaysTimes, Slows, slows_node, draft_with, takes_times, declaring, with_node, times_of, coins_of};
 ghost use Rattle.script_told.specs.Fitting.{AreFitting, IsFitting};
 ghost use Rattle.script_bus.specs.Running.{Stops};
 ghost use Rattle.script_run.specs.codings.Declaring.{IsDraft, IsLine, IsDeclared, DeclaresNode, draft_now, node_said, plain_said};
 
 use phy_machine::{AnyMachine, FieldMachine, NodeSpec, PackedMachine};
-use port_state::{Coins, TimeRanges, Timing};
+use port_state::{Coins, PortMachine, TimeRanges, Timing};
 use script_bus::{Bus, NameTable};
-use script_lines::{Kind, LineStop, ScriptTimes};
+use script_lines::{Kind, LineStop, ScriptTimes, before_first, gap_of, slow_ranges};
 use self_id::{Attrs, Standard};
 use std::alloc::Global;
 use std::mem;
@@ -34,6 +35,8 @@ pub(crate) struct Draft {
     pub names: NameTable,
     /// The nodes, each just powered on.
     pub machines: Vec<AnyMachine>,
+    /// Whether a clock is slow, so that no further node is declared.
+    pub slowed: bool,
 }
 
 /// The times that a `node` line gives, in turns.
@@ -166,17 +169,22 @@ impl Draft {
             times: ScriptTimes::profile(delay),
             names: NameTable::new(alloc),
             machines: Vec::new(alloc),
+            slowed: false,
         }
     }
 
-    /// Fails where there are 63 nodes, and where one has the name.
+    /// Fails where a clock is slow, where there are 63 nodes, and where one has the name.
     fn check(&self, name: &Name) -> Result<(), LineStop>
         requires { IsDraft self.now }
+        ensures even { OnOk result (self.now.slowed ≡ false) }
         ensures few { OnOk result (nat_lt 62 (length self.now.names) ≡ false) }
         ensures new { OnOk result (is_declared self.now.names name.now ≡ false) }
         ensures stop { (node : TimeRanges → ℕ → PortNode)
             → IfErr result (Stops (Declares (Some (draft_now self.now)) name.now node)) }
     {
+        if self.slowed {
+            return Err(LineStop::Fault(Kind::Late));
+        }
         if self.machines.len() >= MAX_NODES {
             return Err(LineStop::Fault(Kind::TooManyNodes));
         }
@@ -204,7 +212,7 @@ impl Draft {
         Ok(())
     }
 
-    /// Declares a node, where it isn't the 64th and its name is new.
+    /// Declares a node, where no clock is slow yet, it isn't the 64th and its name is new.
     pub fn declare(&mut self, alloc: Global, node: NodeLine) -> Result<(), LineStop>
         requires sound { IsDraft self.old }
         requires line { IsLine self.old.times.ranges node }
@@ -242,6 +250,47 @@ impl Draft {
         Ok(())
     }
 
+    /// The clock of the node with this number is so many parts per million slower, 1 to 1,000,000, and
+    /// misses this turn first, unless a line before said how slow it is.
+    fn slow_node(&mut self, number: usize, ppm: u32, first: Option<u32>) -> Result<(), LineStop>
+        requires sound { IsDraft self.old }
+        requires line { IsClockInRange ppm first }
+        requires exists { number < length self.old.machines.items }
+        ensures done { OnOk result (slows_node (draft_now self.old) ppm first number
+            (slice_get (draft_now self.old).nodes number)
+            ≡ Ok (declaring (draft_now self.new), [])) }
+        ensures stop { IfErr result (Stops (λ answer. answer
+            ≡ slows_node (draft_now self.old) ppm first number
+            (slice_get (draft_now self.old).nodes number))) }
+        ensures sound { OnOk result (IsDraft self.new) }
+    {
+        let machine = &mut self.machines[number];
+        if !machine.is_even() {
+            return Err(LineStop::Fault(Kind::Twice));
+        }
+        let gap = gap_of(ppm);
+        self.times.ranges = slow_ranges(self.delay, self.times.ranges, machine.timing(), gap)?;
+        machine.slow_down(gap, before_first(gap, first));
+        self.slowed = true;
+        Ok(())
+    }
+
+    /// The same of the node with a name.
+    pub fn slow(&mut self, name: &Name, ppm: u32, first: Option<u32>) -> Result<(), LineStop>
+        requires sound { IsDraft self.old }
+        requires line { IsClockInRange ppm first }
+        ensures done { OnOk result (Slows (Some (draft_now self.old)) name.now ppm first
+            (Ok (declaring (draft_now self.new), []))) }
+        ensures stop { IfErr result
+            (Stops (Slows (Some (draft_now self.old)) name.now ppm first)) }
+        ensures sound { OnOk result (IsDraft self.new) }
+    {
+        match self.names.number(name) {
+            None => Err(LineStop::Fault(Kind::NoNode)),
+            Some(number) => self.slow_node(number, ppm, first),
+        }
+    }
+
     /// The bus of these nodes, without cables.
     pub fn bus(self, alloc: Global) -> Result<Bus, OutOfMemory>
         requires { IsDraft self }
@@ -254,6 +303,7 @@ impl Draft {
             times,
             names,
             machines,
+            ..
         } = self;
         Bus::new(alloc, names, machines, delay, times)
     }

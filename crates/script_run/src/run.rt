@@ -1,7 +1,7 @@
 //! The run of a script.
 ghost use Rattle.std.specs.Prelude.{◌≡◌, ◌≤◌, ◌<◌, ◌∷◌, ◌++◌, [], ℕ, List, Some, None, Ok, Err, IfOk, IfErr, OnOk, length};
-ghost use Rattle.script_lines.specs.Range.{IsInRange};
-ghost use Rattle.script_told.specs.Script.{Declares, Delays, SaysTimes, DoesAtStage, DoesOnBus, running, bus_of, draft_of, ranges_of};
+ghost use Rattle.script_lines.specs.Range.{IsClockInRange, IsInRange};
+ghost use Rattle.script_told.specs.Script.{Declares, Delays, SaysTimes, Slows, DoesAtStage, DoesOnBus, running, bus_of, draft_of, ranges_of};
 ghost use Rattle.script_told.specs.Step.{Does};
 ghost use Rattle.script_bus.specs.Heard.{Hears};
 ghost use Rattle.script_bus.specs.Running.{IfFault, Stops};
@@ -18,7 +18,7 @@ use script_lines::{Command, Kind, LineStop};
 use self_id::{Attrs, Standard};
 use std::alloc::Global;
 use std::mem;
-use topology_stack::OutOfMemory;
+use topology_stack::{Name, OutOfMemory};
 
 /// By how many turns a cable delays a signal at most, where no line says it.
 const USUAL_DELAY: u8 = 4;
@@ -170,6 +170,25 @@ impl Stage {
         Ok(Vec::new(alloc))
     }
 
+    /// The clock of a node is slow.
+    fn slow(
+        &mut self,
+        alloc: Global,
+        name: &Name,
+        ppm: u32,
+        first: Option<u32>,
+    ) -> Result<Vec<u8>, LineStop>
+        requires { IsClockInRange ppm first }
+        ensures done { IfOk result (λ text. Slows (draft_of self.old) name.now ppm first
+            (Ok (self.new, text.items))) }
+        ensures stop { IfErr result (Stops (Slows (draft_of self.old) name.now ppm first)) }
+    {
+        let mut draft = mem::replace(self, Stage::new()).draft(alloc)?;
+        draft.slow(name, ppm, first)?;
+        self.phase = Phase::Declaring(draft);
+        Ok(Vec::new(alloc))
+    }
+
     /// A command is done, and the listener hears what happens in it. What it prints is answered, but not
     /// its report. Where it isn't done, nothing is left of the stage.
     pub fn follow<L: Listener>(
@@ -235,6 +254,7 @@ impl Stage {
                 standard,
                 nanoseconds,
             } => self.say_times(alloc, standard, nanoseconds),
+            Command::Clock { name, ppm, first } => self.slow(alloc, &name, ppm, first),
             _ => self.run(alloc, &command, listener),
         }
     }

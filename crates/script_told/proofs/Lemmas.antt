@@ -15,7 +15,7 @@ pub use Rattle.script_told.proofs.told.Fitting.{can-be-forced, profile-fits, sta
 -- Each report of a script is one of a settled bus.
 pub use Rattle.script_told.proofs.told.EachReport.{Says, is-none, settled-so, settles-say}
 -- What follows at a stage, and that a script has one run.
-pub use Rattle.script_told.proofs.told.Lines.{cabled, one-run, one-told, says}
+pub use Rattle.script_told.proofs.told.Lines.{cabled, one-run, one-told, says, slows}
 -- The parts of answers.
 pub use Rattle.script_told.proofs.told.Parts.{printed-in, stage-in, text-in}
 -- How runs and their results end: well or with a fault, and in one way.
@@ -26,5 +26,7 @@ pub use Rattle.script_told.proofs.told.EntryRuns.{scripts-are-runs, runs-on}
 pub use Rattle.script_told.proofs.told.PrintedTree.{prints-gap, prints-tree, same-report}
 -- A plan that has an answer was carried out.
 pub use Rattle.script_told.proofs.told.PlanCarried.{plan-carried}
+-- A line that slows a clock leaves nodes that suit a bus.
+pub use Rattle.script_told.proofs.told.Slowed.{slow-so, slowed-draft, slows-sound}
 -- A command leaves a bus whose world comes of power-on, and so does each line of a script.
 pub use Rattle.script_told.proofs.told.Reached.{config-act, plan-act, draft-power, IsSound, IsSoundDraft, LeavesSound, attrs_said, do-act, do-settle, drafted, leaves, no-nodes, node-at-power-on, onwards-sound, sound-bus}

@@ -25,7 +25,7 @@ use Rattle.bus_manager.specs.Election.{lock_for}
 use Rattle.settle.specs.declared.report.Report.{Report}
 use Rattle.settle.specs.Report.{quiet_turns_of}
 use Rattle.script_lines.specs.declared.kind.Kind.{Kind}
-use Rattle.script_lines.specs.declared.command.Command.TheVariants.{Node, Plug, Pull, Reset, Turn, Hold, Settle, Config, CsrRead, CsrWrite, CsrLock, Look, Allocate, Release, Manager, Plan, Maps, Delay, Times}
+use Rattle.script_lines.specs.declared.command.Command.TheVariants.{Node, Plug, Pull, Reset, Turn, Hold, Settle, Config, CsrRead, CsrWrite, CsrLock, Look, Allocate, Release, Manager, Plan, Maps, Delay, Times, Clock}
 use Rattle.script_lines.specs.Refusal.{kind_of}
 use Rattle.script_text.specs.CommandText.{csr_text, grant_text, bid_text}
 use Rattle.script_text.specs.SomeText.{HasReportText, QuietWorldsHaveTexts}
@@ -183,6 +183,7 @@ pub some-answer : ComponentsExist → QuietWorldsHaveTexts → ReportedTreesAreM
 some-answer components texts trees all-maps bus (Node name ports speed link contender force power gap gap_reset hold short long word len seed packed) h p = known (Err Kind.Late)
 some-answer components texts trees all-maps bus (Delay delay) h p = known (Err Kind.Late)
 some-answer components texts trees all-maps bus (Times standard nanoseconds) h p = known (Err Kind.Late)
+some-answer components texts trees all-maps bus (Clock name ppm first) h p = known (Err Kind.Late)
 some-answer components texts trees all-maps bus (Plug a a_port b b_port) h p =
     named bus a _ (λ i. named bus b _ (λ j. acts components bus (act.Plug (end_of i a_port) (end_of j b_port)) h.reached))
 some-answer components texts trees all-maps bus (Pull name port) h p = named bus name _ (λ node. acts components bus (act.Pull (end_of node port)) h.reached)

@@ -183,7 +183,13 @@ node number =
     3 false false (times_of (profile_ranges 4) None None None) (coins_of number 0 0 None)
 
 abbrev declared : List (List ℕ) → List PortNode → Stage
-declared names nodes = declaring (record { delay = 4; times = profile_times 4; names = names; nodes = nodes })
+declared names nodes = declaring (record {
+  delay = 4;
+  times = profile_times 4;
+  names = names;
+  nodes = nodes;
+  slowed = false;
+})
 
 abbrev plain : List ℕ → Command
 plain name = Node name 3 2 true false false 0 63 false None None None 0 0 None false

@@ -2,6 +2,7 @@
 --
 -- `Cables`: acts and turns leave cables that are a cabling, over which a world has one report.
 -- `Commands`: a command comes to one answer. `Fitting`: times that suit a bus. `Reached`: it leaves a world that comes of power-on.
+-- `Slowed`: a line that slows a clock leaves nodes that suit a bus.
 -- `Lines`: what follows at a stage, and that lines have one run. `EachDone`: what holds of each command
 -- of a run. `EachReport`: what reports say. `ReachedRuns`: the worlds of a run. `Answers`:
 -- a fact of each answer. `EntryRuns`: the events of each command. `PrintedTree`: a
@@ -12,6 +13,7 @@ pub mod Cables
 pub mod Commands
 pub mod Fitting
 pub mod Reached
+pub mod Slowed
 pub mod Lines
 pub mod EachDone
 pub mod EachReport

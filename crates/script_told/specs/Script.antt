@@ -1,5 +1,5 @@
 -- A script: its lines, and what a command comes to between two of them.
-use Rattle.std.specs.Prelude.{◌≡◌, ℕ, nat_lt, ◌==◌, ◌&&◌, not, is_some, Bool, false, List, [], ◌∷◌, ◌++◌, length, Option, None, Some, unwrap_or, Result, Ok, Err, if◌then◌else◌}
+use Rattle.std.specs.Prelude.{◌≡◌, ℕ, nat_lt, ◌==◌, ◌&&◌, not, is_some, Bool, true, false, List, [], ◌∷◌, ◌++◌, length, slice_get, slice_set, Option, None, Some, unwrap_or, Result, Ok, Err, if◌then◌else◌}
 use Rattle.std.specs.List.{slice_split}
 use Rattle.self_id.specs.declared.node.Attrs.{Attrs}
 use Rattle.self_id.specs.declared.standard.Standard.{Standard}
@@ -7,17 +7,21 @@ use Rattle.port_state.specs.Coins.{Coins, coins_of_bits, coins_of_seed}
 use Rattle.port_state.specs.declared.timing.Timing.{Timing}
 use Rattle.port_state.specs.declared.ranges.TimeRanges.{TimeRanges}
 use Rattle.port_state.specs.PowerOn.{power_on_with}
-use Rattle.port_state.specs.Clock.{even}
+use Rattle.port_state.specs.Clock.{Clock, even, is_even}
 use Rattle.port_state.specs.Machine.{PortNode}
+use Rattle.cable_world.specs.World.{NodeNumber}
 use Rattle.script_lines.specs.declared.kind.Kind.{Kind}
-use Rattle.script_lines.specs.declared.kind.Kind.TheVariants.{Twice, Late, TooManyNodes}
+use Rattle.script_lines.specs.declared.kind.Kind.TheVariants.{Twice, Late, TooManyNodes, NoNode, Range}
 use Rattle.script_lines.specs.declared.kind.ScriptFault.{ScriptFault}
 use Rattle.script_lines.specs.declared.command.Command.{Command}
+use Rattle.script_lines.specs.declared.command.Command.TheVariants as command
 use Rattle.script_lines.specs.declared.command.Command.TheVariants.{Node, Delay, Times}
+use Rattle.script_lines.specs.declared.clock.TooSlow.{TooSlow}
 use Rattle.script_lines.specs.declared.times.ScriptTimes.{ScriptTimes}
 use Rattle.script_lines.specs.Times.{profile_times, standard_times}
+use Rattle.script_lines.specs.Clock.{gap_of, clock_said, slow_ranges}
 use Rattle.script_text.specs.ReportText.{Names}
-use Rattle.script_told.specs.Bus.{Bus, bus_of_nodes, is_declared}
+use Rattle.script_told.specs.Bus.{Bus, bus_of_nodes, is_declared, node_named}
 use Rattle.script_told.specs.Step.{LineAnswer, Does}
 
 -- ---- lines
@@ -40,10 +44,18 @@ pub record Draft : Type 0 where
   pub times : ScriptTimes
   pub names : Names
   pub nodes : List PortNode
+  -- a clock is slow, and no further node is declared
+  pub slowed : Bool
 
 -- nothing but a delay: the times of nodes are the profile's
 abbrev pub draft_with : ℕ → Draft
-draft_with delay = record { delay = delay; times = profile_times delay; names = []; nodes = [] }
+draft_with delay = record {
+  delay = delay;
+  times = profile_times delay;
+  names = [];
+  nodes = [];
+  slowed = false;
+}
 
 -- without a line that says it the delay is 4
 abbrev pub first_draft : Draft
@@ -102,11 +114,12 @@ bus_of (running bus) = bus
 abbrev pub ranges_of : Stage → TimeRanges
 ranges_of stage = (bus_of stage).notes.times.ranges
 
--- a node is declared, where it isn't the 64th and its name is new
+-- a node is declared, where no clock is slow yet, it isn't the 64th and its name is new
 abbrev pub Declares : Option Draft → List ℕ → (TimeRanges → ℕ → PortNode) → StageAnswer → Type 0
 Declares None name node answer = answer ≡ Err Late
 Declares (Some draft) name node answer =
-    answer ≡ (if nat_lt 62 (length draft.names) then Err TooManyNodes
+    answer ≡ (if draft.slowed then Err Late
+    else if nat_lt 62 (length draft.names) then Err TooManyNodes
     else if is_declared draft.names name then Err Twice
     else Ok (declaring (with_node draft name (node draft.times.ranges (length draft.names))), []))
 
@@ -131,6 +144,39 @@ SaysTimes None standard nanoseconds answer = answer ≡ Err Late
 SaysTimes (Some draft) standard nanoseconds answer =
     answer ≡ (if takes_times draft then
     with_times draft (standard_times standard draft.delay nanoseconds) else Err Late)
+
+-- the clock of a node is this one, where the ranges of times then are these
+abbrev pub with_clock :
+    Draft → NodeNumber → PortNode → Clock → Result TimeRanges TooSlow → StageAnswer
+with_clock draft number x clock (Ok ranges) = Ok (
+  declaring (record draft {
+    times = record draft.times { ranges = ranges };
+    nodes = slice_set draft.nodes number (record x { clock = clock });
+    slowed = true;
+  }),
+  [],
+)
+with_clock draft number x clock (Err reason) = Err Range
+
+-- the clock of a node is so many parts per million slower, unless a line before said how slow it is
+abbrev pub slows_node : Draft → ℕ → Option ℕ → NodeNumber → Option PortNode → StageAnswer
+slows_node draft ppm first number None = Err NoNode
+slows_node draft ppm first number (Some x) =
+    if is_even x.clock then with_clock draft number x (clock_said ppm first)
+    (slow_ranges draft.delay draft.times.ranges x.state.timing (gap_of ppm))
+    else Err Twice
+
+-- the same of the node that has a name, else `NoNode`
+abbrev pub slows_named : Draft → ℕ → Option ℕ → Option NodeNumber → StageAnswer
+slows_named draft ppm first None = Err NoNode
+slows_named draft ppm first (Some number) =
+    slows_node draft ppm first number (slice_get draft.nodes number)
+
+-- the clock of the node with a name is slow, where the bus doesn't run yet
+abbrev pub Slows : Option Draft → List ℕ → ℕ → Option ℕ → StageAnswer → Type 0
+Slows None name ppm first answer = answer ≡ Err Late
+Slows (Some draft) name ppm first answer =
+    answer ≡ slows_named draft ppm first (node_named draft.names name)
 
 -- the bus runs from now on
 abbrev pub onwards : LineAnswer → StageAnswer
@@ -160,6 +206,8 @@ DoesAtStage stage
 DoesAtStage stage (Delay delay) answer = Delays stage delay answer
 DoesAtStage stage (Times standard nanoseconds) answer =
     SaysTimes (draft_of stage) standard nanoseconds answer
+DoesAtStage stage (command.Clock name ppm first) answer =
+    Slows (draft_of stage) name ppm first answer
 DoesAtStage stage command answer = DoesOnBus stage command answer
 
 -- ---- faults

@@ -6,7 +6,7 @@ use Rattle.cable_world.specs.declared.act.Act.{Act}
 use Rattle.cable_world.specs.World.{NodeNumber}
 use Rattle.cable_world.specs.Events.{Event, acts, Runs, HasNoAct, turn_count}
 use Rattle.script_lines.specs.declared.command.Command.{Command}
-use Rattle.script_lines.specs.declared.command.Command.TheVariants.{Node, Plug, Pull, Reset, Turn, Settle, Config, Plan, Delay, Times}
+use Rattle.script_lines.specs.declared.command.Command.TheVariants.{Node, Plug, Pull, Reset, Turn, Settle, Config, Plan, Delay, Times, Clock}
 use Rattle.script_told.specs.Bus.{Bus, node_named}
 use Rattle.script_told.specs.Step.{port_of, end_of, config_of}
 use Rattle.script_told.specs.Script.{running, bus_of}
@@ -18,6 +18,7 @@ Declares (Node name ports speed link contender force power gap gap_reset hold sh
     Unit {0}
 Declares (Delay delay) = Unit {0}
 Declares (Times standard nanoseconds) = Unit {0}
+Declares (Clock name ppm first) = Unit {0}
 Declares command = ⊥
 
 -- a command that takes time or asks, and neither acts nor reports
@@ -26,6 +27,7 @@ LeavesAlone (Node name ports speed link contender force power gap gap_reset hold
     ⊥
 LeavesAlone (Delay delay) = ⊥
 LeavesAlone (Times standard nanoseconds) = ⊥
+LeavesAlone (Clock name ppm first) = ⊥
 LeavesAlone (Plug a a_port b b_port) = ⊥
 LeavesAlone (Pull name port) = ⊥
 LeavesAlone (Reset name) = ⊥

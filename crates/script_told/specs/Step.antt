@@ -26,7 +26,7 @@ use Rattle.settle.specs.Report.{IsReport, quiet_turns_of}
 use Rattle.script_lines.specs.declared.kind.Kind.{Kind}
 use Rattle.script_lines.specs.declared.kind.Kind.TheVariants.{Late, NoNode, NotSettled, NoManager, NotManager, TooManyTurns, TooManyMaps}
 use Rattle.script_lines.specs.declared.command.Command.{Command}
-use Rattle.script_lines.specs.declared.command.Command.TheVariants.{Node, Plug, Pull, Reset, Turn, Hold, Settle, Config, CsrRead, CsrWrite, CsrLock, Look, Allocate, Release, Manager, Plan, Maps, Delay, Times}
+use Rattle.script_lines.specs.declared.command.Command.TheVariants.{Node, Plug, Pull, Reset, Turn, Hold, Settle, Config, CsrRead, CsrWrite, CsrLock, Look, Allocate, Release, Manager, Plan, Maps, Delay, Times, Clock}
 use Rattle.script_lines.specs.Refusal.{kind_of}
 use Rattle.script_text.specs.ReportText.{IsReportText}
 use Rattle.script_text.specs.Maps.{IsMapsText}
@@ -245,6 +245,7 @@ Does bus (Node name ports speed link contender force power gap gap_reset hold sh
     r = r ≡ Err Late
 Does bus (Delay delay) r = r ≡ Err Late
 Does bus (Times standard nanoseconds) r = r ≡ Err Late
+Does bus (Clock name ppm first) r = r ≡ Err Late
 Does bus (Plug a a_port b b_port) r = Named bus a (λ i. Named bus b (λ j.
     Acts bus (act.Plug (end_of i a_port) (end_of j b_port)))) r
 Does bus (Pull name port) r = Named bus name (λ node. Acts bus (act.Pull (end_of node port))) r

@@ -9,7 +9,7 @@ use Rattle.root_plan.specs.declared.choice.RootPlan.{RootPlan}
 use Rattle.script_lines.specs.declared.kind.Kind.{Kind}
 use Rattle.script_lines.specs.declared.kind.ScriptFault.{ScriptFault}
 use Rattle.script_lines.specs.declared.command.Command.{Command}
-use Rattle.script_lines.specs.declared.command.Command.TheVariants.{Node, Plug, Pull, Reset, Turn, Hold, Settle, Config, Plan, Delay, Times}
+use Rattle.script_lines.specs.declared.command.Command.TheVariants.{Node, Plug, Pull, Reset, Turn, Hold, Settle, Config, Plan, Delay, Times, Clock}
 use Rattle.script_told.specs.Bus.{Bus, ReportedTree, tree_with}
 use Rattle.script_told.specs.Step.{LineAnswer, CarriesOut, Does}
 use Rattle.script_told.specs.Script.{Stage, fresh, declaring, running, DoesOnBus, DoesAtStage, onwards, ScriptResult, bus_of}
@@ -176,6 +176,7 @@ stage-lines v stage command (running after) text f = by-command command f
         g = ([], refl)
     by-command (Delay delay) g = ([], refl)
     by-command (Times standard nanoseconds) g = ([], refl)
+    by-command (Clock name ppm first) g = ([], refl)
     by-command c g = of-runs c g
 
 each-has-lines : (v : Voice) (entries : List Entry) → All IsDone entries →

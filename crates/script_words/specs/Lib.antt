@@ -4,6 +4,7 @@ pub mod Fit
 pub mod Near
 pub mod Pairs
 pub mod Before
+pub mod Clocks
 pub mod Cables
 pub mod LineSentence
 pub mod Sentence

@@ -11,6 +11,7 @@ use Rattle.script_words.specs.Fit.{right, furthest, first_of, all_of}
 use Rattle.script_words.specs.Near.{nearest}
 use Rattle.script_words.specs.Pairs.{paired, pair_wanted, valued, range_wanted, value_wanted, distinct}
 use Rattle.script_words.specs.Before.{is_node_line}
+use Rattle.script_words.specs.Clocks.{is_clock_line}
 
 -- ---- `Word`
 
@@ -32,7 +33,7 @@ mark_sentence =
 
 abbrev pub verbs_wanted : List ℕ
 verbs_wanted =
-    codes "delay, times, node, plug, pull, reset, turn, hold, settle, config, csr, look, allocate, release, manager, plan or maps"
+    codes "delay, times, node, clock, plug, pull, reset, turn, hold, settle, config, csr, look, allocate, release, manager, plan or maps"
 
 -- the verb that a word comes near to, if there is one
 abbrev pub near_wanted : List ℕ → List ℕ
@@ -108,5 +109,11 @@ twice_at line words at =
     if nat_lt at (length words) then found line words at ++ twice_wanted
     else found line words 1 ++ name_twice_wanted
 
+abbrev pub clock_twice_wanted : List ℕ
+clock_twice_wanted = codes "a node whose clock no line before slows.\n"
+
+-- of a `clock` line it is the name
 abbrev pub twice_sentence : List ℕ → List (List ℕ) → List ℕ
-twice_sentence line words = twice_at line words (3 + distinct [] (drop 3 words))
+twice_sentence line words =
+    if is_clock_line words then found line words 1 ++ clock_twice_wanted
+    else twice_at line words (3 + distinct [] (drop 3 words))

@@ -1,5 +1,5 @@
 -- What was found and what was wanted where a script is refused, in a sentence.
-use Rattle.std.specs.Prelude.{ℕ, ◌-◌, is_some, unwrap_or, List, [], ◌∷◌, ◌++◌, take, drop, slice_index_or, codes, Option, Some, None, Result, Ok, Err, if◌then◌else◌}
+use Rattle.std.specs.Prelude.{ℕ, ◌+◌, ◌-◌, ◌&&◌, not, nat_lt, length, Bool, is_some, unwrap_or, List, [], ◌∷◌, ◌++◌, take, drop, slice_index_or, codes, Option, Some, None, Result, Ok, Err, if◌then◌else◌}
 use Rattle.std.specs.Str.{bytes_eq}
 use Rattle.std.specs.Str.Lines.{strip_carriage_return}
 use Rattle.port_state.specs.declared.ranges.TimeRanges.{TimeRanges}
@@ -13,6 +13,10 @@ use Rattle.script_lines.specs.declared.kind.ScriptFault.{ScriptFault}
 use Rattle.script_words.specs.Column.{field, found}
 use Rattle.script_words.specs.Before.{feed_lines, delay_of, times_said, ranges_of, ports_of, names_in, is_port}
 use Rattle.script_words.specs.Cables.{End, end_at, far_end}
+use Rattle.script_words.specs.Fit.{right}
+use Rattle.script_words.specs.Clocks.{is_clock_line, timing_of, gap_said, slowed_behind}
+use Rattle.script_lines.specs.declared.clock.TooSlow.{TooSlow}
+use Rattle.script_lines.specs.declared.clock.TooSlow.TheVariants.{Often, Times}
 use Rattle.script_words.specs.LineSentence.{word_sentence, value_sentence, usage_words, twice_sentence}
 
 -- ---- names and ports
@@ -61,6 +65,8 @@ late_wanted words =
     if bytes_eq (word_at words 0) (codes "delay") then codes "it before all other commands.\n"
     else if bytes_eq (word_at words 0) (codes "times") then
     codes "it once, before all commands but delay.\n"
+    else if bytes_eq (word_at words 0) (codes "clock") then
+    codes "it before all commands but delay, times, node and clock.\n"
     else codes "it before all commands but delay, times and node.\n"
 
 abbrev pub bus_wanted : Kind → List ℕ
@@ -140,13 +146,56 @@ reason standard ShortForce = too_slow standard
 abbrev pub misfit_wanted : ℕ → List ℕ → Misfit → List ℕ
 misfit_wanted d standard misfit = inequality d misfit ++ reason standard misfit
 
+-- ---- clocks that are too slow
+
+unfoldable pub often_wanted : ℕ → ℕ → List ℕ
+often_wanted long gap =
+    field (codes "a clock that ticks at least ") long
+    ++ (field (codes " times, the node's long wait, between two turns that it misses. This one ticks ") gap
+    ++ codes " times.\n")
+
+abbrev pub slow_reason : List ℕ
+slow_reason = codes "With the turns that this clock misses, times take too long.\n"
+
+-- after how many turns what a node tells is seen: where a forced node waits for it, its neighbours' clocks
+-- may miss a turn each
+abbrev pub slow_delay : ℕ → Misfit → ℕ
+slow_delay d ShortForce = d + 1
+slow_delay d misfit = d
+
+-- why a clock is too slow that ticks in `gap` turns between two that it misses
+abbrev pub slow_wanted : ℕ → ℕ → ℕ → TooSlow → List ℕ
+slow_wanted d long gap Often = often_wanted long gap
+slow_wanted d long gap (Times misfit) = inequality (slow_delay d misfit) misfit ++ slow_reason
+
+-- each number of a `clock` line is in its range
+abbrev pub is_right_clock : List (List ℕ) → Bool
+is_right_clock words =
+    is_clock_line words && not (nat_lt (right (usage_words words) words) (length (usage_words words)))
+
+-- the clock of a line is too slow behind other lines
+abbrev pub clock_sentence : ℕ → TimeRanges → List (List ℕ) → List ℕ → List (List ℕ) → List ℕ
+clock_sentence d times lines line words = by (slowed_behind d times lines words)
+  where
+    by : Result TimeRanges TooSlow → List ℕ
+    by (Err reason) =
+        found line words 2
+        ++ slow_wanted d (timing_of times (word_at words 1) lines).long (gap_said words) reason
+    by (Ok ranges) = value_sentence times line (usage_words words) words
+
 -- a number is out of its range, or the times that a line says don't suit
-abbrev pub range_sentence : ℕ → TimeRanges → List ℕ → List (List ℕ) → List ℕ
-range_sentence d times line words = by (times_said d words)
+abbrev pub number_sentence : ℕ → TimeRanges → List ℕ → List (List ℕ) → List ℕ
+number_sentence d times line words = by (times_said d words)
   where
     by : Option (Result TimeRanges Misfit) → List ℕ
     by (Some (Err misfit)) = found line words 2 ++ misfit_wanted d (word_at words 1) misfit
     by said = value_sentence times line (usage_words words) words
+
+-- one of these, behind other lines
+abbrev pub range_sentence : ℕ → TimeRanges → List (List ℕ) → List ℕ → List (List ℕ) → List ℕ
+range_sentence d times lines line words =
+    if is_right_clock words then clock_sentence d times lines line words
+    else number_sentence d times line words
 
 -- ---- all kinds
 
@@ -156,7 +205,7 @@ abbrev pub sentence_of : ℕ → TimeRanges → List (List ℕ) → List (List �
 sentence_of d times lines behind line words Word = word_sentence line
 sentence_of d times lines behind line words Number = value_sentence times line (usage_words words) words
 sentence_of d times lines behind line words Name = value_sentence times line (usage_words words) words
-sentence_of d times lines behind line words Range = range_sentence d times line words
+sentence_of d times lines behind line words Range = range_sentence d times lines line words
 sentence_of d times lines behind line words Twice = twice_sentence line words
 sentence_of d times lines behind line words Late = found line words 0 ++ late_wanted words
 sentence_of d times lines behind line words NoNode = no_node_sentence lines behind line words

@@ -16,7 +16,8 @@ usages =
     ∷ codes "csr NAME lock OFFSET KIND ARG VALUE" ∷ codes "look NAME"
     ∷ codes "allocate NAME CHANNEL UNITS" ∷ codes "release NAME CHANNEL UNITS"
     ∷ codes "manager NAME" ∷ codes "plan NAME" ∷ codes "maps NAME" ∷ codes "delay D"
-    ∷ codes "times 1394a NANOSECONDS" ∷ codes "times 1394-1995 NANOSECONDS" ∷ []
+    ∷ codes "times 1394a NANOSECONDS" ∷ codes "times 1394-1995 NANOSECONDS"
+    ∷ codes "clock NAME PPM" ∷ codes "clock NAME PPM TURN" ∷ []
 
 -- the least and the greatest number that a word in capitals stands for
 abbrev pub range_of : List ℕ → Option (ℕ × ℕ)
@@ -35,6 +36,8 @@ range_of word =
     else if bytes_eq word (codes "UNITS") then Some (0, 4915)
     else if bytes_eq word (codes "D") then Some (1, 16)
     else if bytes_eq word (codes "NANOSECONDS") then Some (1, 4294967295)
+    else if bytes_eq word (codes "PPM") then Some (1, 1000000)
+    else if bytes_eq word (codes "TURN") then Some (1, 2000000)
     else None
 
 -- these two may be left out, by a `-`

@@ -33,7 +33,7 @@ pub(crate) fn is_node_line(words: &[Text]) -> bool
 }
 
 /// Whether words declare a node with this name.
-fn declares(name: &[u8], words: &[Text]) -> bool
+pub(crate) fn declares(name: &[u8], words: &[Text]) -> bool
     ensures { result ≡ declares name.now words.now }
 {
     is_node_line(words) && word_at(words, 1) == name

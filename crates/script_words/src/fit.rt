@@ -43,7 +43,7 @@ pub(crate) fn right(wanted: &[Text], words: &[Text]) -> usize
 
 /// The same as `reach`, of a usage by its number.
 fn reach_of(alloc: Global, number: usize, words: &[Text]) -> Result<usize, OutOfMemory>
-    requires { number < 22 }
+    requires { number < 24 }
     ensures value { IfOk result (λ n.
         n ≡ reach (words_of (slice_index_or usages number [])) words.now) }
     ensures few { IfOk result (λ n. n ≤ length words.now) }
@@ -91,7 +91,7 @@ pub(crate) fn first_of(
 
 /// Appends a usage, and ` or ` before it where it isn't the first.
 fn put_usage(out: &mut Vec<u8>, some: bool, number: usize) -> Result<(), OutOfMemory>
-    requires { number < 22 }
+    requires { number < 24 }
     ensures { OnOk result (out.new.items ≡ out.old.items
         ++ ((if some then codes " or " else []) ++ slice_index_or usages number [])) }
 {
@@ -112,7 +112,7 @@ fn put_one(
     number: usize,
     words: &[Text],
 ) -> Result<bool, OutOfMemory>
-    requires { number < 22 }
+    requires { number < 24 }
     ensures { IfOk result (λ stands.
         out.new.items ++ all_of stands n words.now (drop (number + 1) usages)
         ≡ out.old.items ++ all_of some n words.now (drop number usages)) }

@@ -3,6 +3,7 @@
 
 mod before;
 mod cables;
+mod clocks;
 mod column;
 mod fit;
 mod laws;

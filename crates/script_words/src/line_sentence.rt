@@ -8,6 +8,7 @@ ghost use Rattle.script_words.specs.Pairs.{distinct};
 ghost use Rattle.script_words.specs.LineSentence.{byte_sentence, is_marked, verbs_wanted, near_wanted, at_byte, usages_wanted, pairs_sentence, usage_sentence, form_sentence, word_sentence, shape_wanted, pair_value, value_sentence, usage_words, twice_sentence};
 
 use crate::before::is_node_line;
+use crate::clocks::is_clock_line;
 use crate::column::{put_field, put_found};
 use crate::fit::{first_of, furthest, put_all_of, right};
 use crate::near::nearest;
@@ -72,7 +73,7 @@ fn put_verbs(alloc: Global, out: &mut Vec<u8>, word: &[u8]) -> Result<(), OutOfM
         ≡ out.old.items ++ (verbs_wanted ++ near_wanted (nearest word.now))) }
 {
     out.extend_from_slice(
-        b"delay, times, node, plug, pull, reset, turn, hold, settle, config, csr, look, allocate, release, manager, plan or maps",
+        b"delay, times, node, clock, plug, pull, reset, turn, hold, settle, config, csr, look, allocate, release, manager, plan or maps",
     )?;
     put_near(alloc, out, word)
 }
@@ -250,7 +251,7 @@ fn twice_place(words: &[Text]) -> usize
     }
 }
 
-/// Appends the sentence on a key or a name that stands twice.
+/// Appends the sentence on a key or a name that stands twice, or a clock that is slowed twice.
 pub(crate) fn put_twice_sentence(
     out: &mut Vec<u8>,
     line: &[u8],
@@ -258,6 +259,11 @@ pub(crate) fn put_twice_sentence(
 ) -> Result<(), OutOfMemory>
     ensures { OnOk result (out.new.items ≡ out.old.items ++ twice_sentence line.now words.now) }
 {
+    if is_clock_line(words) {
+        put_found(out, line, words, 1)?;
+        out.extend_from_slice(b"a node whose clock no line before slows.\n")?;
+        return Ok(());
+    }
     let at = twice_place(words);
     if at < words.len() {
         put_found(out, line, words, at)?;

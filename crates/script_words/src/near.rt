@@ -53,7 +53,7 @@ fn is_near(one: &[u8], other: &[u8]) -> bool
 
 /// The first word of a usage, by its number.
 fn verb_of(alloc: Global, number: usize) -> Result<&'static [u8], OutOfMemory>
-    requires { number < 22 }
+    requires { number < 24 }
     ensures { IfOk result (λ verb.
         verb.now ≡ word_at (words_of (slice_index_or usages number [])) 0) }
 {

@@ -156,6 +156,8 @@ fn late_wanted(words: &[Text]) -> &'static [u8]
         b"it before all other commands.\n"
     } else if same(word_at(words, 0), b"times") {
         b"it once, before all commands but delay.\n"
+    } else if same(word_at(words, 0), b"clock") {
+        b"it before all commands but delay, times, node and clock.\n"
     } else {
         b"it before all commands but delay, times and node.\n"
     }
@@ -288,7 +290,7 @@ fn put_words_sentence(
         Kind::Word => put_word_sentence(alloc, out, line, words),
         Kind::Number => put_value_sentence(alloc, out, said.times, line, words),
         Kind::Name => put_value_sentence(alloc, out, said.times, line, words),
-        Kind::Range => put_range_sentence(alloc, out, said, line, words),
+        Kind::Range => put_range_sentence(alloc, out, said, around.before, line, words),
         Kind::Twice => put_twice_sentence(out, line, words),
         Kind::Late => put_at(out, line, words, 0, late_wanted(words)),
         Kind::NoNode => put_no_node(alloc, out, around, line, words),

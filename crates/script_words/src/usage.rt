@@ -7,12 +7,12 @@ use crate::text::same;
 use script_lines::{Name, names_are_tested, number_of};
 
 /// How many usages there are.
-pub(crate) const USAGES: usize = 22;
+pub(crate) const USAGES: usize = 24;
 
 /// A line as docs write it.
 #[tactic(auto, unfolding(crate::specs::Usage::usages))]
 pub(crate) fn usage(number: usize) -> &'static [u8]
-    requires { number < 22 }
+    requires { number < 24 }
     ensures { result.now ≡ slice_index_or usages number [] }
 {
     match number {
@@ -37,7 +37,9 @@ pub(crate) fn usage(number: usize) -> &'static [u8]
         18 => b"maps NAME",
         19 => b"delay D",
         20 => b"times 1394a NANOSECONDS",
-        _ => b"times 1394-1995 NANOSECONDS",
+        21 => b"times 1394-1995 NANOSECONDS",
+        22 => b"clock NAME PPM",
+        _ => b"clock NAME PPM TURN",
     }
 }
 
@@ -73,6 +75,10 @@ pub(crate) fn range_of(word: &[u8]) -> Option<(u32, u32)>
         Some((1, 16))
     } else if same(word, b"NANOSECONDS") {
         Some((1, u32::MAX))
+    } else if same(word, b"PPM") {
+        Some((1, 1_000_000))
+    } else if same(word, b"TURN") {
+        Some((1, 2_000_000))
     } else {
         None
     }

@@ -8,8 +8,8 @@ ghost use Rattle.world_agenda.specs.Clock.{caught_up};
 use port_state::{PortMachine, Sends, Signal, Timing, View};
 use self_id::Attrs;
 
-/// A machine with its clock: the turn at whose end it stands, and for how many ticks from there nothing
-/// happens to it unless it hears a signal, if not for more.
+/// A machine with the turn at whose end it stands, and for how many turns from there nothing happens to
+/// it unless it hears a signal, if not for more.
 #[derive(Drop)]
 pub struct AgendaNode<M: PortMachine> {
     pub machine: M,
@@ -46,10 +46,10 @@ impl<M: PortMachine> AgendaNode<M> {
         ensures clock { self.old.clock ≤ turns → self.new.clock ≡ turns }
         ensures end { self.new.clock + self.new.idle ≡ self.old.clock + self.old.idle }
     {
-        let ticks = turns.saturating_sub(self.clock);
-        if ticks > 0 {
-            self.machine.pass(ticks);
-            self.idle -= ticks;
+        let behind = turns.saturating_sub(self.clock);
+        if behind > 0 {
+            self.machine.pass(behind);
+            self.idle -= behind;
             self.clock = turns;
         }
     }

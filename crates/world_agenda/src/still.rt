@@ -19,8 +19,8 @@ pub trait TellsStillTurns: ShowsWires {
         ensures still { IsStillFor result (Self.world self.now) };
 
     /// The nodes at which something may happen in the next turn, or whose clocks miss it. It is known of
-    /// each other node that it ticks, that no more than its timer changes, and that it sends nothing. Fewer than 4,000,000,000 turns were
-    /// done before. A spent world may tell any nodes.
+    /// each other node that it ticks in it, that no more than its timer changes, and that it sends
+    /// nothing. Fewer than 4,000,000,000 turns were done before. A spent world may tell any nodes.
     fn touched(&self) -> NodeSet
         requires { (Self.world self.now).turns < 4000000000 }
         ensures { IsFalse (Self.is_spent self.now) →

@@ -49,6 +49,20 @@ slowly = record { hold_most = omega arith; force_most = omega arith; timeout_mos
 keeps : (coin : ℕ) → KeepsTime longest (slow_node coin).state.timing (slow_node coin).clock
 keeps coin = (omega arith, slowly)
 
+-- with longest times that are a turn shorter it doesn't keep time, and with a clock that misses a turn more often
+too-short-a-force :
+    KeepsTime (record longest { force = 1056 }) (usual_timing 4) (every 100 100) → ⊥
+too-short-a-force h = omega (arith, h.1.force_most)
+
+too-short-a-wait : KeepsTime (record longest { short = 12 }) (usual_timing 4) (every 100 100) → ⊥
+too-short-a-wait h = omega (arith, h.1.short_most)
+
+too-short-a-long-wait : KeepsTime (record longest { long = 32 }) (usual_timing 4) (every 100 100) → ⊥
+too-short-a-long-wait h = omega (arith, h.1.long_most)
+
+too-often : KeepsTime longest (usual_timing 4) (every 31 100) → ⊥
+too-often h = omega (arith, h.0)
+
 powered : (coin : ℕ) → IsPowered 4 longest (plain_node coin).state
 powered coin = record {
   is = refl;

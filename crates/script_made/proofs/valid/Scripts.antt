@@ -48,6 +48,7 @@ record IsDeclared (k : ℕ) (stage : Stage) : Type 0 where
   times : draft.times ≡ profile_times 4
   names : draft.names ≡ names_below k
   ports : ports-of draft.nodes ≡ threes k
+  even : draft.slowed ≡ false
 
 -- the node that a line declares
 abbrev node : ℕ → ℕ → TimeRanges → ℕ → PortNode
@@ -82,7 +83,7 @@ declare seed k few stage h r x =
     ap (λ (names : List (List ℕ)). is_declared names name) h.names ∙ is-new k (omega (arith, few)) in
     let said : Declares (Some h.draft) name (node seed k) r =
     subst (λ (o : Option Draft). Declares o name (node seed k) r) h.open-yet x in
-    let is : r ≡ Ok (declaring next, []) = said ∙ rw (room, other) refl in
+    let is : r ≡ Ok (declaring next, []) = said ∙ rw (h.even, room, other) refl in
     subst (Leads (IsDeclared (suc k))) (sym is) (record {
       draft = next;
       open-yet = refl;
@@ -95,6 +96,7 @@ declare seed k few stage h r x =
       ports =
           map-append (λ (x : PortNode). x.state.ports) h.draft.nodes (new ∷ [])
           ∙ (ap (λ (counts : List ℕ). counts ++ 3 ∷ []) h.ports ∙ one-more-three k);
+      even = h.even;
     })
 
 -- ---- the bus before its first cable
@@ -228,6 +230,7 @@ none-declared = record {
   times = refl;
   names = refl;
   ports = refl;
+  even = refl;
 }
 
 no-fault : (n seed : ℕ) → n ≤ 63 → After (made_commands n seed) SettlesAtEnd fresh

@@ -1,9 +1,10 @@
 -- The nodes that a script declares, as the code keeps them.
-use Rattle.std.specs.Prelude.{◌≡◌, ℕ, ◌≤◌, false, All, length, map, Ok, Some, []}
+use Rattle.std.specs.Prelude.{◌≡◌, ℕ, ◌+◌, ◌≤◌, false, All, length, map, Ok, Some, []}
 use Rattle.phy_machine.specs.Any.{any_node}
 use Rattle.port_state.specs.Machine.{PortNode}
 use Rattle.port_state.specs.declared.ranges.TimeRanges.{TimeRanges}
-use Rattle.script_told.specs.Fitting.{AreFitting, IsFitting}
+use Rattle.cable_world.specs.World.{slack_of}
+use Rattle.script_told.specs.Fitting.{AreFitting, AreForced, IsFitting, spare}
 use Rattle.script_run.specs.declared.draft.Draft as kept
 use Rattle.script_run.specs.declared.draft.NodeLine.{NodeLine}
 use Rattle.script_lines.specs.Range.{IsNodeInRange}
@@ -15,6 +16,7 @@ draft_now draft = record {
   times = draft.times;
   names = draft.names;
   nodes = map any_node draft.machines.items;
+  slowed = draft.slowed;
 }
 
 -- what holds of what was declared: there are 63 nodes at most, each just powered on
@@ -22,6 +24,8 @@ pub record IsDraft (draft : kept.Draft) : Type 0 where
   pub some_delay : 1 ≤ draft.delay
   pub short_delay : draft.delay ≤ 16
   pub ranges : AreFitting draft.delay draft.times.ranges
+  pub forced : AreForced (draft.delay + spare draft.slowed) draft.times.ranges
+  pub slack : slack_of (map any_node draft.machines.items) ≡ spare draft.slowed
   pub few : length draft.machines.items ≤ 63
   pub named : length draft.names ≡ length draft.machines.items
   pub nodes :

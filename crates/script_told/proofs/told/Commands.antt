@@ -24,7 +24,7 @@ use Rattle.settle.specs.declared.report.Report.{Report}
 use Rattle.settle.specs.Report.{IsReport, quiet_turns_of}
 use Rattle.script_lines.specs.declared.kind.Kind.{Kind}
 use Rattle.script_lines.specs.declared.command.Command.{Command}
-use Rattle.script_lines.specs.declared.command.Command.TheVariants.{Node, Plug, Pull, Reset, Turn, Hold, Settle, Config, CsrRead, CsrWrite, CsrLock, Look, Allocate, Release, Manager, Plan, Maps, Delay, Times}
+use Rattle.script_lines.specs.declared.command.Command.TheVariants.{Node, Plug, Pull, Reset, Turn, Hold, Settle, Config, CsrRead, CsrWrite, CsrLock, Look, Allocate, Release, Manager, Plan, Maps, Delay, Times, Clock}
 use Rattle.script_text.specs.ReportText.{IsReportText}
 use Rattle.script_text.specs.Maps.{IsMapsText}
 use Rattle.script_text.specs.CommandText.{csr_text, grant_text}
@@ -342,6 +342,7 @@ does trees bus
     h = λ a b x y. known (Err Kind.Late) a b tt x y
 does trees bus (Delay delay) h = λ a b x y. known (Err Kind.Late) a b tt x y
 does trees bus (Times standard nanoseconds) h = λ a b x y. known (Err Kind.Late) a b tt x y
+does trees bus (Clock name ppm first) h = λ a b x y. known (Err Kind.Late) a b tt x y
 does trees bus (Plug one one_port other other_port) h =
     named bus one _ (λ i. named bus other _ (λ j.
     acts bus (act.Plug (end_of i one_port) (end_of j other_port)) h))

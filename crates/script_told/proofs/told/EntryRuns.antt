@@ -25,7 +25,7 @@ use Rattle.settle.specs.Report.{quiet_turns_of}
 use Rattle.script_text.specs.CommandText.{csr_text, grant_text, bid_text}
 use Rattle.script_lines.specs.declared.kind.Kind.{Kind}
 use Rattle.script_lines.specs.declared.command.Command.{Command}
-use Rattle.script_lines.specs.declared.command.Command.TheVariants.{Node, Plug, Pull, Reset, Turn, Hold, Settle, Config, CsrRead, CsrWrite, CsrLock, Look, Allocate, Release, Manager, Plan, Maps, Delay, Times}
+use Rattle.script_lines.specs.declared.command.Command.TheVariants.{Node, Plug, Pull, Reset, Turn, Hold, Settle, Config, CsrRead, CsrWrite, CsrLock, Look, Allocate, Release, Manager, Plan, Maps, Delay, Times, Clock}
 use Rattle.script_lines.specs.Range.{IsInRange}
 use Rattle.script_told.specs.Bus.{Bus, Notes, ReportedTree, node_named, values_at, after_access, put_look}
 use Rattle.script_told.specs.Step.{LineAnswer, AtNamedNode, Acts, HoldsWire, Turns, Reports, Accesses, DoesGrant, Looks, seen_by, Plans, GivesMaps, Does, end_of, config_of}
@@ -241,6 +241,7 @@ pub does-events :
 does-events d bus (Node name ports speed link contender force power gap gap_reset held short long word len seed packed) i r x = is-known (Led bus _) (λ k. tt) (Err Kind.Late) tt r x
 does-events d bus (Delay delay) i r x = is-known (Led bus (Delay delay)) (λ k. tt) (Err Kind.Late) tt r x
 does-events d bus (Times standard nanoseconds) i r x = is-known (Led bus (Times standard nanoseconds)) (λ k. tt) (Err Kind.Late) tt r x
+does-events d bus (Clock name ppm first) i r x = is-known (Led bus (Clock name ppm first)) (λ k. tt) (Err Kind.Late) tt r x
 does-events d bus (Plug a a_port b b_port) i r x =
     let c : Command = Plug a a_port b b_port in
     each-node-at (Led bus c) (λ k. tt) (node_named bus.notes.names a) _ (λ n one. each-node-at (Led bus c) (λ k. tt) (node_named bus.notes.names b) _ (λ m other.
@@ -298,6 +299,7 @@ follows-runs :
 follows-runs stage (Node name ports speed link contender force power gap gap_reset held short long word len seed packed) answer not f = absurd (not tt)
 follows-runs stage (Delay delay) answer not f = absurd (not tt)
 follows-runs stage (Times standard nanoseconds) answer not f = absurd (not tt)
+follows-runs stage (Clock name ppm first) answer not f = absurd (not tt)
 follows-runs stage c answer not f = f
 
 pub runs-on : (e : Entry) → IsDone e → (Declares e.command → ⊥) → RunsOn e

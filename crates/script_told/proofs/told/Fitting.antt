@@ -72,7 +72,7 @@ ranges-in nanoseconds r times e = cc
 none-timed : (m : Misfit) (nanoseconds : ℕ) (times : ScriptTimes) → timed nanoseconds (Err m) ≡ Ok times → ⊥
 none-timed m nanoseconds times e = cc
 
-fits : (d : ℕ) (r s : TimeRanges) → suitable d r ≡ Ok s → (s ≡ r) × AreSuitable d r
+pub fits : (d : ℕ) (r s : TimeRanges) → suitable d r ≡ Ok s → (s ≡ r) × AreSuitable d r
 fits d r s e = (grind (arith, e), ok-suitable d r (ap is_ok e))
 
 pub standard-fits :

@@ -3,6 +3,7 @@ use Rattle.std.proofs.Common.{◌≡◌, ℕ, ◌+◌, ◌≤◌, ◌==◌, ◌&
 use Rattle.std.specs.Prelude.{nat_lt, is_some, slice_get, Result, Ok, Err, if◌then◌else◌}
 use Rattle.std.proofs.lemmas.Bool.Decides.{nat_tests}
 use Rattle.topology_stack.specs.OneAnswer.{NoListHasTwoTrees}
+use Rattle.port_state.specs.Clock.{is_even}
 use Rattle.port_state.specs.Machine.{PortNode}
 use Rattle.port_state.specs.declared.ranges.TimeRanges.{TimeRanges}
 use Rattle.self_id.specs.declared.standard.Standard.{Standard}
@@ -10,21 +11,22 @@ use Rattle.cable_world.specs.Unchanged.{ActKeepsNodes}
 use Rattle.cable_world.proofs.Lemmas.{reached-lawful}
 use Rattle.script_lines.specs.declared.kind.Kind.{Kind}
 use Rattle.script_lines.specs.declared.command.Command.{Command}
-use Rattle.script_lines.specs.declared.command.Command.TheVariants.{Node, Delay, Times}
+use Rattle.script_lines.specs.declared.command.Command.TheVariants.{Node, Delay, Times, Clock}
 use Rattle.script_lines.specs.Range.{IsBetween, IsInRange}
 use Rattle.script_lines.specs.declared.times.ScriptTimes.{ScriptTimes}
 use Rattle.script_lines.specs.Times.{standard_times}
 use Rattle.script_lines.specs.Line.{ReadsLine}
 use Rattle.script_lines.proofs.Lemmas.{one_reading, in-range}
-use Rattle.script_told.specs.Bus.{is_declared}
-use Rattle.script_told.specs.Script.{Draft, Stage, fresh, declaring, running, StageAnswer, bus_of, ranges_of, first_draft, draft_with, new_node, times_of, coins_of, with_node, with_times, Declares, Delays, SaysTimes, onwards, DoesOnBus, DoesAtStage, script_lines}
+use Rattle.script_told.specs.Bus.{is_declared, node_named}
+use Rattle.script_told.specs.Script.{Draft, Stage, fresh, declaring, running, StageAnswer, bus_of, ranges_of, first_draft, draft_with, new_node, times_of, coins_of, with_node, with_times, slows_named, Declares, Delays, SaysTimes, Slows, onwards, DoesOnBus, DoesAtStage, script_lines}
 use Rattle.script_told.specs.Run.{ScriptRun, done, behind, last_run, Proceeds, TakesLine, RunsFrom, result_of}
 use Rattle.script_told.specs.OneTold.{ScriptsHaveOneRun, ScriptsTellOneThing}
 use Rattle.script_told.specs.Fitting.{AreFitting, IsFitting}
 use Rattle.script_told.proofs.told.Cables.{IsCabled}
 use Rattle.script_told.proofs.told.Commands.{does, settles}
 use Rattle.script_told.proofs.told.Fitting.{standard-fits}
-use Rattle.script_told.proofs.told.Reached.{IsSoundDraft, IsSound, LeavesSound, sound-bus, stage-reached, no-nodes, drafted, leaves, onwards-sound, attrs_said, node-at-power-on}
+use Rattle.script_told.proofs.told.Reached.{no-slack, IsSoundDraft, IsSound, LeavesSound, sound-bus, stage-reached, no-nodes, drafted, leaves, onwards-sound, attrs_said, node-at-power-on}
+use Rattle.script_told.proofs.told.Slowed.{slows-sound}
 
 -- the cables at a stage are a cabling
 pub cabled : (stage : Stage) → IsSound stage → IsCabled (bus_of stage).world
@@ -41,20 +43,22 @@ known r a b h x y = (x ∙ sym y, subst LeavesSound (sym x) h)
 declares :
     (draft : Draft) (name : List ℕ) (node : TimeRanges → ℕ → PortNode) → IsSoundDraft draft →
     IsFitting draft.delay draft.times.ranges (node draft.times.ranges (length draft.names)) →
-    IsOneStage (Declares (Some draft) name node)
-declares draft name node h on =
-    go (nat_lt 62 (length draft.names)) (is_declared draft.names name) refl
+    is_even (node draft.times.ranges (length draft.names)).clock ≡ true → IsOneStage (Declares (Some draft) name node)
+declares draft name node h on even =
+    go draft.slowed (nat_lt 62 (length draft.names)) (is_declared draft.names name) refl
   where
     new : PortNode
     new = node draft.times.ranges (length draft.names)
 
-    go : (full twice : Bool) → nat_lt 62 (length draft.names) ≡ full →
-        IsOneStage (λ r. r ≡ (if full then Err Kind.TooManyNodes
+    go : (slowed full twice : Bool) → nat_lt 62 (length draft.names) ≡ full →
+        IsOneStage (λ r. r ≡ (if slowed then Err Kind.Late
+        else if full then Err Kind.TooManyNodes
         else if twice then Err Kind.Twice else Ok (declaring (with_node draft name new), [])))
-    go true twice e a b x y = known (Err Kind.TooManyNodes) a b tt x y
-    go false true e a b x y = known (Err Kind.Twice) a b tt x y
-    go false false e a b x y =
-        known (Ok (declaring (with_node draft name new), [])) a b (drafted draft name new e h on) x y
+    go true full twice e a b x y = known (Err Kind.Late) a b tt x y
+    go false true twice e a b x y = known (Err Kind.TooManyNodes) a b tt x y
+    go false false true e a b x y = known (Err Kind.Twice) a b tt x y
+    go false false false e a b x y =
+        known (Ok (declaring (with_node draft name new), [])) a b (drafted draft name new e even h on) x y
 
 delays : (stage : Stage) (delay : ℕ) → IsBetween 1 16 delay → IsOneStage (Delays stage delay)
 delays fresh delay i a b x y =
@@ -72,6 +76,8 @@ timed-draft draft times none fit h = record {
   few = h.few;
   same = h.same;
   fitting = fit;
+  forced = record { enough = omega (arith, fit.suitable.force, h.slack, no-slack draft.nodes (sym h.same ∙ none)) };
+  slack = h.slack;
   powered = λ k x at. absurd (no-node draft.nodes (sym h.same ∙ none) k x at);
 }
   where
@@ -96,6 +102,14 @@ says draft standard nanoseconds some h =
     go true false r e f a b x y = known (Err Kind.Late) a b tt x y
     go false new r e f a b x y = known (Err Kind.Late) a b tt x y
 
+-- a clock is slow
+pub slows :
+    (draft : Draft) (name : List ℕ) (ppm : ℕ) (first : Option ℕ) → IsSoundDraft draft →
+    IsOneStage (Slows (Some draft) name ppm first)
+slows draft name ppm first h a b x y =
+    known (slows_named draft ppm first (node_named draft.names name)) a b
+    (slows-sound draft ppm first (node_named draft.names name) h) x y
+
 -- the node that a line declares, by the ranges of times and the number that it gets
 abbrev node_of :
     (ports speed : ℕ) (link contender force : Bool) (power gap : ℕ) (gap_reset : Bool) (hold short long : Option ℕ) (word len : ℕ) (seed : Option ℕ) → TimeRanges → ℕ → PortNode
@@ -115,15 +129,18 @@ module _ (trees : NoListHasTwoTrees) (keeps : ActKeepsNodes) where
   pub follows : (stage : Stage) (command : Command) → IsSound stage →
       IsInRange (ranges_of stage) command → IsOneStage (DoesAtStage stage command)
   follows fresh (Node name ports speed link contender force power gap gap_reset held short long word len seed packed) h i =
-      declares first_draft name (node_of ports speed link contender force power gap gap_reset held short long word len seed) (no-nodes 4 (omega arith) (omega arith)) (node-at-power-on first_draft ports speed link contender force power gap gap_reset held short long word len seed (no-nodes 4 (omega arith) (omega arith)).fitting i)
+      declares first_draft name (node_of ports speed link contender force power gap gap_reset held short long word len seed) (no-nodes 4 (omega arith) (omega arith)) (node-at-power-on first_draft ports speed link contender force power gap gap_reset held short long word len seed (no-nodes 4 (omega arith) (omega arith)).fitting i) refl
   follows (declaring draft) (Node name ports speed link contender force power gap gap_reset held short long word len seed packed) h i =
-      declares draft name (node_of ports speed link contender force power gap gap_reset held short long word len seed) h (node-at-power-on draft ports speed link contender force power gap gap_reset held short long word len seed h.fitting i)
+      declares draft name (node_of ports speed link contender force power gap gap_reset held short long word len seed) h (node-at-power-on draft ports speed link contender force power gap gap_reset held short long word len seed h.fitting i) refl
   follows (running bus) (Node name ports speed link contender force power gap gap_reset held short long word len seed packed) h i =
       λ a b x y. known (Err Kind.Late) a b tt x y
   follows stage (Delay delay) h i = delays stage delay i
   follows fresh (Times standard nanoseconds) h i = says first_draft standard nanoseconds i.0 (no-nodes 4 (omega arith) (omega arith))
   follows (declaring draft) (Times standard nanoseconds) h i = says draft standard nanoseconds i.0 h
   follows (running bus) (Times standard nanoseconds) h i = λ a b x y. known (Err Kind.Late) a b tt x y
+  follows fresh (Clock name ppm first) h i = slows first_draft name ppm first (no-nodes 4 (omega arith) (omega arith))
+  follows (declaring draft) (Clock name ppm first) h i = slows draft name ppm first h
+  follows (running bus) (Clock name ppm first) h i = λ a b x y. known (Err Kind.Late) a b tt x y
   follows stage command h i = runs stage command h i
 
   -- ---- lines

@@ -1,6 +1,6 @@
 -- A command leaves a bus whose world comes of power-on, and so does each line of a script.
-use Rattle.std.proofs.Common.{◌≡◌, ◌+◌, ◌++◌, ◌≤◌, ◌==◌, ℕ, zero, suc, Bool, true, false, List, [], ◌∷◌, Option, Some, None, IfSome, length, refl, sym, subst, ◌∙◌, ap, arith}
-use Rattle.std.specs.Prelude.{codes, slice_get, Ok, Err, MatchBool, nat_lt, unwrap_or}
+use Rattle.std.proofs.Common.{◌≡◌, ◌+◌, ◌*◌, ◌<◌, ◌++◌, ◌≤◌, ◌==◌, ℕ, zero, suc, Bool, true, false, List, [], ◌∷◌, Option, Some, None, IfSome, length, refl, sym, subst, ◌∙◌, ap, arith}
+use Rattle.std.specs.Prelude.{codes, slice_get, Ok, Err, MatchBool, nat_lt, unwrap_or, if◌then◌else◌}
 use Rattle.std.proofs.lemmas.Bool.Decides.{nat_tests}
 use Rattle.std.proofs.lemmas.List.{length-append}
 use Rattle.cabling.specs.declared.cable.End.{End}
@@ -11,10 +11,11 @@ use Rattle.self_id.specs.declared.node.Attrs.{Attrs}
 use Rattle.port_state.specs.Coins.{Coins}
 use Rattle.port_state.specs.declared.timing.Timing.{Timing}
 use Rattle.port_state.specs.declared.ranges.TimeRanges.{TimeRanges}
+use Rattle.port_state.specs.Clock.{is_even}
 use Rattle.port_state.specs.Machine.{PortNode}
 use Rattle.port_state.proofs.Lemmas.{valid-power_on_with}
-use Rattle.cable_world.specs.World.{CableWorld, NodeNumber, IsPowerOnWorld, world_with_times}
-use Rattle.cable_world.proofs.Lemmas.{even-paced, power-on, some-same, reached-lawful, power-on-reached, turns-reached, act-reached, hold-reached, one-hold, rests-then, turns-rest}
+use Rattle.cable_world.specs.World.{CableWorld, NodeNumber, IsPowerOnWorld, world_with_times, slack_of}
+use Rattle.cable_world.proofs.Lemmas.{power-on, some-same, reached-lawful, power-on-reached, turns-reached, act-reached, hold-reached, one-hold, rests-then, turns-rest}
 use Rattle.cable_world.specs.Run.{IsReached, Rests, still}
 use Rattle.cable_world.specs.Act.{IsAct, hold, hold_fault}
 use Rattle.cable_world.specs.Turn.{turns_after}
@@ -32,7 +33,7 @@ use Rattle.settle.specs.Report.{quiet_turns_of}
 use Rattle.settle.proofs.Lemmas.{gap-fits}
 use Rattle.script_lines.specs.declared.kind.Kind.{Kind}
 use Rattle.script_lines.specs.declared.command.Command.{Command}
-use Rattle.script_lines.specs.declared.command.Command.TheVariants.{Node, Plug, Pull, Reset, Turn, Hold, Settle, Config, CsrRead, CsrWrite, CsrLock, Look, Allocate, Release, Manager, Plan, Maps, Delay, Times}
+use Rattle.script_lines.specs.declared.command.Command.TheVariants.{Node, Plug, Pull, Reset, Turn, Hold, Settle, Config, CsrRead, CsrWrite, CsrLock, Look, Allocate, Release, Manager, Plan, Maps, Delay, Times, Clock}
 use Rattle.script_lines.specs.Range.{IsInRange, IsNodeInRange, IsConfigInRange}
 use Rattle.script_lines.specs.Refusal.{kind_of}
 use Rattle.self_id.specs.declared.standard.Standard.TheVariants.{Ieee2000}
@@ -45,9 +46,9 @@ use Rattle.script_told.specs.Step.{LineAnswer, AtNamedNode, Named, AtTree, Settl
 use Rattle.script_told.specs.SomeAnswer.{IsOfReached, IsReachedBus}
 use Rattle.script_told.specs.Script.{Draft, Stage, fresh, declaring, running, StageAnswer, bus_of, first_draft, draft_with, new_node, times_of, coins_of, with_node, onwards}
 use Rattle.script_told.specs.Bus.{bus_of_nodes}
-use Rattle.script_told.specs.Fitting.{AreFitting, IsFitting}
+use Rattle.script_told.specs.Fitting.{AreFitting, AreForced, IsFitting, spare}
 use Rattle.script_told.proofs.Turns.{after-turns}
-use Rattle.script_told.proofs.told.Fitting.{profile-fits, times-within, suits, can-be-forced}
+use Rattle.script_told.proofs.told.Fitting.{profile-fits, times-within, suits}
 
 -- ---- a report of a reached world, a turn or a hold later
 
@@ -234,6 +235,7 @@ pub leaves : ActKeepsNodes → (times : TimeRanges) (bus : Bus) (command : Comma
 leaves keeps times bus (Node name ports speed link contender force power gap gap_reset held short long word len seed packed) h i = known (Err Kind.Late) tt
 leaves keeps times bus (Delay delay) h i = known (Err Kind.Late) tt
 leaves keeps times bus (Times standard nanoseconds) h i = known (Err Kind.Late) tt
+leaves keeps times bus (Clock name ppm first) h i = known (Err Kind.Late) tt
 leaves keeps times bus (Plug a a_port b b_port) h i = named bus a _ (λ n. named bus b _ (λ m. do-act keeps bus (act.Plug (end_of n a_port) (end_of m b_port)) h tt))
 leaves keeps times bus (Pull name port) h i = named bus name _ (λ node. do-act keeps bus (act.Pull (end_of node port)) h tt)
 leaves keeps times bus (Reset name) h i = named bus name _ (λ node. do-act keeps bus (act.Reset node) h tt)
@@ -264,12 +266,29 @@ leaves keeps times bus (Maps name) h i = named bus name _ (λ node. settled bus 
 
 -- ---- nodes that are declared
 
+pub no-slack : (nodes : List PortNode) → length nodes ≡ 0 → slack_of nodes ≡ 0
+no-slack [] e = refl
+no-slack (x ∷ nodes) e = absurd (omega (arith, e))
+
+-- one more node with an even clock
+pub slack-append : (nodes : List PortNode) (x : PortNode) → is_even x.clock ≡ true →
+    slack_of (nodes ++ x ∷ []) ≡ slack_of nodes
+slack-append [] x e = rw e refl
+slack-append (y ∷ nodes) x e = go (is_even y.clock) (slack-append nodes x e)
+  where
+    go : (b : Bool) → slack_of (nodes ++ x ∷ []) ≡ slack_of nodes →
+        (if b then slack_of (nodes ++ x ∷ []) else 1) ≡ (if b then slack_of nodes else 1)
+    go true same = same
+    go false same = refl
+
 pub record IsSoundDraft (draft : Draft) : Type 0 where
   pub some_delay : 1 ≤ draft.delay
   pub short_delay : draft.delay ≤ 16
   pub few : length draft.nodes ≤ 63
   pub same : length draft.names ≡ length draft.nodes
   pub fitting : AreFitting draft.delay draft.times.ranges
+  pub forced : AreForced (draft.delay + spare draft.slowed) draft.times.ranges
+  pub slack : slack_of draft.nodes ≡ spare draft.slowed
   pub powered : (k : ℕ) (x : PortNode) → slice_get draft.nodes k ≡ Some x →
       IsFitting draft.delay draft.times.ranges x
 
@@ -277,7 +296,7 @@ pub draft-power : (draft : Draft) → IsSoundDraft draft →
     IsPowerOnWorld (world_with_times draft.delay draft.times.ranges.most draft.nodes)
 draft-power draft h =
     power-on draft.delay draft.times.ranges.most draft.nodes h.some_delay h.few (λ k x at. (h.powered k x at).powered)
-    (even-paced draft.times.ranges.most draft.nodes (λ k x at. (h.powered k x at).even))
+    (λ k x at. (h.powered k x at).clock)
 
 pub draft-bus : (draft : Draft) → IsSoundDraft draft →
     IsReachedBus (bus_of_nodes draft.delay draft.times draft.names draft.nodes)
@@ -286,8 +305,10 @@ draft-bus draft h = record {
       (draft-power draft h)
       (record {
         short_delay = h.short_delay;
-        forced = λ k x at. (h.powered k x at).forced;
-        even = λ k x at. (h.powered k x at).even;
+        forced = λ k x at.
+            let w = (h.powered k x at).within in
+            record { enough = omega (arith, h.forced.enough, h.slack, w.hold_least, w.force_least) };
+        regular = λ k x at. (h.powered k x at).regular;
       });
   named = h.same;
   reported = tt;
@@ -300,6 +321,8 @@ no-nodes d one most = record {
   few = omega arith;
   same = refl;
   fitting = profile-fits d one most;
+  forced = record { enough = omega (arith, one) };
+  slack = refl;
   powered = λ k x e. absurd cc;
 }
 
@@ -335,15 +358,16 @@ at-power-on d r ports attrs force resets_gap held short long len coins none fit 
             (record { gap = omega (arith, h.gap_most); speed = omega (arith, h.speed_most); delay = omega (arith, none); power = omega (arith, h.power_most) }) none;
         timing = suits d r t fit.suitable in_ranges;
       };
-      forced = can-be-forced d r t fit.suitable in_ranges;
-      even = refl;
+      within = in_ranges;
+      regular = tt;
+      clock = tt;
     }
 
 -- a node more, where there is room
 pub drafted :
-    (draft : Draft) (name : List ℕ) (node : PortNode) → nat_lt 62 (length draft.names) ≡ false → IsSoundDraft draft →
-    IsFitting draft.delay draft.times.ranges node → IsSoundDraft (with_node draft name node)
-drafted draft name node e h on =
+    (draft : Draft) (name : List ℕ) (node : PortNode) → nat_lt 62 (length draft.names) ≡ false → is_even node.clock ≡ true →
+    IsSoundDraft draft → IsFitting draft.delay draft.times.ranges node → IsSoundDraft (with_node draft name node)
+drafted draft name node e even h on =
     let room : length draft.names ≤ 62 = grind (arith, nat_tests) in
     let names = length-append draft.names (name ∷ []) in
     let nodes = length-append draft.nodes (node ∷ []) in
@@ -353,6 +377,8 @@ drafted draft name node e h on =
       few = omega (arith, nodes, room, h.same);
       same = omega (arith, names, nodes, h.same);
       fitting = h.fitting;
+      forced = h.forced;
+      slack = slack-append draft.nodes node even ∙ h.slack;
       powered = more-at draft.nodes node (IsFitting draft.delay draft.times.ranges) h.powered on;
     }
 

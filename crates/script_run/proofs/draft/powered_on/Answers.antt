@@ -9,7 +9,7 @@ use Rattle.phy_machine.specs.Any.{any_valid}
 use Rattle.phy_machine.specs.PowerOn.{with_gap_reset}
 use Rattle.script_told.specs.Script.{new_node, times_of}
 use Rattle.script_told.specs.Fitting.{IsFitting}
-use Rattle.script_told.proofs.Lemmas.{suits, can-be-forced}
+use Rattle.script_told.proofs.Lemmas.{suits}
 use Rattle.script_run.proofs.draft.powered_on.Goals as goal
 
 -- a plain node that may be made one that resets its gap count is the node that the line says
@@ -38,6 +38,7 @@ returns-clause-power_on c = λ d fit.
         valid = subst (λ (n : PortNode). IsValid n.state) said (any_valid c.with_gap_reset.result);
         timing = suits d c.args.ranges timing fit.suitable within;
       };
-      forced = can-be-forced d c.args.ranges timing fit.suitable within;
-      even = refl;
+      within = within;
+      regular = tt;
+      clock = tt;
     })

@@ -1,9 +1,15 @@
-use Rattle.std.proofs.Common.{◌≡◌, ◌+◌, ◌∷◌, ◌++◌, [], All, length, length-append, arith, sym, subst, ap, ◌∙◌}
+use Rattle.std.proofs.Common.{◌≡◌, ◌+◌, ◌∷◌, ◌++◌, [], true, All, length, length-append, arith, sym, subst, ap, ◌∙◌}
 use Rattle.std.proofs.lemmas.List.Elements.{All-append, All-cons, All-nil}
+use Rattle.std.proofs.lemmas.List.{map-append}
+use Rattle.std.specs.Prelude.{map}
+use Rattle.port_state.specs.Clock.{is_even}
+use Rattle.port_state.specs.Machine.{PortNode}
+use Rattle.cable_world.specs.World.{slack_of}
 use Rattle.phy_machine.specs.declared.any.AnyMachine.{AnyMachine}
 use Rattle.phy_machine.specs.Any.{any_node}
 use Rattle.script_text.specs.ReportText.{Names}
 use Rattle.script_told.specs.Fitting.{IsFitting}
+use Rattle.script_told.proofs.Lemmas.{slack-append}
 use Rattle.script_run.proofs.draft.Draft.push.Goals as goal
 
 pub returns-clause-sound : goal.returns-clause-sound
@@ -19,10 +25,17 @@ returns-clause-sound c =
     let more : length c.in_ok-self.field-0 ≡ length draft.names + 1 =
     ap length (c.in_ok-self.ensures ∙ ap (λ (names : Names). names ++ c.args.node.name ∷ []) c.replace-names.ensures.value)
     ∙ length-append draft.names (c.args.node.name ∷ []) in
+    let nodes = map any_node machines in
+    let new = any_node c.powered_on.result in
+    let even : is_even new.clock ≡ true = ap (λ (x : PortNode). is_even x.clock) c.powered_on.ensures.value in
     record {
       some_delay = old.some_delay;
       short_delay = old.short_delay;
       ranges = old.ranges;
+      forced = old.forced;
+      slack =
+          ap slack_of (ap (map any_node) e ∙ map-append any_node machines one)
+          ∙ slack-append nodes new even ∙ old.slack;
       few = omega (arith, longer, c.requires.few);
       named = omega (arith, longer, more, old.named);
       nodes = subst (All On) (sym e) (All-append On machines one old.nodes

@@ -1,9 +1,11 @@
 use Rattle.std.proofs.Common.{◌≡◌, ◌∙◌, ℕ, true, not, length, sym, arith}
 use Rattle.std.proofs.lemmas.Bool.{and_parts}
 use Rattle.std.proofs.lemmas.Bool.Decides.{nat_tests}
-use Rattle.std.specs.Prelude.{is_some, ◌==◌}
+use Rattle.std.specs.Prelude.{is_some, ◌==◌, map}
+use Rattle.std.proofs.lemmas.List.{length-map}
+use Rattle.phy_machine.specs.Any.{any_node}
 use Rattle.script_told.specs.Script.{takes_times}
-use Rattle.script_told.proofs.Lemmas.{standard-fits}
+use Rattle.script_told.proofs.Lemmas.{standard-fits, no-slack}
 use Rattle.script_run.specs.codings.Declaring.{draft_now}
 use Rattle.script_run.proofs.draft.Draft.say_times.Goals as goal
 
@@ -17,10 +19,15 @@ returns-clause-sound c =
     let may : takes_times (draft_now self) ≡ true = sym c.takes_times.ensures ∙ c.if-not-takes_times.false in
     let new = and_parts (length self.names == 0) (not (is_some self.times.nanoseconds)) may in
     let none : length self.names ≡ 0 = nothing (length self.names) new.0 in
+    let machines = self.machines.items in
+    let fit = standard-fits c.args.standard self.delay c.args.nanoseconds c.in_ok-self.field-0 c.requires.some (sym c.in_ok-self.ensures) in
+    let empty = no-slack (map any_node machines) (length-map machines any_node ∙ sym old.named ∙ none) in
     record {
       some_delay = old.some_delay;
       short_delay = old.short_delay;
-      ranges = standard-fits c.args.standard self.delay c.args.nanoseconds c.in_ok-self.field-0 c.requires.some (sym c.in_ok-self.ensures);
+      ranges = fit;
+      forced = record { enough = omega (arith, fit.suitable.force, old.slack, empty) };
+      slack = old.slack;
       few = old.few;
       named = old.named;
       nodes = λ i m inside. absurd (omega (arith, inside, old.named, none));

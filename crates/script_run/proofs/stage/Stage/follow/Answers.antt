@@ -13,3 +13,7 @@ returns-in-Delay-clause-done g c =
 pub returns-in-Times-clause-done : goal.returns-in-Times-clause-done
 returns-in-Times-clause-done g c =
     rw c.in-Times.is (ok-all _ _ (λ words did. (words.items, refl, did)) c.say_times.result c.say_times.ensures.done)
+
+pub returns-in-Clock-clause-done : goal.returns-in-Clock-clause-done
+returns-in-Clock-clause-done g c =
+    rw c.in-Clock.is (ok-all _ _ (λ words did. (words.items, refl, did)) c.slow.result c.slow.ensures.done)
