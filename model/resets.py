@@ -91,7 +91,7 @@ class Resets:
         self.standard = standard
         self.log = Log(as_json)
         self.cards = {}
-        self.open = None  # the reset of the driver's log whose packets come now
+        self.open = {}  # by card, the reset of the driver's log whose packets come now
 
     def take(self, number, text):
         """Takes a line of the log."""
@@ -132,19 +132,22 @@ class Resets:
             data = None if failed == "true" else data
         self.reset(reset, data)
 
-    def reset(self, reset, data):
-        """A reset of a card; without data its controller failed."""
+    def reset(self, reset, data, lacks=0):
+        """A reset of a card, of which the log lacks so many packets; without data its controller failed."""
         card = self.cards.setdefault(reset["card"], Card())
         event = reset["generation"], reset["source"]
-        second = card.event is not None and card.event[0] == event[0] and card.event[1] != event[1]
+        time = None if reset["time"] is None else int(reset["time"].replace(".", ""))
+        booted = time is not None and card.time is not None and time + 1000000 <= card.time
+        second = card.event is not None and card.event[0] == event[0] and card.event[1] != event[1] and not booted
         if second and card.was_shown:
             reached["second event passed over"] += 1
             return
         missing = 0
-        if card.event is not None and card.event[0] != event[0]:
+        if card.event is not None and card.event[0] != event[0] and not booted:
             missing = (event[0] - card.event[0] - 1) % 256
-        card.apart = card.apart or missing > 0
-        time = None if reset["time"] is None else int(reset["time"].replace(".", ""))
+        if booted:
+            reached["booted in between"] += 1
+        card.apart = card.apart or missing > 0 or booted
         after = None
         if time is not None and card.time is not None and card.time <= time and not second:
             after = time - card.time
@@ -153,6 +156,10 @@ class Resets:
         nodes = None
         if data is None:
             self.log.write(f"{words} is_error, not judged", dict(members, is_error=True))
+        elif lacks:
+            reached["packets missing from the log"] += 1
+            said = f"{words} not judged, packets missing from the log: {lacks}"
+            self.log.write(said, dict(members, lacks=lacks))
         else:
             old = None if card.apart else card.last
             nodes = self.log.show(words, members, data, self.standard, old, reset["card"])
@@ -166,32 +173,38 @@ class Resets:
         first, packet = re.match(FIRST, said), re.match(PACKET, said)
         if first and max(int(first.group(2)), int(first.group(3))) <= 0xFFFFFFFF:
             device, count, generation, local = first.groups()
-            self.close()
+            device = device.lower()
+            self.close(device)
             times = [word[:-1].lstrip("[") for word in before if re.fullmatch(r"\[?[0-9]+[.][0-9]{6}\]", word)]
-            self.open = {"line": number, "card": device.lower(), "source": "driver", "generation": int(generation)}
-            self.open["time"] = times[-1] if times else None
-            self.open["local"] = local_of(int(local, 16)) if local else None
-            self.open.update(count=int(count), list=[])
+            reset = {"line": number, "card": device, "source": "driver", "generation": int(generation)}
+            reset["time"] = times[-1] if times else None
+            reset["local"] = local_of(int(local, 16)) if local else None
+            reset.update(count=int(count), list=[])
+            self.open[device] = reset
+            if reset["count"] == 0:
+                self.close(device)
         elif packet:
-            if self.open and self.open["card"] == packet.group(1).lower():
-                self.open["list"].append(int(packet.group(2), 16))
-                if len(self.open["list"]) >= self.open["count"]:
-                    self.close()
+            device = packet.group(1).lower()
+            if device in self.open:
+                reset = self.open[device]
+                reset["list"].append(int(packet.group(2), 16))
+                if len(reset["list"]) >= reset["count"]:
+                    self.close(device)
         elif words[1:3] in MESSAGES:
             plain = "".join(char if ord(char) < 128 else "?" for char in said)
             self.log.write(f"line {number} {said}", {"line": number, "kernel": plain})
 
-    def close(self):
-        """Shows the open reset with the packets that came."""
-        reset, self.open = self.open, None
+    def close(self, device):
+        """Shows the open reset of a card, if it has all its packets; else says how many are missing."""
+        reset = self.open.pop(device, None)
         if reset:
-            self.reset(reset, write_pairs(reset["list"]))
+            self.reset(reset, write_pairs(reset["list"]), reset["count"] - len(reset["list"]))
 
     def end(self):
-        if self.open:
-            lacks = self.open["count"] - len(self.open["list"])
-            words = " ".join(f"{key} {self.open[key]}" for key in ("line", "card", "generation"))
-            members = {key: self.open[key] for key in ("line", "card", "generation")}
+        for _, reset in sorted(self.open.items()):
+            lacks = reset["count"] - len(reset["list"])
+            words = " ".join(f"{key} {reset[key]}" for key in ("line", "card", "generation"))
+            members = {key: reset[key] for key in ("line", "card", "generation")}
             self.log.write(f"{words} ends without its last packets, {lacks}", dict(members, lacks=lacks))
         return self.log.total(len(self.cards))
 

@@ -1,10 +1,10 @@
 -- What is shown in the form for programs is lines of JSON.
-use Rattle.std.proofs.Common.{◌≡◌, ℕ, Option, Result, Ok, Err, List, [], sym, subst}
+use Rattle.std.proofs.Common.{◌≡◌, ℕ, Option, Result, Ok, Err, List, [], ◌++◌, sym, subst}
 use Rattle.std.specs.Prelude.{IfOk, OnOk}
 use Rattle.std.specs.Io.KnownBytes.{Appends}
 use Rattle.self_id.specs.declared.standard.Standard.{Standard}
 use Rattle.bus_json.specs.Lines.{IsJsonLine, AreJsonLines, none, GathersJsonLines, WritesJsonLines}
-use Rattle.bus_json.proofs.Lemmas.{one_line, gathers_none, gathers_both, writes_none, writes_both, writes_gathered}
+use Rattle.bus_json.proofs.Lemmas.{one_line, all_lines, gathers_none, gathers_both, writes_none, writes_both, writes_gathered}
 use Rattle.reset_list.specs.declared.form.LogForm.{LogForm}
 use Rattle.reset_list.specs.declared.form.LogForm.TheVariants.{Text, Json}
 use Rattle.reset_log.specs.codings.InJson.{IfJson}
@@ -16,6 +16,12 @@ in_json form standard P e h = subst (λ (f : LogForm). IfJson f P) e h
 pub no_lines : (form : LogForm) (text : List ℕ) → text ≡ [] → IfJson form (AreJsonLines text)
 no_lines (Text standard) text e = tt
 no_lines (Json standard) text e = subst AreJsonLines (sym e) none
+
+-- lines behind lines are lines
+pub both_lines : (form : LogForm) (a b : List ℕ) → IfJson form (AreJsonLines a) → IfJson form (AreJsonLines b) →
+    IfJson form (AreJsonLines (a ++ b))
+both_lines (Text standard) a b one two = tt
+both_lines (Json standard) a b one two = all_lines a b one two
 
 -- a line is lines, whatever the form
 pub in_lines : (form : LogForm) (line : List ℕ) → IsJsonLine line → IfJson form (AreJsonLines line)

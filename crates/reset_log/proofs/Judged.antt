@@ -1,5 +1,5 @@
 -- A reset whose list was judged.
-use Rattle.std.proofs.Common.{◌≡◌, ℕ, Bool, false, is_none, Option, List, subst}
+use Rattle.std.proofs.Common.{◌≡◌, ◌==◌, ℕ, Bool, true, false, is_none, Option, List, subst}
 use Rattle.self_id.specs.declared.standard.Standard.{Standard}
 use Rattle.reset_list.specs.declared.form.LogForm.{LogForm}
 use Rattle.reset_list.specs.declared.form.LogForm.TheVariants.{Text}
@@ -11,12 +11,12 @@ use Rattle.reset_log.specs.Texts.{head}
 use Rattle.reset_list.specs.Shown.{IsListShown}
 use Rattle.reset_log.specs.Shown.{IsJudged, IsResetShown, is_judged}
 
-pub judged : (form : LogForm) (number : ℕ) (before : Option Known) (n next : Noted) (r : Reset) (text : List ℕ) (heard : Option Tree) (bad : Bool) →
-    is_repeated before r ≡ false → r.is_error ≡ false → IsJudged form number before r text heard →
+pub judged : (form : LogForm) (number lacks : ℕ) (before : Option Known) (n next : Noted) (r : Reset) (text : List ℕ) (heard : Option Tree) (bad : Bool) →
+    is_repeated before r ≡ false → r.is_error ≡ false → (lacks == 0) ≡ true → IsJudged form number before r text heard →
     bad ≡ is_none heard → next ≡ after n r heard bad →
-    IsResetShown form number before n r text bad next
-judged form number before n next r text heard bad new no_error shown is_bad is_next =
-    is_judged heard new no_error shown is_bad (subst (λ (b : Bool). next ≡ after n r heard b) is_bad is_next)
+    IsResetShown form number lacks before n r text bad next
+judged form number lacks before n next r text heard bad new no_error none shown is_bad is_next =
+    is_judged heard new no_error none shown is_bad (subst (λ (b : Bool). next ≡ after n r heard b) is_bad is_next)
 
 -- as text
 pub in_text : (standard : Standard) (number : ℕ) (before : Option Known) (r : Reset) (front list text : List ℕ) (old heard : Option Tree) →

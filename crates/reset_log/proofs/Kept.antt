@@ -1,5 +1,5 @@
 -- The cards stay kept as a reset is noted, and as trees are forgotten.
-use Rattle.std.proofs.Common.{◌≡◌, ◌∙◌, ◌==◌, inl, inr, ℕ, zero, suc, ◌<◌, ◌≤◌, Bool, true, false, true≢false, ◌&&◌, is_none, is_some, Option, Some, None, List, [], ◌∷◌, ◌++◌, length, eqb-true, refl, sym, ap, subst, arith}
+use Rattle.std.proofs.Common.{◌≡◌, ◌∙◌, ◌==◌, inl, inr, ℕ, zero, suc, ◌<◌, ◌≤◌, Bool, true, false, true≢false, not, ◌&&◌, is_none, is_some, Option, Some, None, List, [], ◌∷◌, ◌++◌, length, eqb-true, refl, sym, ap, subst, arith}
 use Rattle.std.specs.Prelude.{if◌then◌else◌, cond, map, slice_get, slice_set}
 use Rattle.std.specs.List.{list_any}
 use Rattle.std.specs.BTreeMap as tree
@@ -12,7 +12,7 @@ use Rattle.reset_list.specs.Update.{next_place, place_of}
 use Rattle.reset_list.specs.Places.{ArePlaces}
 use Rattle.reset_list.proofs.Lemmas.{eq_number, get_push, get_set, place_passes, places_none, places_push, places_same, places_set}
 use Rattle.reset_log.specs.declared.cards.Known.{Known}
-use Rattle.reset_log.specs.Noted.{is_of, missing, or_before, known_by, forgotten}
+use Rattle.reset_log.specs.Noted.{is_of, is_anew, missing, or_before, known_by, forgotten}
 use Rattle.reset_log.specs.codings.Kept.{AreDrawn, AreKept, forgotten_at}
 
 pub kept_none : (places : BTreeMap ℕ ℕ) (drawn : BTreeSet ℕ) (ks : List Known) → places.entries ≡ [] → ks ≡ [] →
@@ -34,7 +34,7 @@ more_drawn old new ks more are = λ at k get has. more at (are at k get has)
 tree_before : (r : Reset) (heard : Option Tree) (x : Known) → is_some (known_by r heard (Some x)).tree ≡ true →
     is_some heard ≡ false → is_some x.tree ≡ true
 tree_before r (Some t) x e none = absurd cc
-tree_before r None x e none = go (missing (Some x) r == 0) e
+tree_before r None x e none = go ((missing (Some x) r == 0) && not (is_anew x r)) e
   where
     go : (b : Bool) → is_some (if b then x.tree else None) ≡ true → is_some x.tree ≡ true
     go true e = e

@@ -1,6 +1,10 @@
 -- Each log has a text.
-use Rattle.std.proofs.Common.{◌≡◌, ◌==◌, ℕ, ◌^◌, ◌<◌, Bool, true, false, is_none, Option, Some, None, List, [], ◌∷◌, ◌++◌, refl}
-use Rattle.std.specs.Prelude.{if◌then◌else◌}
+use Rattle.std.proofs.Common.{◌≡◌, ◌==◌, ℕ, ◌^◌, ◌<◌, Bool, true, false, cond, ◌||◌, is_none, Option, Some, None, List, [], ◌∷◌, ◌++◌, refl}
+use Rattle.std.specs.declared.cmp.Ordering.{Ordering}
+use Rattle.std.specs.declared.cmp.Ordering.TheVariants.{Less, Equal, Greater}
+use Rattle.std.specs.Ordering.{nat_cmp, match_ordering}
+use Rattle.std.specs.BTreeMap.{is_at, insert_entry}
+use Rattle.std.specs.Map.{lookup, remove_entry}
 use Rattle.bus_json.specs.Text.{json_line}
 use Rattle.reset_list.specs.declared.form.LogForm.{LogForm}
 use Rattle.reset_list.specs.declared.form.LogForm.TheVariants.{Text, Json}
@@ -9,13 +13,13 @@ use Rattle.topology_stack.specs.Tree.{Tree}
 use Rattle.log_line.specs.declared.line.Reset.{Reset}
 use Rattle.log_line.specs.declared.line.LogLine.{LogLine}
 use Rattle.log_line.specs.declared.line.LogLine.TheVariants.{Other, Lost, Said, Begins, Packet, Garbled, OfReset}
-use Rattle.reset_log.specs.Noted.{Noted, nothing, is_repeated, last_of, compared, after, behind_loss, waiting, begun_at, with_packet, taken_by}
+use Rattle.reset_log.specs.Noted.{Noted, nothing, is_repeated, last_of, compared, after, behind_loss, waits_of, ended, waiting, begun_at, with_packet}
 use Rattle.reset_log.specs.declared.cards.Known.{Known}
 use Rattle.log_line.specs.Line.{line_of}
 use Rattle.log_line.specs.declared.line.Begun.{Begun}
 use Rattle.reset_log.specs.declared.notes.Pending.{Pending}
 use Rattle.reset_log.specs.Texts.{head}
-use Rattle.reset_log.specs.Shown.{IsJudged, unjudged_text, garbled_text, lost_text, told_text, totals_text, IsResetShown, is_passed_over, is_unjudged, is_judged, IsPendingShown, IsBegunShown, IsLastShown, IsPacketShown, IsLogLineShown, IsLineShown}
+use Rattle.reset_log.specs.Shown.{IsJudged, unjudged_text, lacking_text, garbled_text, lost_text, told_text, totals_text, IsResetShown, is_passed_over, is_unjudged, is_lacking, is_judged, IsPendingShown, IsWholeShown, IsBegunShown, IsPacketShown, IsLogLineShown, IsLineShown}
 use Rattle.reset_log.specs.Log.{lines_of}
 use Rattle.reset_log.specs.OneText.{EachLogHasAText}
 use Rattle.reset_list.proofs.Lemmas.{some_list, some_told, told_some_in}
@@ -31,17 +35,45 @@ abbrev IsFinePending : Option Pending → Type 0
 IsFinePending None = Unit {0}
 IsFinePending (Some p) = Fit p.reset.list
 
-abbrev IsFine : Noted → Type 0
-IsFine n = IsFinePending n.pending
+abbrev AreFine : List (ℕ × Pending) → Type 0
+AreFine [] = Unit {0}
+AreFine (e ∷ es) = Fit e.1.reset.list × AreFine es
 
-fine_taken : (pending : Option Pending) (card quad : ℕ) → IsFinePending pending → quad < 2 ^ 32 →
-    IsFinePending (taken_by pending card quad)
-fine_taken None card quad fine lt = tt
-fine_taken (Some p) card quad fine lt = go (p.reset.card == card)
+abbrev IsFine : Noted → Type 0
+IsFine n = AreFine n.pending
+
+fine_found : (test : ℕ → Bool) (es : List (ℕ × Pending)) → AreFine es → IsFinePending (lookup test es)
+fine_found test [] fine = tt
+fine_found test (e ∷ es) fine = go (test e.0) (fine_found test es fine.1)
   where
-    go : (v : Bool) → IsFinePending (if v then Some (with_packet quad p) else None)
-    go true = fit_push p.reset.list quad fine lt
-    go false = tt
+    go : (v : Bool) → IsFinePending (lookup test es) → IsFinePending (cond v (Some e.1) (lookup test es))
+    go true later = fine.0
+    go false later = later
+
+fine_without : (test : ℕ → Bool) (es : List (ℕ × Pending)) → AreFine es → AreFine (remove_entry test es)
+fine_without test [] fine = tt
+fine_without test (e ∷ es) fine = go (test e.0) (fine_without test es fine.1)
+  where
+    go : (v : Bool) → AreFine (remove_entry test es) → AreFine (cond v es (e ∷ remove_entry test es))
+    go true later = fine.1
+    go false later = (fine.0, later)
+
+fine_with : (card : ℕ) (p : Pending) (es : List (ℕ × Pending)) → Fit p.reset.list → AreFine es →
+    AreFine (insert_entry nat_cmp es card p)
+fine_with card p [] fit fine = (fit, tt)
+fine_with card p (e ∷ es) fit fine = go (nat_cmp card e.0) (fine_with card p es fit fine.1)
+  where
+    go : (o : Ordering) → AreFine (insert_entry nat_cmp es card p) →
+        AreFine (match_ordering o ((card, p) ∷ e ∷ es) ((e.0, p) ∷ es) (e ∷ insert_entry nat_cmp es card p))
+    go Less later = (fit, fine)
+    go Equal later = (fit, fine.1)
+    go Greater later = (fine.0, later)
+
+fine_ended : (card : ℕ) (ks : Noted) → IsFine ks → IsFine (ended card ks)
+fine_ended card ks fine = fine_without (is_at (nat_cmp card)) ks.pending fine
+
+fine_waiting : (p : Pending) (ks : Noted) → Fit p.reset.list → IsFine ks → IsFine (waiting p ks)
+fine_waiting p ks fit fine = fine_with p.reset.card p (ended p.reset.card ks).pending fit (fine_ended p.reset.card ks fine)
 
 abbrev SomeStep : (List ℕ → Bool → Noted → Type 0) → Type 0
 SomeStep Is = (text : List ℕ) × (bad : Bool) × (next : Noted) × Is text bad next × IsFine next
@@ -54,37 +86,58 @@ some_judged (Json standard) n before r f =
     let l = some_told standard r.origin r.list in
     (json_line (reset_value n before r l.0), l.1, record { members = l.0; told = l.2; text_is = refl })
 
-some_reset : (form : LogForm) (n : ℕ) (before : Option Known) (ks : Noted) (r : Reset) → Fit r.list → IsFine ks →
-    SomeStep (IsResetShown form n before ks r)
-some_reset form n before ks r f fine = go (is_repeated before r) r.is_error refl refl
+some_reset : (form : LogForm) (n lacks : ℕ) (before : Option Known) (ks : Noted) (r : Reset) → Fit r.list → IsFine ks →
+    SomeStep (IsResetShown form n lacks before ks r)
+some_reset form n lacks before ks r f fine = go (is_repeated before r) r.is_error (lacks == 0) refl refl refl
   where
-    go : (u v : Bool) → is_repeated before r ≡ u → r.is_error ≡ v → SomeStep (IsResetShown form n before ks r)
-    go true v d e = ([], false, ks, is_passed_over d refl refl refl, fine)
-    go false true d e = (unjudged_text form n before r, false, after ks r None false, is_unjudged d e refl refl refl, fine)
-    go false false d e =
+    go : (u v w : Bool) → is_repeated before r ≡ u → r.is_error ≡ v → (lacks == 0) ≡ w →
+        SomeStep (IsResetShown form n lacks before ks r)
+    go true v w d e g = ([], false, ks, is_passed_over d refl refl refl, fine)
+    go false true w d e g = (unjudged_text form n before r, false, after ks r None false, is_unjudged d e refl refl refl, fine)
+    go false false false d e g =
+        (lacking_text form n before r lacks, false, after ks r None false, is_lacking d e g refl refl refl, fine)
+    go false false true d e g =
         let l = some_judged form n before r f in
-        (l.0, is_none l.1, after ks r l.1 (is_none l.1), is_judged l.1 d e l.2 refl refl, fine)
+        (l.0, is_none l.1, after ks r l.1 (is_none l.1), is_judged l.1 d e g l.2 refl refl, fine)
 
 some_pending : (form : LogForm) (pending : Option Pending) (ks : Noted) → IsFinePending pending → IsFine ks →
     SomeStep (IsPendingShown form pending ks)
 some_pending form None ks fit fine = ([], false, ks, (refl, refl, refl), fine)
-some_pending form (Some p) ks fit fine = some_reset form p.number (last_of p.reset.card ks.cards) ks p.reset fit fine
+some_pending form (Some p) ks fit fine = some_reset form p.number p.left (last_of p.reset.card ks.cards) ks p.reset fit fine
+
+some_whole : (form : LogForm) (whole : Bool) (p : Pending) (ks : Noted) → Fit p.reset.list → IsFine ks →
+    SomeStep (IsWholeShown form whole p ks)
+some_whole form false p ks fit fine = ([], false, waiting p ks, (refl, refl, refl), fine_waiting p ks fit fine)
+some_whole form true p ks fit fine = some_pending form (Some p) (ended p.reset.card ks) fit (fine_ended p.reset.card ks fine)
 
 some_begun : (form : LogForm) (n : ℕ) (ks : Noted) (begun : Begun) → IsFine ks →
     SomeStep (IsBegunShown form n ks begun)
 some_begun form n ks begun fine =
-    let one = some_pending form ks.pending (waiting None ks) fine tt in
-    (one.0, one.1, waiting (Some (begun_at n begun)) one.2, record { mid = one.2; shown = one.3; next_is = refl }, tt)
+    let waits = fine_found (is_at (nat_cmp begun.card)) ks.pending fine in
+    let one = some_pending form (waits_of begun.card ks) (ended begun.card ks) waits (fine_ended begun.card ks fine) in
+    let two = some_whole form (begun.count == 0) (begun_at n begun) one.2 tt one.4 in (
+      one.0 ++ two.0,
+      one.1 || two.1,
+      two.2,
+      record {
+        first = one.0;
+        second = two.0;
+        here = one.1;
+        later = two.1;
+        mid = one.2;
+        before = one.3;
+        begins = two.3;
+        text_is = refl;
+        bad_is = refl;
+      },
+      two.4,
+    )
 
-some_last : (form : LogForm) (last : Bool) (p : Pending) (ks : Noted) → Fit p.reset.list →
-    SomeStep (IsLastShown form last p ks)
-some_last form false p ks fit = ([], false, waiting (Some p) ks, (refl, refl, refl), fit)
-some_last form true p ks fit = some_pending form (Some p) (waiting None ks) fit tt
-
-some_taken : (form : LogForm) (taken : Option Pending) (ks : Noted) → IsFinePending taken → IsFine ks →
-    SomeStep (IsPacketShown form taken ks)
-some_taken form None ks fit fine = ([], false, ks, (refl, refl, refl), fine)
-some_taken form (Some p) ks fit fine = some_last form (p.left == 0) p ks fit
+some_packet : (form : LogForm) (waits : Option Pending) (quad : ℕ) (ks : Noted) → IsFinePending waits → quad < 2 ^ 32 → IsFine ks →
+    SomeStep (IsPacketShown form waits quad ks)
+some_packet form None quad ks fit lt fine = ([], false, ks, (refl, refl, refl), fine)
+some_packet form (Some p) quad ks fit lt fine =
+    some_whole form ((with_packet quad p).left == 0) (with_packet quad p) ks (fit_push p.reset.list quad fit lt) fine
 
 some_shown : (form : LogForm) (n : ℕ) (ks : Noted) (line : LogLine) →
     ((r : Reset) → line ≡ OfReset r → Fit r.list) →
@@ -94,9 +147,9 @@ some_shown form n ks Lost f g fine = (lost_text form n, false, behind_loss ks, (
 some_shown form n ks (Said words) f g fine = (told_text form n words, false, ks, (refl, refl, refl), fine)
 some_shown form n ks (Begins begun) f g fine = some_begun form n ks begun fine
 some_shown form n ks (Packet card quad) f g fine =
-    some_taken form (taken_by ks.pending card quad) ks (fine_taken ks.pending card quad fine (g card quad refl)) fine
+    some_packet form (waits_of card ks) quad (ended card ks) (fine_found (is_at (nat_cmp card)) ks.pending fine) (g card quad refl) (fine_ended card ks fine)
 some_shown form n ks Garbled f g fine = (garbled_text form n, true, ks, (refl, refl, refl), fine)
-some_shown form n ks (OfReset r) f g fine = some_reset form n (last_of r.card ks.cards) ks r (f r refl) fine
+some_shown form n ks (OfReset r) f g fine = some_reset form n 0 (last_of r.card ks.cards) ks r (f r refl) fine
 
 some_line : (form : LogForm) (n : ℕ) (ks : Noted) (line : List ℕ) → IsFine ks →
     SomeStep (IsLineShown form n ks line)

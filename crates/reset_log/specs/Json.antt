@@ -1,5 +1,5 @@
 -- What is shown of the resets of a log for programs: a value for each.
-use Rattle.std.specs.Prelude.{◌≡◌, ℕ, ◌-◌, nat_lt, true, if◌then◌else◌, Option, Some, None, List, [], ◌++◌, map, length, codes}
+use Rattle.std.specs.Prelude.{◌≡◌, ℕ, ◌-◌, nat_lt, true, if◌then◌else◌, Option, Some, None, List, [], ◌∷◌, ◌++◌, map, length, codes}
 use Rattle.self_id.specs.declared.standard.Standard.{Standard}
 use Rattle.topology_stack.specs.Tree.{Tree}
 use Rattle.json.specs.Json.{Json, string, boolean, object, Members, no_members, member}
@@ -56,6 +56,11 @@ abbrev pub unjudged_value : ℕ → Option Known → Reset → Json
 unjudged_value number before r =
     reset_value number before r (member (codes "is_error") (boolean true) no_members)
 
+-- the log doesn't have so many of its packets
+abbrev pub lacking_value : ℕ → Option Known → Reset → ℕ → Json
+lacking_value number before r lacks =
+    reset_value number before r (member (codes "lacks") (numeral lacks) no_members)
+
 -- a reset whose last packets the log doesn't have: how many they are
 abbrev pub cut_off_value : Pending → Json
 cut_off_value p =
@@ -101,9 +106,9 @@ totals_value n =
     (member (codes "refused") (numeral n.counts.refused)
     (member (codes "cards") (numeral (length n.cards)) (most_members (most_of None n.tallies)))))) no_members)
 
-abbrev pub cut_off_lines : Option Pending → List ℕ
-cut_off_lines None = []
-cut_off_lines (Some p) = json_line (cut_off_value p)
+abbrev pub cut_off_lines : List (ℕ × Pending) → List ℕ
+cut_off_lines [] = []
+cut_off_lines (e ∷ es) = json_line (cut_off_value e.1) ++ cut_off_lines es
 
 abbrev pub totals_lines : Noted → List ℕ
 totals_lines n = cut_off_lines n.pending ++ json_line (totals_value n)

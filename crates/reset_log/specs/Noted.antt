@@ -1,5 +1,8 @@
 -- What is noted behind the lines of a log so far: of each card its last reset, and what is counted.
 use Rattle.std.specs.Prelude.{ℕ, ◌+◌, ◌-◌, ◌%◌, ◌==◌, ◌&&◌, nat_le, not, Bool, true, false, is_some, if◌then◌else◌, Option, Some, None, List, [], ◌∷◌, ◌++◌, map}
+use Rattle.std.specs.BTreeMap.{is_at, insert_entry}
+use Rattle.std.specs.Map.{lookup, remove_entry}
+use Rattle.std.specs.Ordering.{nat_cmp}
 use Rattle.topology_stack.specs.Tree.{Tree}
 use Rattle.log_line.specs.declared.line.Origin.{Origin}
 use Rattle.log_line.specs.declared.line.Origin.TheVariants.{Controller, Core}
@@ -16,14 +19,15 @@ pub record Noted : Type 0 where
   pub cards : List Known
   pub counts : Counts
   pub tallies : List Tally
-  pub pending : Option Pending
+  -- by card, the reset that waits for its packets
+  pub pending : List (ℕ × Pending)
 
 abbrev pub nothing : Noted
 nothing = record {
   cards = [];
   counts = record { resets = 0; refused = 0 };
   tallies = [];
-  pending = None;
+  pending = [];
 }
 
 -- ---- the card's reset before
@@ -40,10 +44,20 @@ same_origin Controller Core = false
 same_origin Core Controller = false
 same_origin Core Core = true
 
+-- it is a second or more before the card's last reset: the machine was booted in between
+abbrev pub is_back : Option ℕ → Option ℕ → Bool
+is_back None now = false
+is_back (Some past) None = false
+is_back (Some past) (Some now) = nat_le (now + 1000000) past
+
+abbrev pub is_anew : Known → Reset → Bool
+is_anew k r = is_back k.time r.time
+
 -- it is the card's last reset by its other event
 abbrev pub is_second : Option Known → Reset → Bool
 is_second None r = false
-is_second (Some k) r = (k.generation == r.generation) && not (same_origin k.origin r.origin)
+is_second (Some k) r =
+    not (is_anew k r) && ((k.generation == r.generation) && not (same_origin k.origin r.origin))
 
 -- and that one was heard
 abbrev pub is_repeated : Option Known → Reset → Bool
@@ -58,9 +72,12 @@ but_all n = if n == 255 then 0 else n
 unfoldable pub skipped : ℕ → ℕ → ℕ
 skipped old new = but_all ((new % 256 + (255 - old % 256)) % 256)
 
+-- behind a boot generations begin anew
 abbrev pub missing : Option Known → Reset → ℕ
 missing None r = 0
-missing (Some k) r = if is_second (Some k) r then 0 else skipped k.generation r.generation
+missing (Some k) r =
+    if is_second (Some k) r then 0
+    else (if is_anew k r then 0 else skipped k.generation r.generation)
 
 -- how long the card's reset before is past
 abbrev pub between : Option ℕ → Option ℕ → Option ℕ
@@ -72,10 +89,10 @@ abbrev pub since : Option Known → Reset → Option ℕ
 since None r = None
 since (Some k) r = if is_second (Some k) r then None else between k.time r.time
 
--- the tree that a reset's is compared with: none where resets are missing between
+-- the tree that a reset's is compared with: none where resets are missing between, or a boot came
 abbrev pub compared : Option Known → Reset → Option Tree
 compared None r = None
-compared (Some k) r = if missing (Some k) r == 0 then k.tree else None
+compared (Some k) r = if (missing (Some k) r == 0) && not (is_anew k r) then k.tree else None
 
 -- ---- behind a reset
 
@@ -123,14 +140,26 @@ behind_loss n = record {
 
 -- ---- a reset whose packets have a line each
 
--- with another one that waits for its packets, or none
-abbrev pub waiting : Option Pending → Noted → Noted
-waiting pending n = record {
+-- the reset of a card that waits for its packets, if one does
+abbrev pub waits_of : ℕ → Noted → Option Pending
+waits_of card n = lookup (is_at (nat_cmp card)) n.pending
+
+abbrev pub with_pending : List (ℕ × Pending) → Noted → Noted
+with_pending pending n = record {
   cards = n.cards;
   counts = n.counts;
   tallies = n.tallies;
   pending = pending;
 }
+
+-- none of this card waits any more
+abbrev pub ended : ℕ → Noted → Noted
+ended card n = with_pending (remove_entry (is_at (nat_cmp card)) n.pending) n
+
+-- this one waits, and no other one of its card
+abbrev pub waiting : Pending → Noted → Noted
+waiting p n =
+    with_pending (insert_entry nat_cmp (ended p.reset.card n).pending p.reset.card p) n
 
 -- one that a line begins
 abbrev pub begun_at : ℕ → Begun → Pending
@@ -163,18 +192,3 @@ with_packet quad p = record {
     list = p.reset.list ++ quad ∷ [];
   };
 }
-
--- where one of this card waits
-abbrev pub taken_by : Option Pending → ℕ → ℕ → Option Pending
-taken_by None card quad = None
-taken_by (Some p) card quad =
-    if p.reset.card == card then Some (with_packet quad p) else None
-
-abbrev pub or_pending : Option Pending → Option Pending → Option Pending
-or_pending None before = before
-or_pending (Some p) before = Some p
-
--- whether one took it, and it was the last one
-abbrev pub is_full : Option Pending → Bool
-is_full None = false
-is_full (Some p) = p.left == 0

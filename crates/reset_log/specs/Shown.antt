@@ -1,5 +1,5 @@
 -- What is shown of a line of the log.
-use Rattle.std.specs.Prelude.{◌≡◌, ℕ, ◌==◌, is_none, Bool, true, false, Option, Some, None, List, []}
+use Rattle.std.specs.Prelude.{◌≡◌, ℕ, ◌==◌, ◌||◌, is_none, Bool, true, false, Option, Some, None, List, [], ◌++◌}
 use Rattle.topology_stack.specs.Tree.{Tree}
 use Rattle.log_line.specs.declared.line.Reset.{Reset}
 use Rattle.log_line.specs.declared.line.LogLine.{LogLine}
@@ -8,12 +8,12 @@ use Rattle.reset_log.specs.declared.cards.Known.{Known}
 use Rattle.log_line.specs.declared.line.Begun.{Begun}
 use Rattle.reset_log.specs.declared.notes.Pending.{Pending}
 use Rattle.log_line.specs.Line.{line_of}
-use Rattle.reset_log.specs.Noted.{Noted, is_repeated, last_of, compared, after, behind_loss, waiting, begun_at, taken_by}
-use Rattle.reset_log.specs.Texts.{garbled, lost, told, totals, head, unjudged}
+use Rattle.reset_log.specs.Noted.{Noted, is_repeated, last_of, compared, after, behind_loss, waits_of, ended, waiting, begun_at, with_packet}
+use Rattle.reset_log.specs.Texts.{garbled, lost, told, totals, head, unjudged, lacking}
 use Rattle.bus_json.specs.Text.{json_line}
 use Rattle.reset_list.specs.declared.form.LogForm.{LogForm}
 use Rattle.reset_list.specs.declared.form.LogForm.TheVariants.{Text, Json}
-use Rattle.reset_log.specs.Json.{IsResetTold, unjudged_value, garbled_value, lost_value, told_value, totals_lines}
+use Rattle.reset_log.specs.Json.{IsResetTold, unjudged_value, lacking_value, garbled_value, lost_value, told_value, totals_lines}
 use Rattle.reset_list.specs.Shown.{IsListShown}
 
 -- ---- in a form: as text, or as lines of JSON
@@ -29,6 +29,10 @@ IsJudged (Json standard) number before r text heard =
 abbrev pub unjudged_text : LogForm → ℕ → Option Known → Reset → List ℕ
 unjudged_text (Text standard) number before r = unjudged number before r
 unjudged_text (Json standard) number before r = json_line (unjudged_value number before r)
+
+abbrev pub lacking_text : LogForm → ℕ → Option Known → Reset → ℕ → List ℕ
+lacking_text (Text standard) number before r lacks = lacking number before r lacks
+lacking_text (Json standard) number before r lacks = json_line (lacking_value number before r lacks)
 
 abbrev pub garbled_text : LogForm → ℕ → List ℕ
 garbled_text (Text standard) number = garbled number
@@ -48,47 +52,56 @@ totals_text (Json standard) n = totals_lines n
 
 -- ---- a line
 
--- what is shown of a reset in the line with this number, whether it is at fault, and what is noted behind it;
--- `before` is the card's reset before, if there was one
-pub data IsResetShown (form : LogForm) (number : ℕ) (before : Option Known) (n : Noted) (r : Reset)
+-- what is shown of a reset in the line with this number, of which the log lacks so many packets, whether it is
+-- at fault, and what is noted behind it; `before` is the card's reset before, if there was one
+pub data IsResetShown (form : LogForm) (number lacks : ℕ) (before : Option Known) (n : Noted) (r : Reset)
     (text : List ℕ) (bad : Bool) (next : Noted) : Type 0 where
   is_passed_over : is_repeated before r ≡ true → text ≡ [] → bad ≡ false → next ≡ n →
-      IsResetShown form number before n r text bad next
+      IsResetShown form number lacks before n r text bad next
   is_unjudged : is_repeated before r ≡ false → r.is_error ≡ true →
       text ≡ unjudged_text form number before r → bad ≡ false → next ≡ after n r None false →
-      IsResetShown form number before n r text bad next
+      IsResetShown form number lacks before n r text bad next
+  is_lacking : is_repeated before r ≡ false → r.is_error ≡ false → (lacks == 0) ≡ false →
+      text ≡ lacking_text form number before r lacks → bad ≡ false → next ≡ after n r None false →
+      IsResetShown form number lacks before n r text bad next
   is_judged : (heard : Option Tree) → is_repeated before r ≡ false → r.is_error ≡ false →
-      IsJudged form number before r text heard →
+      (lacks == 0) ≡ true → IsJudged form number before r text heard →
       bad ≡ is_none heard → next ≡ after n r heard (is_none heard) →
-      IsResetShown form number before n r text bad next
+      IsResetShown form number lacks before n r text bad next
 
--- what is shown of the reset that waits for its packets, if one does
+-- what is shown of a reset that waited for its packets, if one did, and waits no more
 abbrev pub IsPendingShown :
     LogForm → Option Pending → Noted → List ℕ → Bool → Noted → Type 0
 IsPendingShown form None n text bad next = (text ≡ []) × (bad ≡ false) × (next ≡ n)
 IsPendingShown form (Some p) n text bad next =
-    IsResetShown form p.number (last_of p.reset.card n.cards) n p.reset text bad next
+    IsResetShown form p.number p.left (last_of p.reset.card n.cards) n p.reset text bad next
 
--- what is shown where a reset of such packets begins: that of the one before, of what came of it
+-- whether no packet of a reset is still to come: it is shown, and else it waits
+abbrev pub IsWholeShown :
+    LogForm → Bool → Pending → Noted → List ℕ → Bool → Noted → Type 0
+IsWholeShown form false p n text bad next = (text ≡ []) × (bad ≡ false) × (next ≡ waiting p n)
+IsWholeShown form true p n text bad next =
+    IsPendingShown form (Some p) (ended p.reset.card n) text bad next
+
+-- what is shown where a reset of such packets begins: of the card's one before, as far as its packets came, and
+-- of the new one, if it has none
 pub record IsBegunShown (form : LogForm) (number : ℕ) (n : Noted) (b : Begun) (text : List ℕ)
     (bad : Bool) (next : Noted) : Type 0 where
+  pub first : List ℕ
+  pub second : List ℕ
+  pub here : Bool
+  pub later : Bool
   pub mid : Noted
-  pub shown : IsPendingShown form n.pending (waiting None n) text bad mid
-  pub next_is : next ≡ waiting (Some (begun_at number b)) mid
+  pub before : IsPendingShown form (waits_of b.card n) (ended b.card n) first here mid
+  pub begins : IsWholeShown form (b.count == 0) (begun_at number b) mid second later next
+  pub text_is : text ≡ first ++ second
+  pub bad_is : bad ≡ here || later
 
--- whether it was the last packet
-abbrev pub IsLastShown :
-    LogForm → Bool → Pending → Noted → List ℕ → Bool → Noted → Type 0
-IsLastShown form false p n text bad next =
-    (text ≡ []) × (bad ≡ false) × (next ≡ waiting (Some p) n)
-IsLastShown form true p n text bad next =
-    IsPendingShown form (Some p) (waiting None n) text bad next
-
--- what is shown of a packet, where a reset takes it
-abbrev pub IsPacketShown : LogForm → Option Pending → Noted → List ℕ → Bool → Noted → Type 0
-IsPacketShown form None n text bad next = (text ≡ []) × (bad ≡ false) × (next ≡ n)
-IsPacketShown form (Some p) n text bad next =
-    IsLastShown form (p.left == 0) p n text bad next
+-- what is shown of a packet, where a reset of its card waits for it
+abbrev pub IsPacketShown : LogForm → Option Pending → ℕ → Noted → List ℕ → Bool → Noted → Type 0
+IsPacketShown form None quad n text bad next = (text ≡ []) × (bad ≡ false) × (next ≡ n)
+IsPacketShown form (Some p) quad n text bad next =
+    IsWholeShown form ((with_packet quad p).left == 0) (with_packet quad p) n text bad next
 
 -- what is shown of what a line is
 abbrev pub IsLogLineShown : LogForm → ℕ → Noted → LogLine → List ℕ → Bool → Noted → Type 0
@@ -102,9 +115,9 @@ IsLogLineShown form number n Garbled text bad next =
 IsLogLineShown form number n (Begins b) text bad next =
     IsBegunShown form number n b text bad next
 IsLogLineShown form number n (Packet card quad) text bad next =
-    IsPacketShown form (taken_by n.pending card quad) n text bad next
+    IsPacketShown form (waits_of card n) quad (ended card n) text bad next
 IsLogLineShown form number n (OfReset r) text bad next =
-    IsResetShown form number (last_of r.card n.cards) n r text bad next
+    IsResetShown form number 0 (last_of r.card n.cards) n r text bad next
 
 abbrev pub IsLineShown : LogForm → ℕ → Noted → List ℕ → List ℕ → Bool → Noted → Type 0
 IsLineShown form number n line text bad next =

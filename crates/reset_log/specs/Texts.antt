@@ -62,6 +62,12 @@ head number before r =
 unfoldable pub unjudged : ℕ → Option Known → Reset → List ℕ
 unjudged number before r = head number before r ++ codes " is_error, not judged\n"
 
+-- the log doesn't have so many of its packets
+unfoldable pub lacking : ℕ → Option Known → Reset → ℕ → List ℕ
+lacking number before r lacks =
+    head number before r
+    ++ (field (codes " not judged, packets missing from the log: ") lacks ++ codes "\n")
+
 -- ---- the end of a log
 
 unfoldable pub begun : Tally → List ℕ
@@ -77,13 +83,14 @@ most (Some t) = begun t
 unfoldable pub cut_off : Pending → List ℕ
 cut_off p = name p.number p.reset ++ (field (codes " ends without its last packets, ") p.left ++ codes "\n")
 
-abbrev pub if_cut_off : Option Pending → List ℕ
-if_cut_off None = []
-if_cut_off (Some p) = cut_off p
+-- each of these
+abbrev pub all_cut_off : List (ℕ × Pending) → List ℕ
+all_cut_off [] = []
+all_cut_off (e ∷ es) = cut_off e.1 ++ all_cut_off es
 
 -- `resets N refused M cards C`, and `, most begun by card C node I: K`
 unfoldable pub totals : Noted → List ℕ
 totals n =
-    if_cut_off n.pending ++ (field (codes "resets ") n.counts.resets
+    all_cut_off n.pending ++ (field (codes "resets ") n.counts.resets
     ++ (field (codes " refused ") n.counts.refused ++ (field (codes " cards ") (length n.cards)
     ++ (most (most_of None n.tallies) ++ codes "\n"))))

@@ -1,7 +1,7 @@
 //! The cards of a log, each with its last reset.
-ghost use Rattle.std.specs.Prelude.{◌≡◌, ◌&&◌, ℕ, [], length, map, true, is_none, Some, None, OnOk};
+ghost use Rattle.std.specs.Prelude.{◌≡◌, ◌==◌, ◌&&◌, not, ℕ, [], length, map, true, is_none, Some, None, OnOk};
 ghost use Rattle.std.specs.Option.{option_copied};
-ghost use Rattle.reset_log.specs.Noted.{is_of, last_of, same_origin, is_second, is_repeated, skipped, missing, between, since, compared, known_by, forgotten};
+ghost use Rattle.reset_log.specs.Noted.{is_of, last_of, same_origin, is_back, is_anew, is_second, is_repeated, skipped, missing, between, since, compared, known_by, forgotten};
 ghost use Rattle.std.specs.BTreeSet.{contains};
 ghost use Rattle.std.specs.Ordering.{nat_cmp};
 ghost use Rattle.reset_list.specs.Update.{place_of, updated};
@@ -179,13 +179,35 @@ fn same_origin(a: Origin, b: Origin) -> bool
     }
 }
 
+/// Whether a time is a second or more before another one, in microseconds.
+fn is_back(past: Option<u64>, now: Option<u64>) -> bool
+    ensures { result ≡ is_back past now }
+{
+    match (past, now) {
+        (Some(past), Some(now)) => match past.checked_sub(now) {
+            Some(back) => back >= 1_000_000,
+            None => false,
+        },
+        _ => false,
+    }
+}
+
+/// Whether the machine was booted between a card's reset and the next one that is there.
+fn is_anew(known: &Known, reset: &Reset) -> bool
+    ensures { result ≡ is_anew known.now reset.now }
+{
+    is_back(known.time, reset.time)
+}
+
 /// Whether a reset is the card's last one by its other event.
 pub(crate) fn is_second(before: Option<&Known>, reset: &Reset) -> bool
     ensures { result ≡ is_second (option_copied before.entry) reset.now }
 {
     match before {
         Some(known) => {
-            known.generation == reset.generation && !same_origin(known.origin, reset.origin)
+            !is_anew(known, reset)
+                && known.generation == reset.generation
+                && !same_origin(known.origin, reset.origin)
         }
         None => false,
     }
@@ -214,7 +236,7 @@ fn skipped(old: u32, new: u32) -> u32
 fn missing_behind(known: &Known, reset: &Reset) -> u32
     ensures { result ≡ missing (Some known.now) reset.now }
 {
-    if is_second(Some(known), reset) {
+    if is_second(Some(known), reset) || is_anew(known, reset) {
         return 0;
     }
     skipped(known.generation, reset.generation)
@@ -254,13 +276,20 @@ pub(crate) fn since(before: Option<&Known>, reset: &Reset) -> Option<u64>
     }
 }
 
+/// Whether resets are missing between a card's reset and the next one that is there, or a boot came.
+fn is_apart(known: &Known, reset: &Reset) -> bool
+    ensures { result ≡ not ((missing (Some known.now) reset.now == 0) && not (is_anew known.now reset.now)) }
+{
+    missing_behind(known, reset) != 0 || is_anew(known, reset)
+}
+
 /// The tree that a reset's is compared with.
 pub(crate) fn compared<'k>(before: Option<&'k Known>, reset: &Reset) -> Option<&'k BusTree>
     ensures { option_copied result ≡ compared (option_copied before.entry) reset.now }
 {
     match before {
         Some(known) => {
-            if missing_behind(known, reset) != 0 {
+            if is_apart(known, reset) {
                 return None;
             }
             known.tree.as_ref()
@@ -273,11 +302,11 @@ pub(crate) fn compared<'k>(before: Option<&'k Known>, reset: &Reset) -> Option<&
 fn note(known: &mut Known, reset: &Reset, heard: Option<BusTree>)
     ensures { known.new ≡ known_by reset.now heard (Some known.old) }
 {
-    let gap = missing_behind(known, reset);
+    let apart = is_apart(known, reset);
     known.is_heard = heard.is_some();
     if let Some(tree) = heard {
         known.tree = Some(tree);
-    } else if gap != 0 {
+    } else if apart {
         known.tree = None;
     }
     known.card = reset.card;

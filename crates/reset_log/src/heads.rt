@@ -1,7 +1,7 @@
 //! The first line of what is shown of a reset, and the last line of a log.
 ghost use Rattle.std.specs.Prelude.{◌≡◌, ◌++◌, OnOk, IfOk};
 ghost use Rattle.std.specs.Option.{option_copied};
-ghost use Rattle.reset_log.specs.Texts.{garbled, lost, told, digit, seconds, if_known, if_missing, name, moments, if_local, head, unjudged, begun, most, cut_off, if_cut_off, totals};
+ghost use Rattle.reset_log.specs.Texts.{garbled, lost, told, digit, seconds, if_known, if_missing, name, moments, if_local, head, unjudged, begun, most, lacking, cut_off, all_cut_off, totals};
 ghost use Rattle.reset_log.specs.Notes.{noted};
 
 use crate::cards::{Known, missing, since};
@@ -10,6 +10,7 @@ use crate::notes::{Notes, Pending};
 use log_line::Reset;
 use reset_list::Tally;
 use std::alloc::{AllocError, Global};
+use std::collections::BTreeMap;
 use view_text::put_field;
 
 /// Appends the line of a garbled event.
@@ -159,6 +160,28 @@ pub(crate) fn put_unjudged(
     Ok(())
 }
 
+/// Appends the line of a reset of which the log lacks so many packets.
+#[tactic(auto, unfolding(crate::specs::Texts::lacking))]
+pub(crate) fn put_lacking(
+    out: &mut Vec<u8>,
+    number: u64,
+    before: Option<&Known>,
+    reset: &Reset,
+    lacks: u32,
+) -> Result<(), AllocError>
+    ensures { OnOk result (out.new.items
+        ≡ out.old.items ++ lacking number (option_copied before.entry) reset.now lacks) }
+{
+    put_head(out, number, before, reset)?;
+    put_field(
+        out,
+        b" not judged, packets missing from the log: ",
+        u64::from(lacks),
+    )?;
+    out.extend_from_slice(b"\n")?;
+    Ok(())
+}
+
 /// Appends how many resets a node began.
 #[tactic(auto, unfolding(crate::specs::Texts::begun))]
 fn put_begun(out: &mut Vec<u8>, tally: Tally) -> Result<(), AllocError>
@@ -194,14 +217,14 @@ fn put_cut_off(out: &mut Vec<u8>, pending: &Pending) -> Result<(), AllocError>
     Ok(())
 }
 
-fn put_if_cut_off(out: &mut Vec<u8>, pending: Option<&Pending>) -> Result<(), AllocError>
-    ensures { OnOk result (out.new.items
-        ≡ out.old.items ++ if_cut_off (option_copied pending.entry)) }
+/// Appends that for each reset that waits for its packets.
+fn put_all_cut_off(out: &mut Vec<u8>, pending: &BTreeMap<u64, Pending>) -> Result<(), AllocError>
+    ensures { OnOk result (out.new.items ≡ out.old.items ++ all_cut_off pending.now.entries) }
 {
-    match pending {
-        Some(pending) => put_cut_off(out, pending),
-        None => Ok(()),
+    for (_, pending) in pending.iter() {
+        put_cut_off(out, pending)?;
     }
+    Ok(())
 }
 
 /// The last line of a log.
@@ -210,7 +233,7 @@ pub(crate) fn last_line(alloc: Global, notes: &Notes) -> Result<Vec<u8>, AllocEr
     ensures { IfOk result (λ text. text.items ≡ totals (noted notes.now)) }
 {
     let mut text = Vec::new(alloc);
-    put_if_cut_off(&mut text, notes.pending.as_ref())?;
+    put_all_cut_off(&mut text, &notes.pending)?;
     put_field(&mut text, b"resets ", notes.counts.resets)?;
     put_field(&mut text, b" refused ", notes.counts.refused)?;
     put_field(&mut text, b" cards ", notes.cards.len() as u64)?;

@@ -1,7 +1,7 @@
 //! What is noted behind the lines of a log so far.
-ghost use Rattle.std.specs.Prelude.{◌≡◌, OnOk, IfOk, None, Some};
+ghost use Rattle.std.specs.Prelude.{◌≡◌, OnOk};
 ghost use Rattle.std.specs.Option.{option_copied};
-ghost use Rattle.reset_log.specs.Noted.{nothing, after, behind_loss, waiting, begun_at, taken_by, or_pending, is_full};
+ghost use Rattle.reset_log.specs.Noted.{nothing, after, behind_loss, waits_of, ended, waiting, begun_at, with_packet};
 ghost use Rattle.reset_list.specs.Counts.{tallied_by};
 ghost use Rattle.reset_log.specs.Notes.{noted};
 
@@ -10,6 +10,7 @@ use log_line::{Begun, Origin, Reset};
 use quad_lanes::QuadList;
 use reset_list::{Counts, Tallies, count_reset};
 use std::alloc::{AllocError, Global};
+use std::collections::BTreeMap;
 use topology_stack::BusTree;
 
 /// A reset whose packets have a line each.
@@ -23,18 +24,32 @@ pub struct Pending {
 }
 
 impl Pending {
-    /// Takes a packet, if it is of this card. It says whether it did, and it was the last one.
-    fn push(&mut self, card: u64, quad: u32) -> Result<bool, AllocError>
-        ensures kept { OnOk result (Some self.new
-            ≡ or_pending (taken_by (Some self.old) card quad) (Some self.old)) }
-        ensures last { IfOk result (λ last. last ≡ is_full (taken_by (Some self.old) card quad)) }
+    /// One that a line begins.
+    pub(crate) fn new(alloc: Global, number: u64, begun: Begun) -> Pending
+        ensures { result ≡ begun_at number begun }
     {
-        if self.reset.card != card {
-            return Ok(false);
+        Pending {
+            number,
+            left: begun.count,
+            reset: Reset {
+                origin: Origin::Core,
+                time: begun.time,
+                card: begun.card,
+                generation: begun.generation,
+                local: begun.local,
+                is_error: false,
+                list: QuadList::new(alloc),
+            },
         }
+    }
+
+    /// Takes a packet.
+    pub(crate) fn push(&mut self, quad: u32) -> Result<(), AllocError>
+        ensures { OnOk result (self.new ≡ with_packet quad self.old) }
+    {
         self.reset.list.push(quad)?;
         self.left = self.left.saturating_sub(1);
-        Ok(self.left == 0)
+        Ok(())
     }
 }
 
@@ -44,7 +59,8 @@ pub(crate) struct Notes {
     pub(crate) cards: Cards,
     pub(crate) counts: Counts,
     pub(crate) tallies: Tallies,
-    pub(crate) pending: Option<Pending>,
+    /// By card, the reset that waits for its packets.
+    pub(crate) pending: BTreeMap<u64, Pending>,
 }
 
 impl Notes {
@@ -59,7 +75,7 @@ impl Notes {
                 refused: 0,
             },
             tallies: Tallies::new(alloc),
-            pending: None,
+            pending: BTreeMap::new(alloc),
         }
     }
 
@@ -92,47 +108,22 @@ impl Notes {
         self.cards.keep(reset, heard)
     }
 
-    /// Takes the reset that waits for its packets.
-    pub(crate) fn take(&mut self) -> Option<Pending>
-        ensures taken { result ≡ self.old.pending }
-        ensures notes { noted self.new ≡ waiting None (noted self.old) }
+    /// Takes the reset of a card that waits for its packets, if one does.
+    pub(crate) fn end(&mut self, card: u64) -> Option<Pending>
+        ensures taken { result ≡ waits_of card (noted self.old) }
+        ensures notes { noted self.new ≡ ended card (noted self.old) }
     {
-        self.pending.take()
+        self.pending.remove(&card)
     }
 
-    /// Lets a reset wait for its packets.
-    pub(crate) fn begin(&mut self, alloc: Global, number: u64, begun: Begun)
-        ensures { noted self.new ≡ waiting (Some (begun_at number begun)) (noted self.old) }
+    /// Lets a reset wait for its packets, and no other one of its card.
+    pub(crate) fn wait(&mut self, pending: Pending) -> Result<(), AllocError>
+        ensures { OnOk result (noted self.new ≡ waiting pending (noted self.old)) }
     {
-        self.pending = Some(Pending {
-            number,
-            left: begun.count,
-            reset: Reset {
-                origin: Origin::Core,
-                time: begun.time,
-                card: begun.card,
-                generation: begun.generation,
-                local: begun.local,
-                is_error: false,
-                list: QuadList::new(alloc),
-            },
-        });
-    }
-
-    /// Lets a packet be of the reset that waits, if it is of its card. It says whether one took it, and it
-    /// was the last one.
-    pub(crate) fn push(&mut self, card: u64, quad: u32) -> Result<bool, AllocError>
-        ensures kept { OnOk result (noted self.new
-            ≡ waiting (or_pending (taken_by self.old.pending card quad) self.old.pending)
-            (noted self.old)) }
-        ensures last { IfOk result (λ last. last ≡ is_full (taken_by self.old.pending card quad)) }
-    {
-        let Some(mut pending) = self.pending.take() else {
-            return Ok(false);
-        };
-        let last = pending.push(card, quad)?;
-        self.pending = Some(pending);
-        Ok(last)
+        let card = pending.reset.card;
+        self.pending.remove(&card);
+        self.pending.insert(card, pending)?;
+        Ok(())
     }
 
     /// Notes that events were lost.

@@ -1,16 +1,20 @@
 //! What is shown of a line of the log.
-ghost use Rattle.std.specs.Prelude.{◌≡◌, IfOk, None};
+ghost use Rattle.std.specs.Prelude.{◌≡◌, ◌==◌, [], false, IfOk};
 ghost use Rattle.std.specs.Option.{option_copied};
 ghost use Rattle.bus_json.specs.Lines.{AreJsonLines};
 ghost use Rattle.reset_log.specs.codings.InJson.{IfJson};
-ghost use Rattle.reset_log.specs.Noted.{last_of, waiting, taken_by};
+ghost use Rattle.reset_log.specs.Noted.{last_of, waits_of, ended};
 ghost use Rattle.reset_log.specs.Notes.{noted};
-ghost use Rattle.reset_log.specs.Shown.{IsJudged, unjudged_text, garbled_text, lost_text, told_text, totals_text, IsResetShown, IsPendingShown, IsBegunShown, IsPacketShown, IsLineShown};
+ghost use Rattle.reset_log.specs.Shown.{IsJudged, unjudged_text, lacking_text, garbled_text, lost_text, told_text, totals_text, IsResetShown, IsPendingShown, IsWholeShown, IsBegunShown, IsPacketShown, IsLineShown};
 
 use crate::cards::{Known, compared, is_repeated};
-use crate::heads::{last_line, put_garbled, put_head, put_lost, put_told, put_unjudged};
-use crate::notes::Notes;
-use crate::values::{garbled_line, lost_line, reset_line, told_line, totals_lines, unjudged_line};
+use crate::heads::{
+    last_line, put_garbled, put_head, put_lacking, put_lost, put_told, put_unjudged,
+};
+use crate::notes::{Notes, Pending};
+use crate::values::{
+    garbled_line, lacking_line, lost_line, reset_line, told_line, totals_lines, unjudged_line,
+};
 use log_line::{Begun, LogLine, Reset, line_of};
 use reset_list::{ListShown, LogForm, show_list};
 use std::alloc::{AllocError, Global};
@@ -66,6 +70,29 @@ fn unjudged_text(
             Ok(text)
         }
         LogForm::Json(_) => unjudged_line(alloc, number, before, reset),
+    }
+}
+
+/// What is shown in a form of a reset of which the log lacks so many packets.
+fn lacking_text(
+    alloc: Global,
+    form: LogForm,
+    number: u64,
+    before: Option<&Known>,
+    reset: &Reset,
+    lacks: u32,
+) -> Result<Vec<u8>, AllocError>
+    ensures text { IfOk result (λ text. text.items
+        ≡ lacking_text form number (option_copied before.entry) reset.now lacks) }
+    ensures json { IfOk result (λ text. IfJson form (AreJsonLines text.items)) }
+{
+    match form {
+        LogForm::Text(_) => {
+            let mut text = Vec::new(alloc);
+            put_lacking(&mut text, number, before, reset, lacks)?;
+            Ok(text)
+        }
+        LogForm::Json(_) => lacking_line(alloc, number, before, reset, lacks),
     }
 }
 
@@ -129,28 +156,43 @@ pub(crate) fn totals_text(
     }
 }
 
-/// Shows a reset, and notes it.
+/// Nothing is shown, and nothing is at fault.
+fn nothing(alloc: Global, form: LogForm) -> Shown
+    ensures text { result.text.items ≡ [] }
+    ensures bad { result.bad ≡ false }
+    ensures json { IfJson form (AreJsonLines result.text.items) }
+{
+    Shown {
+        text: Vec::new(alloc),
+        bad: false,
+    }
+}
+
+/// Shows a reset of which the log lacks so many packets, and notes it.
 fn show_reset(
     alloc: Global,
     form: LogForm,
     notes: &mut Notes,
     number: u64,
+    lacks: u32,
     reset: &Reset,
 ) -> Result<Shown, AllocError>
-    ensures shown { IfOk result (λ shown. IsResetShown form number
+    ensures shown { IfOk result (λ shown. IsResetShown form number lacks
         (last_of reset.now.card notes.old.cards) (noted notes.old) reset.now
         shown.text.items shown.bad (noted notes.new)) }
     ensures json { IfOk result (λ shown. IfJson form (AreJsonLines shown.text.items)) }
 {
     let before = notes.cards.last_of(reset.card);
     if is_repeated(before, reset) {
-        return Ok(Shown {
-            text: Vec::new(alloc),
-            bad: false,
-        });
+        return Ok(nothing(alloc, form));
     }
     if reset.is_error {
         let text = unjudged_text(alloc, form, number, before, reset)?;
+        notes.keep(reset, None, false)?;
+        return Ok(Shown { text, bad: false });
+    }
+    if lacks != 0 {
+        let text = lacking_text(alloc, form, number, before, reset, lacks)?;
         notes.keep(reset, None, false)?;
         return Ok(Shown { text, bad: false });
     }
@@ -160,22 +202,49 @@ fn show_reset(
     Ok(Shown { text, bad })
 }
 
-/// Shows the reset that waited for its packets, if one did.
-fn show_pending(alloc: Global, form: LogForm, notes: &mut Notes) -> Result<Shown, AllocError>
-    ensures shown { IfOk result (λ shown. IsPendingShown form notes.old.pending
-        (waiting None (noted notes.old)) shown.text.items shown.bad (noted notes.new)) }
+/// Shows a reset that waited for its packets, if one did.
+fn show_pending(
+    alloc: Global,
+    form: LogForm,
+    notes: &mut Notes,
+    pending: Option<Pending>,
+) -> Result<Shown, AllocError>
+    ensures shown { IfOk result (λ shown. IsPendingShown form pending (noted notes.old)
+        shown.text.items shown.bad (noted notes.new)) }
     ensures json { IfOk result (λ shown. IfJson form (AreJsonLines shown.text.items)) }
 {
-    match notes.take() {
-        Some(pending) => show_reset(alloc, form, notes, pending.number, &pending.reset),
-        None => Ok(Shown {
-            text: Vec::new(alloc),
-            bad: false,
-        }),
+    match pending {
+        Some(
+            Pending {
+                number,
+                left,
+                reset,
+            },
+        ) => show_reset(alloc, form, notes, number, left, &reset),
+        None => Ok(nothing(alloc, form)),
     }
 }
 
-/// Shows the reset that waited for its packets, and lets another one wait.
+/// Shows a reset if none of its packets is still to come, and else lets it wait for them.
+fn show_whole(
+    alloc: Global,
+    form: LogForm,
+    notes: &mut Notes,
+    pending: Pending,
+) -> Result<Shown, AllocError>
+    ensures shown { IfOk result (λ shown. IsWholeShown form (pending.left == 0) pending
+        (noted notes.old) shown.text.items shown.bad (noted notes.new)) }
+    ensures json { IfOk result (λ shown. IfJson form (AreJsonLines shown.text.items)) }
+{
+    if pending.left == 0 {
+        notes.end(pending.reset.card);
+        return show_pending(alloc, form, notes, Some(pending));
+    }
+    notes.wait(pending)?;
+    Ok(nothing(alloc, form))
+}
+
+/// Shows the reset of a card that waited for its packets, and lets another one wait.
 fn show_begun(
     alloc: Global,
     form: LogForm,
@@ -187,12 +256,38 @@ fn show_begun(
         shown.text.items shown.bad (noted notes.new)) }
     ensures json { IfOk result (λ shown. IfJson form (AreJsonLines shown.text.items)) }
 {
-    let shown = show_pending(alloc, form, notes)?;
-    notes.begin(alloc, number, begun);
-    Ok(shown)
+    let before = notes.end(begun.card);
+    let Shown { mut text, bad } = show_pending(alloc, form, notes, before)?;
+    let second = show_whole(alloc, form, notes, Pending::new(alloc, number, begun))?;
+    text.extend_from_slice(&second.text)?;
+    Ok(Shown {
+        text,
+        bad: bad || second.bad,
+    })
 }
 
-/// Takes a packet, and shows its reset if it is the last one.
+/// A packet is of a reset that waited for it, if one did. Shows the reset if it is the last one.
+fn show_taken(
+    alloc: Global,
+    form: LogForm,
+    notes: &mut Notes,
+    waits: Option<Pending>,
+    quad: u32,
+) -> Result<Shown, AllocError>
+    ensures shown { IfOk result (λ shown. IsPacketShown form waits quad (noted notes.old)
+        shown.text.items shown.bad (noted notes.new)) }
+    ensures json { IfOk result (λ shown. IfJson form (AreJsonLines shown.text.items)) }
+{
+    match waits {
+        Some(mut pending) => {
+            pending.push(quad)?;
+            show_whole(alloc, form, notes, pending)
+        }
+        None => Ok(nothing(alloc, form)),
+    }
+}
+
+/// Takes a packet of a card, and shows its reset if it is the last one.
 fn show_packet(
     alloc: Global,
     form: LogForm,
@@ -200,18 +295,12 @@ fn show_packet(
     card: u64,
     quad: u32,
 ) -> Result<Shown, AllocError>
-    ensures shown { IfOk result (λ shown. IsPacketShown form
-        (taken_by notes.old.pending card quad) (noted notes.old)
-        shown.text.items shown.bad (noted notes.new)) }
+    ensures shown { IfOk result (λ shown. IsPacketShown form (waits_of card (noted notes.old))
+        quad (ended card (noted notes.old)) shown.text.items shown.bad (noted notes.new)) }
     ensures json { IfOk result (λ shown. IfJson form (AreJsonLines shown.text.items)) }
 {
-    if notes.push(card, quad)? {
-        return show_pending(alloc, form, notes);
-    }
-    Ok(Shown {
-        text: Vec::new(alloc),
-        bad: false,
-    })
+    let waits = notes.end(card);
+    show_taken(alloc, form, notes, waits, quad)
 }
 
 /// What is shown of the line with this number, which is counted from 1. A reset is noted.
@@ -227,10 +316,7 @@ pub(crate) fn show_line(
     ensures json { IfOk result (λ shown. IfJson form (AreJsonLines shown.text.items)) }
 {
     match line_of(alloc, line)? {
-        LogLine::Other => Ok(Shown {
-            text: Vec::new(alloc),
-            bad: false,
-        }),
+        LogLine::Other => Ok(nothing(alloc, form)),
         LogLine::Lost => {
             let text = lost_text(alloc, form, number)?;
             notes.forget();
@@ -246,6 +332,6 @@ pub(crate) fn show_line(
             let text = garbled_text(alloc, form, number)?;
             Ok(Shown { text, bad: true })
         }
-        LogLine::OfReset(reset) => show_reset(alloc, form, notes, number, &reset),
+        LogLine::OfReset(reset) => show_reset(alloc, form, notes, number, 0, &reset),
     }
 }

@@ -8,7 +8,7 @@ ghost use Rattle.bus_json.specs.Lines.{IsJsonLine, AreJsonLines};
 ghost use Rattle.reset_log.specs.Noted.{since, missing};
 ghost use Rattle.reset_log.specs.Notes.{noted};
 ghost use Rattle.reset_log.specs.codings.Tokens.{name_tokens, known_tokens, head_tokens};
-ghost use Rattle.reset_log.specs.Json.{card_value, ascii, IsResetTold, unjudged_value, cut_off_value, garbled_value, lost_value, told_value, most_members, totals_value, cut_off_lines, totals_lines};
+ghost use Rattle.reset_log.specs.Json.{card_value, ascii, IsResetTold, unjudged_value, lacking_value, cut_off_value, garbled_value, lost_value, told_value, most_members, totals_value, cut_off_lines, totals_lines};
 
 use crate::cards::{Known, missing, since};
 use crate::device::put_device;
@@ -18,6 +18,7 @@ use log_line::{DEVICES, Reset};
 use reset_list::{ListShown, Tally, put_list};
 use self_id::Standard;
 use std::alloc::{AllocError, Global};
+use std::collections::BTreeMap;
 use std::str;
 
 /// A byte, or a question mark where it isn't ASCII.
@@ -165,6 +166,27 @@ pub(crate) fn unjudged_line(
     Ok(line)
 }
 
+/// The line of a reset of which the log lacks so many packets.
+pub(crate) fn lacking_line(
+    alloc: Global,
+    number: u64,
+    before: Option<&Known>,
+    reset: &Reset,
+    lacks: u32,
+) -> Result<Vec<u8>, AllocError>
+    ensures line { IfOk result (λ line. line.items
+        ≡ json_line (lacking_value number (option_copied before.entry) reset.now lacks)) }
+    ensures json { IfOk result (λ line. IsJsonLine line.items) }
+{
+    let mut out = JsonText::new(alloc);
+    out.open_schema()?;
+    put_head(alloc, &mut out, number, before, reset)?;
+    out.number_member("lacks", u64::from(lacks))?;
+    out.close_object()?;
+    let line = out.into_line()?;
+    Ok(line)
+}
+
 /// The line of a garbled event.
 pub(crate) fn garbled_line(alloc: Global, number: u64) -> Result<Vec<u8>, AllocError>
     ensures line { IfOk result (λ line. line.items ≡ json_line (garbled_value number)) }
@@ -222,16 +244,27 @@ fn cut_off_line(alloc: Global, pending: &Pending) -> Result<Vec<u8>, AllocError>
     Ok(line)
 }
 
-/// The same where there is one.
-fn cut_off_lines(alloc: Global, pending: Option<&Pending>) -> Result<Vec<u8>, AllocError>
-    ensures lines { IfOk result (λ text. text.items
-        ≡ cut_off_lines (option_copied pending.entry)) }
+/// Appends that line.
+fn put_cut_off_line(alloc: Global, out: &mut Vec<u8>, pending: &Pending) -> Result<(), AllocError>
+    ensures line { OnOk result (out.new.items
+        ≡ out.old.items ++ json_line (cut_off_value pending.now)) }
+    ensures json { OnOk result (IsJsonLine (json_line (cut_off_value pending.now))) }
+{
+    let line = cut_off_line(alloc, pending)?;
+    out.extend_from_slice(&line)?;
+    Ok(())
+}
+
+/// The same for each reset that waits for its packets.
+fn cut_off_lines(alloc: Global, pending: &BTreeMap<u64, Pending>) -> Result<Vec<u8>, AllocError>
+    ensures lines { IfOk result (λ text. text.items ≡ cut_off_lines pending.now.entries) }
     ensures json { IfOk result (λ text. AreJsonLines text.items) }
 {
-    match pending {
-        Some(pending) => cut_off_line(alloc, pending),
-        None => Ok(Vec::new(alloc)),
+    let mut text = Vec::new(alloc);
+    for (_, pending) in pending.iter() {
+        put_cut_off_line(alloc, &mut text, pending)?;
     }
+    Ok(text)
 }
 
 /// Writes how many resets a node began, and ends the object.
@@ -282,7 +315,7 @@ pub(crate) fn totals_lines(alloc: Global, notes: &Notes) -> Result<Vec<u8>, Allo
     ensures lines { IfOk result (λ text. text.items ≡ totals_lines (noted notes.now)) }
     ensures json { IfOk result (λ text. AreJsonLines text.items) }
 {
-    let mut text = cut_off_lines(alloc, notes.pending.as_ref())?;
+    let mut text = cut_off_lines(alloc, &notes.pending)?;
     let line = totals_line(alloc, notes)?;
     text.extend_from_slice(&line)?;
     Ok(text)

@@ -1,5 +1,5 @@
 use Rattle.reset_log.proofs.InJson.{no_lines}
-use Rattle.reset_log.proofs.shown.show_packet.Goals as goal
+use Rattle.reset_log.proofs.shown.nothing.Goals as goal
 
 pub returns-clause-json : goal.returns-clause-json
 returns-clause-json c = no_lines c.args.form c.new.result.items c.new.ensures.items
