@@ -111,8 +111,9 @@ class Script:
             raise Fault("Twice")
         between = 1000000 // parts
         self.times = widened(self.times, node.times)
-        suits = suit(self.times, self.delay, slow=True)
-        if between < node.times["long"] or not suits:
+        suits, paced = suit(self.times, self.delay, slow=True), between >= node.times["long"]
+        reached[f"clock that ticks through a long wait: {paced}"] += 1
+        if not (suits and paced):
             raise Fault("Range")
         node.clock = between, between if first is None else first - 1
 

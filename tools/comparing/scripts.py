@@ -61,6 +61,9 @@ class Script:
         names = words.sample(NAMES, count) if count <= len(NAMES) else [f"n{k}" for k in range(count)]
         for name in names:
             self.write_node(name)
+        if words.random() < 0.2:
+            for name in words.sample(names, words.randint(0, min(3, count))):
+                self.write_clock(name)
 
     def write_node(self, name):
         words = self.words
@@ -86,6 +89,13 @@ class Script:
             keys.append(f"kind {words.choice(['field', 'packed'])}")
         words.shuffle(keys)
         self.lines.append(" ".join([f"node {name} {ports}"] + keys))
+
+    def write_clock(self, name):
+        """A clock that misses its first turn while nodes reset or contend, or at any time."""
+        words = self.words
+        pace = words.choice([50, 200, 1000, 5000, 10000, words.randint(1, 20000), 1000000 // (10 * self.delay)])
+        first = words.choice([words.randint(1, 20), self.hold + words.randint(0, 60), words.randint(1, 4000)])
+        self.lines.append(f"clock {name} {pace}" + (f" {first}" if words.random() < 0.8 else ""))
 
     # Acts and turns.
 

@@ -101,6 +101,28 @@ impl TickClock {
         }
     }
 
+    /// So many turns pass. Answers in how many of them it ticks.
+    pub fn go_on(&mut self, turns: u32) -> u32
+        ensures clock { clock_in self.new ≡ clock_on turns (clock_in self.old) }
+        ensures ticks { result ≡ ticks_in turns (clock_in self.old) }
+    {
+        if self.gap == 0 {
+            return turns;
+        }
+        self.go_on_slowly(turns)
+    }
+
+    /// The same of a clock that misses turns.
+    #[inline(never)]
+    fn go_on_slowly(&mut self, turns: u32) -> u32
+        ensures clock { clock_in self.new ≡ clock_on turns (clock_in self.old) }
+        ensures ticks { result ≡ ticks_in turns (clock_in self.old) }
+    {
+        let ticks = self.ticks_in(turns);
+        *self = self.after(turns);
+        ticks
+    }
+
     /// For how many turns behind the next `past` ones it misses none, up to 4,000,000.
     pub fn ticks_on(self, past: u32) -> u32
         ensures most { result ≤ 4000000 }
@@ -125,6 +147,19 @@ impl TickClock {
         if self.gap == 0 {
             return ticks;
         }
+        self.turns_before_slowly(ticks)
+    }
+
+    /// The same of a clock that misses turns.
+    #[inline(never)]
+    fn turns_before_slowly(self, ticks: u32) -> u32
+        requires slow { 1 ≤ self.gap }
+        requires few { ticks ≤ 4000000 }
+        ensures most { result ≤ 4000000 }
+        ensures ticks { ticks_in result (clock_in self) ≤ ticks }
+        ensures before { result < 4000000 → (ticks_in result (clock_in self) ≡ ticks)
+            × (misses (clock_on result (clock_in self)) ≡ false) }
+    {
         if ticks < self.left {
             return ticks;
         }

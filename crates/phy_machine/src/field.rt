@@ -123,8 +123,8 @@ impl PortMachine for FieldMachine {
     }
 
     fn pass(&mut self, turns: u32) {
-        node::pass(&mut self.state, self.clock.ticks_in(turns));
-        self.clock = self.clock.after(turns);
+        let ticks = self.clock.go_on(turns);
+        node::pass(&mut self.state, ticks);
     }
 
     ghost valid = { λ m. m.valid };

@@ -1,3 +1,4 @@
+pub mod SlowClocks
 pub mod Slowing
 pub mod ScriptLines
 pub mod Going

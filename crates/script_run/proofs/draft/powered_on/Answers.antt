@@ -23,7 +23,7 @@ with-flag false attrs ports force timing coins plain is = is
 pub returns-clause-value : goal.returns-clause-value
 returns-clause-value c =
     c.with_gap_reset.ensures
-    ∙ with-flag c.args.node.now.gap_reset _ _ _ _ _ _ (c.machine.ensures ∙ c.spec.ensures.value)
+    ∙ with-flag c.args.node.now.gap_reset _ _ _ _ _ _ (c.machine-plain.ensures ∙ c.spec.ensures.value)
 
 pub returns-clause-power_on : goal.returns-clause-power_on
 returns-clause-power_on c = λ d fit.

@@ -12,6 +12,6 @@ pub returns : goal.returns
 returns c =
     let self = c.args.self.now in
     let node : NodeState → Clock → PortNode = λ x k. record { state = x; coins = self.coins; clock = k } in
-    ap (λ x. node x (clock_in c.after-self.result)) (c.pass.ensures.state ∙ ap (λ k. with_later_timer k self.state) c.ticks_in.ensures)
-    ∙ ap (node (with_later_timer (ticks_in c.args.turns (clock_in self.clock)) self.state)) c.after-self.ensures.clock
+    ap (λ x. node x (clock_in c.go_on-ticks.new.self)) (c.pass.ensures.state ∙ ap (λ k. with_later_timer k self.state) c.go_on-ticks.ensures.ticks)
+    ∙ ap (node (with_later_timer (ticks_in c.args.turns (clock_in self.clock)) self.state)) c.go_on-ticks.ensures.clock
     ∙ sym (after-idle_ticks c.args.turns (field_node self) c.pass.ensures.fits c.requires.idle)

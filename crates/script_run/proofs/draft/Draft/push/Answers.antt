@@ -9,7 +9,7 @@ use Rattle.phy_machine.specs.declared.any.AnyMachine.{AnyMachine}
 use Rattle.phy_machine.specs.Any.{any_node}
 use Rattle.script_text.specs.ReportText.{Names}
 use Rattle.script_told.specs.Fitting.{IsFitting}
-use Rattle.script_told.proofs.Lemmas.{slack-append}
+use Rattle.script_run.proofs.SlowClocks.{slow-more}
 use Rattle.script_run.proofs.draft.Draft.push.Goals as goal
 
 pub returns-clause-sound : goal.returns-clause-sound
@@ -35,7 +35,7 @@ returns-clause-sound c =
       forced = old.forced;
       slack =
           ap slack_of (ap (map any_node) e ∙ map-append any_node machines one)
-          ∙ slack-append nodes new even ∙ old.slack;
+          ∙ slow-more nodes new even ∙ old.slack;
       few = omega (arith, longer, c.requires.few);
       named = omega (arith, longer, more, old.named);
       nodes = subst (All On) (sym e) (All-append On machines one old.nodes

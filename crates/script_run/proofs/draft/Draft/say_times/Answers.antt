@@ -5,8 +5,9 @@ use Rattle.std.specs.Prelude.{is_some, ◌==◌, map}
 use Rattle.std.proofs.lemmas.List.{length-map}
 use Rattle.phy_machine.specs.Any.{any_node}
 use Rattle.script_told.specs.Script.{takes_times}
-use Rattle.script_told.proofs.Lemmas.{standard-fits, no-slack}
+use Rattle.script_told.proofs.Lemmas.{standard-fits}
 use Rattle.script_run.specs.codings.Declaring.{draft_now}
+use Rattle.script_run.proofs.SlowClocks.{none-slow}
 use Rattle.script_run.proofs.draft.Draft.say_times.Goals as goal
 
 nothing : (n : ℕ) → (n == 0) ≡ true → n ≡ 0
@@ -21,7 +22,7 @@ returns-clause-sound c =
     let none : length self.names ≡ 0 = nothing (length self.names) new.0 in
     let machines = self.machines.items in
     let fit = standard-fits c.args.standard self.delay c.args.nanoseconds c.in_ok-self.field-0 c.requires.some (sym c.in_ok-self.ensures) in
-    let empty = no-slack (map any_node machines) (length-map machines any_node ∙ sym old.named ∙ none) in
+    let empty = none-slow (map any_node machines) (length-map machines any_node ∙ sym old.named ∙ none) in
     record {
       some_delay = old.some_delay;
       short_delay = old.short_delay;
