@@ -74,7 +74,7 @@ pub set-nodes : (items : List AnyMachine) (number : ℕ) (m : AnyMachine) (x : P
 set-nodes items number m x e = map-set any_node items number m ∙ ap (slice_set (map any_node items) number) e
 
 -- what is kept is sound where the definition's draft is, and the other way round
-to-sound : (draft : kept.Draft) → IsDraft draft → IsSoundDraft (draft_now draft)
+pub to-sound : (draft : kept.Draft) → IsDraft draft → IsSoundDraft (draft_now draft)
 to-sound draft h = record {
   some_delay = h.some_delay;
   short_delay = h.short_delay;
