@@ -16,7 +16,8 @@ pub enum Kind {
     Number,
     /// A word stands for a name and isn't one.
     Name,
-    /// A key stands twice in the line, or coins and a seed stand in it, or the name is declared.
+    /// A key stands twice in the line, or coins and a seed stand in it, or the name is declared, or the
+    /// node's clock is slow already.
     Twice,
     /// The command comes too late in the script.
     Late,
