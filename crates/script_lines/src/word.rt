@@ -59,7 +59,7 @@ impl<'a> Word<'a> {
         ensures fault { result_err result ≡ wrong_number 0 4294967295 self.now }
         ensures value { IfOk result (λ n. number_of self.now ≡ Some n) }
     {
-        self.number(0, u32::MAX)
+        number_of(self.bytes).ok_or(Kind::Number)
     }
 
     /// The number that the word spells, which has to lie in this range.
