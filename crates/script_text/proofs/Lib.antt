@@ -1,3 +1,4 @@
+pub mod Feeds
 pub mod TextLines
 pub mod ReportParts
 pub mod OneMaps

@@ -2,16 +2,9 @@
 ghost use Rattle.std.specs.Prelude.{◌≡◌, ◌++◌, ◌∷◌, [], ◌<◌, ◌≤◌, length, take, drop, position, IfOk, IfSome, OnOk};
 ghost use Rattle.script_text.specs.Summary.{is_feed, lines_of, is_report_line, is_node_line, from_last_report, without_nodes, summary};
 
+use crate::feed::first_feed;
 use std::alloc::Global;
 use topology_stack::OutOfMemory;
-
-/// The place of the first line feed of a text.
-pub fn first_feed(text: &[u8]) -> Option<usize>
-    ensures value { result ≡ position is_feed text.now }
-    ensures within { IfSome result (λ place. place < length text.now) }
-{
-    text.iter().position(|c| *c == b'\n')
-}
 
 /// The length of the first line of a text, with its line feed.
 fn first_line_len(text: &[u8]) -> usize

@@ -5,6 +5,7 @@
 #![tactic(auto)]
 
 mod answers;
+mod feed;
 mod last_report;
 mod laws;
 mod maps;
@@ -12,7 +13,8 @@ mod plan;
 mod report;
 
 pub use answers::{bid_text, csr_text, grant_text};
-pub use last_report::{first_feed, summary};
+pub use feed::first_feed;
+pub use last_report::summary;
 pub use laws::{
     maps_have_texts, plans_exist, reports_can_be_shown, reports_have_one_text, reports_have_texts,
     settled_worlds_have_texts,
