@@ -1,3 +1,4 @@
+pub mod Numbered
 pub mod NamedTree
 pub mod Standing
 pub mod Planning
