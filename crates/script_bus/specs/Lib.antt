@@ -4,6 +4,7 @@ pub mod SomeAdvice
 pub mod EachConfig
 pub mod EachMaps
 pub mod EachWaiting
+pub mod Happening
 pub mod Heard
 pub mod Listed
 pub mod Viewed

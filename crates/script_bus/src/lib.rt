@@ -28,4 +28,5 @@ pub use laws::{
 };
 pub use listener::Silent;
 pub use script_trace::Listener;
+pub use steps::happens;
 pub use table::NameTable;

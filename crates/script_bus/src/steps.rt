@@ -1,5 +1,5 @@
 //! What the commands of a script do to its bus.
-ghost use Rattle.std.specs.Prelude.{◌≡◌, ◌≤◌, ◌<◌, ◌⊎◌, ◌++◌, [], Ok, IfOk, IfErr, IfSome, IsSome, OnOk};
+ghost use Rattle.std.specs.Prelude.{◌≡◌, ◌≤◌, ◌<◌, ◌⊎◌, ◌++◌, [], true, Ok, IfOk, IfErr, IfSome, IsSome, OnOk};
 ghost use Rattle.cable_world.specs.Act.{IsAct};
 ghost use Rattle.script_told.specs.Step.{Acts, Does, after_maps, config_of};
 ghost use Rattle.script_trace.specs.Trace.{act_trace};
@@ -7,6 +7,7 @@ ghost use Rattle.script_trace.specs.Voice.{legend_of};
 ghost use Rattle.script_lines.specs.Range.{IsInRange};
 ghost use Rattle.script_bus.specs.Running.{Stops};
 ghost use Rattle.script_bus.specs.Heard.{Hears};
+ghost use Rattle.script_bus.specs.Happening.{happens};
 ghost use Rattle.script_bus.specs.codings.Standing.{IsQuestion};
 ghost use Rattle.script_bus.specs.codings.Doing.{IsActOf};
 ghost use Rattle.script_lines.specs.declared.command.Command.TheVariants as command;
@@ -33,6 +34,22 @@ fn config_of(from: u8, root_id: Option<u8>, gap: Option<u8>) -> Act
         force: root_id.is_some(),
         gap,
     }
+}
+
+/// Whether something happens to the world in a command, and nothing is printed: `plug`, `pull`,
+/// `reset`, `config`, `hold` or `turn`.
+pub fn happens(command: &Command) -> bool
+    ensures { result ≡ happens command.now }
+{
+    matches!(
+        command,
+        Command::Plug { .. }
+            | Command::Pull { .. }
+            | Command::Reset { .. }
+            | Command::Config { .. }
+            | Command::Hold { .. }
+            | Command::Turn { .. }
+    )
 }
 
 impl Bus {
@@ -114,15 +131,14 @@ impl Bus {
         command: &Command,
         act: Act,
         listener: &mut L,
-    ) -> Result<(Bus, Vec<u8>), LineStop>
+    ) -> Result<Bus, LineStop>
         requires { IsActOf self command.now act }
-        ensures done { IfOk result (λ r. Does self command.now (Ok (r.0, r.1.items))) }
-        ensures heard { IfOk result (λ r. Hears L.voice self command.now r.0
+        ensures done { IfOk result (λ bus. Does self command.now (Ok (bus, []))) }
+        ensures heard { IfOk result (λ bus. Hears L.voice self command.now bus
             (L.written listener.old) (L.written listener.new)) }
         ensures stop { IfErr result (Stops (Does self command.now)) }
     {
-        let bus = self.act_told(alloc, &act, command, listener)?;
-        Ok((bus, Vec::new(alloc)))
+        self.act_told(alloc, &act, command, listener)
     }
 
     /// `hold NAME PORT K`
@@ -220,18 +236,18 @@ impl Bus {
         }
     }
 
-    /// Does a command, whose numbers are in range where the times of nodes are in the bus's ranges, and
-    /// answers the bus then and what it prints. The listener hears what happens in it. A command that
-    /// is at fault leaves no bus to go on with; `node`, `delay` and `times` are `Late`.
-    pub fn command<L: Listener>(
+    /// Does a command in which something happens to the world and nothing is printed, as `command` does
+    /// it.
+    pub fn happen<L: Listener>(
         self,
         alloc: Global,
         command: &Command,
         listener: &mut L,
-    ) -> Result<(Bus, Vec<u8>), LineStop>
-        requires { IsInRange self.notes.times.ranges command.now }
-        ensures done { IfOk result (λ r. Does self command.now (Ok (r.0, r.1.items))) }
-        ensures heard { IfOk result (λ r. Hears L.voice self command.now r.0
+    ) -> Result<Bus, LineStop>
+        requires range { IsInRange self.notes.times.ranges command.now }
+        requires happens { happens command.now ≡ true }
+        ensures done { IfOk result (λ bus. Does self command.now (Ok (bus, []))) }
+        ensures heard { IfOk result (λ bus. Hears L.voice self command.now bus
             (L.written listener.old) (L.written listener.new)) }
         ensures stop { IfErr result (Stops (Does self command.now)) }
     {
@@ -259,9 +275,38 @@ impl Bus {
             }
             Command::Hold { name, port, turns } => {
                 listener.command(self.turns(), command)?;
-                Ok((self.hold_wire(name, *port, *turns)?, Vec::new(alloc)))
+                Ok(self.hold_wire(name, *port, *turns)?)
             }
-            Command::Turn { count } => Ok((self.turn(alloc, *count, listener)?, Vec::new(alloc))),
+            Command::Turn { count } => self.turn(alloc, *count, listener),
+            _ => unreachable!(),
+        }
+    }
+
+    /// Does a command, whose numbers are in range where the times of nodes are in the bus's ranges, and
+    /// answers the bus then and what it prints. The listener hears what happens in it. A command that
+    /// is at fault leaves no bus to go on with; `node`, `delay` and `times` are `Late`.
+    pub fn command<L: Listener>(
+        self,
+        alloc: Global,
+        command: &Command,
+        listener: &mut L,
+    ) -> Result<(Bus, Vec<u8>), LineStop>
+        requires { IsInRange self.notes.times.ranges command.now }
+        ensures done { IfOk result (λ r. Does self command.now (Ok (r.0, r.1.items))) }
+        ensures heard { IfOk result (λ r. Hears L.voice self command.now r.0
+            (L.written listener.old) (L.written listener.new)) }
+        ensures stop { IfErr result (Stops (Does self command.now)) }
+    {
+        match command {
+            Command::Plug { .. }
+            | Command::Pull { .. }
+            | Command::Reset { .. }
+            | Command::Config { .. }
+            | Command::Hold { .. }
+            | Command::Turn { .. } => {
+                let bus = self.happen(alloc, command, listener)?;
+                Ok((bus, Vec::new(alloc)))
+            }
             Command::Settle => self.settle(alloc, listener),
             Command::Plan { name } => self.plan(alloc, name, listener),
             _ => {
