@@ -1,3 +1,4 @@
+pub mod Happening
 pub mod SlowClocks
 pub mod Slowing
 pub mod ScriptLines

@@ -1,9 +1,10 @@
 //! The run of a script.
-ghost use Rattle.std.specs.Prelude.{◌≡◌, ◌≤◌, ◌<◌, ◌∷◌, ◌++◌, [], ℕ, List, Some, None, Ok, Err, IfOk, IfErr, OnOk, length};
+ghost use Rattle.std.specs.Prelude.{◌≡◌, ◌≤◌, ◌<◌, ◌∷◌, ◌++◌, [], ℕ, true, List, Some, None, Ok, Err, IfOk, IfErr, OnOk, length};
 ghost use Rattle.script_lines.specs.Range.{IsClockInRange, IsInRange};
-ghost use Rattle.script_told.specs.Script.{Declares, Delays, SaysTimes, Slows, DoesAtStage, DoesOnBus, running, bus_of, draft_of, ranges_of};
+ghost use Rattle.script_told.specs.Script.{Declares, Delays, SaysTimes, Slows, DoesAtStage, DoesOnBus, fresh, declaring, running, bus_of, draft_of, ranges_of};
 ghost use Rattle.script_told.specs.Step.{Does};
 ghost use Rattle.script_bus.specs.Heard.{Hears};
+ghost use Rattle.script_bus.specs.Happening.{happens};
 ghost use Rattle.script_bus.specs.Running.{IfFault, Stops};
 ghost use Rattle.script_run.specs.codings.Declaring.{IsDraft, IsLine, draft_now, node_said};
 ghost use Rattle.script_run.specs.codings.Going.{HearsAt, Prints};
@@ -48,6 +49,23 @@ fn on_bus<L: Listener>(
     }
 }
 
+/// The bus without nodes.
+#[inline(never)]
+fn empty_bus(alloc: Global) -> Result<Bus, OutOfMemory>
+    ensures { IfOk result (λ bus. bus ≡ bus_of fresh) }
+{
+    Draft::new(alloc, USUAL_DELAY).bus(alloc)
+}
+
+/// The bus of the nodes that are declared.
+#[inline(never)]
+fn declared_bus(alloc: Global, draft: Box<Draft>) -> Result<Bus, OutOfMemory>
+    requires { IsDraft draft.value }
+    ensures { IfOk result (λ bus. bus ≡ bus_of (declaring (draft_now draft.value))) }
+{
+    Box::into_inner(draft).bus(alloc)
+}
+
 impl Stage {
     /// The ranges of the times of nodes.
     pub fn ranges(&self) -> TimeRanges
@@ -61,12 +79,13 @@ impl Stage {
     }
 
     /// The bus that runs from here on.
+    #[inline(always)]
     pub fn bus(self, alloc: Global) -> Result<Bus, OutOfMemory>
         ensures { IfOk result (λ bus. bus ≡ bus_of self) }
     {
         match self.phase {
-            Phase::Fresh => Draft::new(alloc, USUAL_DELAY).bus(alloc),
-            Phase::Declaring(draft) => Box::into_inner(draft).bus(alloc),
+            Phase::Fresh => empty_bus(alloc),
+            Phase::Declaring(draft) => declared_bus(alloc, draft),
             Phase::Running(bus) => Ok(bus),
         }
     }
@@ -120,7 +139,29 @@ impl Stage {
         Ok(words)
     }
 
+    /// A command in which something happens to the world, and nothing is printed.
+    #[inline(always)]
+    pub fn happen<L: Listener>(
+        &mut self,
+        alloc: Global,
+        command: &Command,
+        listener: &mut L,
+    ) -> Result<(), LineStop>
+        requires range { IsInRange (ranges_of self.old) command.now }
+        requires happens { happens command.now ≡ true }
+        ensures done { OnOk result (DoesOnBus self.old command.now (Ok (self.new, []))) }
+        ensures heard { OnOk result (HearsAt L.voice self.old command.now self.new
+            (L.written listener.old) (L.written listener.new)) }
+        ensures stop { IfErr result (Stops (DoesOnBus self.old command.now)) }
+    {
+        let bus = mem::replace(self, Stage::new()).bus(alloc)?;
+        let bus = bus.happen(alloc, command, listener)?;
+        self.phase = Phase::Running(bus);
+        Ok(())
+    }
+
     /// Turns pass, 1 to 2,000,000.
+    #[inline(always)]
     pub fn pass<L: Listener>(
         &mut self,
         alloc: Global,

@@ -11,7 +11,7 @@ ghost use Rattle.script_lines.specs.Range.{IsInRange};
 
 use crate::draft::Draft;
 use crate::reading::{Reading, Writer};
-use script_bus::Bus;
+use script_bus::{Bus, happens};
 use script_lines::{Command, LineStop, parse_line_with, says_nothing, turn_line};
 use std::alloc::Global;
 use std::marker::Model;
@@ -96,8 +96,8 @@ impl Stage {
         }
     }
 
-    /// A command is done, and what is written of it and heard in it is added.
-    fn obey<R: Reading>(
+    /// The same as `obey`, of each command.
+    fn obey_any<R: Reading>(
         &mut self,
         alloc: Global,
         command: Command,
@@ -114,6 +114,27 @@ impl Stage {
         let words = self.follow(alloc, command, heard)?;
         R::Writes::write(alloc, prints, &*self, words, out)?;
         Ok(())
+    }
+
+    /// A command is done, and what is written of it and heard in it is added.
+    #[inline(always)]
+    fn obey<R: Reading>(
+        &mut self,
+        alloc: Global,
+        command: Command,
+        heard: &mut R::Hears,
+        out: &mut Vec<u8>,
+    ) -> Result<(), LineStop>
+        requires { IsInRange (ranges_of self.old) command }
+        ensures done { OnOk result (Follows R.Hears.voice R.Writes.writes self.old command self.new
+            out.old.items out.new.items
+            (R.Hears.written heard.old) (R.Hears.written heard.new)) }
+        ensures stop { IfErr result (Stops (DoesAtStage self.old command)) }
+    {
+        if happens(&command) {
+            return self.happen(alloc, &command, heard);
+        }
+        self.obey_any::<R>(alloc, command, heard, out)
     }
 
     /// A line is taken, as `take` has it.
@@ -136,8 +157,8 @@ impl Stage {
         self.obey::<R>(alloc, command, heard, out)
     }
 
-    /// A line is taken, and what is written of it and heard in it is added.
-    pub fn take<R: Reading>(
+    /// The same. Where the line is nothing, that is seen at once.
+    fn take_other<R: Reading>(
         &mut self,
         alloc: Global,
         line: &[u8],
@@ -152,9 +173,25 @@ impl Stage {
         if says_nothing(line) {
             return Ok(());
         }
+        self.take_command::<R>(alloc, line, heard, out)
+    }
+
+    /// A line is taken, and what is written of it and heard in it is added.
+    pub fn take<R: Reading>(
+        &mut self,
+        alloc: Global,
+        line: &[u8],
+        heard: &mut R::Hears,
+        out: &mut Vec<u8>,
+    ) -> Result<(), LineStop>
+        ensures done { OnOk result (LineLeads R.Hears.voice R.Writes.writes self.old line.now
+            self.new out.old.items out.new.items
+            (R.Hears.written heard.old) (R.Hears.written heard.new)) }
+        ensures stop { IfErr result (IfFault (LineFails self.old line.now)) }
+    {
         match turn_line(line) {
             Some(count) => Ok(self.pass(alloc, count, heard)?),
-            None => self.take_command::<R>(alloc, line, heard, out),
+            None => self.take_other::<R>(alloc, line, heard, out),
         }
     }
 

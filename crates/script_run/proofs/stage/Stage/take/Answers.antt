@@ -1,14 +1,10 @@
-use Rattle.std.proofs.Common.{[], inl, inr, refl, sym}
+use Rattle.std.proofs.Common.{[], inr, sym}
 use Rattle.std.proofs.lemmas.List.{append-nil}
 use Rattle.std.proofs.lemmas.Result.{err_from_is_err_and}
 use Rattle.script_lines.specs.declared.command.Command.TheVariants as command
 use Rattle.script_told.specs.Script.{ranges_of}
 use Rattle.script_run.proofs.Going.{done-fails}
 use Rattle.script_run.proofs.stage.Stage.take.Goals as goal
-
-pub returns-then-says_nothing-clause-done : goal.returns-then-says_nothing-clause-done
-returns-then-says_nothing-clause-done g c =
-    inl (c.says_nothing.ensures.nothing c.if-says_nothing.true (ranges_of c.args.self.now), refl, refl, refl)
 
 pub returns-in_err-pass-in-Some-clause-stop : goal.returns-in_err-pass-in-Some-clause-stop
 returns-in_err-pass-in-Some-clause-stop g c =
