@@ -1,5 +1,5 @@
 //! The nodes that a script declares before its bus runs.
-ghost use Rattle.std.specs.Prelude.{◌≡◌, ◌<◌, ◌≤◌, ℕ, [], Some, Ok, Err, false, IfOk, IfErr, OnOk, length, map, nat_lt, slice_get, if◌then◌else◌};
+ghost use Rattle.std.specs.Prelude.{◌≡◌, ◌<◌, ◌≤◌, ℕ, [], ◌∷◌, ◌++◌, Some, Ok, Err, false, IfOk, IfErr, OnOk, length, map, nat_lt, slice_get, if◌then◌else◌};
 ghost use Rattle.port_state.specs.TimeRanges.{AreWithin};
 ghost use Rattle.port_state.specs.declared.ranges.TimeRanges.{TimeRanges};
 ghost use Rattle.port_state.specs.Machine.{PortNode};
@@ -156,6 +156,25 @@ fn powered_on(node: &NodeLine, ranges: TimeRanges, number: u32) -> AnyMachine
     with_gap_reset(plain, node.gap_reset)
 }
 
+/// Before the first machine there is room for all, so that none is moved when more come.
+fn make_room(machines: &mut Vec<AnyMachine>) -> Result<(), OutOfMemory>
+    ensures { OnOk result (machines.new.items ≡ machines.old.items) }
+{
+    if machines.is_empty() {
+        machines.reserve(MAX_NODES)?;
+    }
+    Ok(())
+}
+
+/// Appends a machine.
+fn add_machine(machines: &mut Vec<AnyMachine>, machine: AnyMachine) -> Result<(), OutOfMemory>
+    ensures items { OnOk result (machines.new.items ≡ machines.old.items ++ machine ∷ []) }
+{
+    make_room(machines)?;
+    machines.push(machine)?;
+    Ok(())
+}
+
 impl Draft {
     /// Nothing but a delay, 1 to 16.
     pub fn new(alloc: Global, delay: u8) -> Draft
@@ -205,8 +224,8 @@ impl Draft {
         ensures sound { OnOk result (IsDraft self.new) }
     {
         let number = self.machines.len() as u32;
-        self.machines
-            .push(powered_on(&node, self.times.ranges, number))?;
+        let machine = powered_on(&node, self.times.ranges, number);
+        add_machine(&mut self.machines, machine)?;
         let names = mem::replace(&mut self.names, NameTable::new(alloc));
         self.names = names.with(node.name)?;
         Ok(())

@@ -20,18 +20,18 @@ returns-clause-sound c =
     let old = c.requires.sound in
     let draft = c.args.self.now in
     let machines = draft.machines.items in
-    let one = c.powered_on.result ∷ [] in
-    let e = c.in_ok-push.ensures.items in
+    let one = c.powered_on-machine.result ∷ [] in
+    let e = c.in_ok-add_machine.ensures.items in
     let On : AnyMachine → Type 0 = λ m. IsFitting draft.delay draft.times.ranges (any_node m) in
-    let longer : length c.push.new.self.items ≡ length machines + 1 =
+    let longer : length c.add_machine.new.machines.items ≡ length machines + 1 =
     ap length e ∙ length-append machines one in
     let more : length c.in_ok-self.field-0 ≡ length draft.names + 1 =
     ap length (c.in_ok-self.ensures ∙ ap (λ (names : Names). names ++ c.args.node.name ∷ []) c.replace-names.ensures.value)
     ∙ length-append draft.names (c.args.node.name ∷ []) in
     let room : nat_lt 62 (length draft.names) ≡ false = grind (arith, nat_tests, old.named, c.requires.few) in
-    let fits = c.powered_on.ensures.power_on draft.delay old.ranges in
-    let new = any_node c.powered_on.result in
-    let even : is_even new.clock ≡ true = ap (λ (x : PortNode). is_even x.clock) c.powered_on.ensures.value in
+    let fits = c.powered_on-machine.ensures.power_on draft.delay old.ranges in
+    let new = any_node c.powered_on-machine.result in
+    let even : is_even new.clock ≡ true = ap (λ (x : PortNode). is_even x.clock) c.powered_on-machine.ensures.value in
     record {
       some_delay = old.some_delay;
       short_delay = old.short_delay;
@@ -43,5 +43,5 @@ returns-clause-sound c =
       few = omega (arith, longer, c.requires.few);
       named = omega (arith, longer, more, old.named);
       nodes = subst (All On) (sym e) (All-append On machines one old.nodes
-          (All-cons On c.powered_on.result [] fits (All-nil On)));
+          (All-cons On c.powered_on-machine.result [] fits (All-nil On)));
     }
