@@ -1,5 +1,6 @@
 pub mod Names
 pub mod Parts
+pub mod Shown
 pub mod GivenValues
 pub mod CoinBits
 pub mod Uniform

@@ -133,7 +133,7 @@ visible_line times line h =
     ap (λ b. cond b (Ok None) (cond (is_permitted_line line) (in_line (read_words times (words_of line))) (Err Word)))
     (false_of_not (is_skipped line) h)
 
-words_line : (times : TimeRanges) (line : List ℕ) → IsTrue (not (is_skipped line)) →
+pub words_line : (times : TimeRanges) (line : List ℕ) → IsTrue (not (is_skipped line)) →
     IsTrue (is_permitted_line line)
     → read_line times line ≡ in_line (read_words times (words_of line))
 words_line times line h permitted =

@@ -12,6 +12,7 @@ use crate::kind::Kind;
 use crate::word::Word;
 
 /// The command of a line with these words, of which the first isn't `node`.
+#[inline(never)]
 pub(crate) fn read_fixed(verb: &Word, args: &[Word]) -> Result<Command, Kind>
     ensures value { result ≡ read_by forms (verb.now ∷ args.now) }
     ensures ranged { (times : TimeRanges) → IfOk result (IsInRange times) }

@@ -1,12 +1,11 @@
 //! A line of a script.
 ghost use Rattle.std.specs.Prelude.{◌≡◌, ◌≤◌, ◌++◌, codes, Some, find, not, Option, None, Result, Ok, IsTrue, IfOk, IfErr, IfSome};
-ghost use Rattle.std.specs.List.{list_all};
 ghost use Rattle.std.specs.Str.Lines.{strip_carriage_return};
 ghost use Rattle.port_state.specs.declared.ranges.TimeRanges.{TimeRanges};
 ghost use Rattle.port_state.specs.TimeRanges.{profile_ranges};
-ghost use Rattle.script_lines.specs.Words.{is_blank, is_permitted};
+ghost use Rattle.script_lines.specs.Words.{is_blank};
 ghost use Rattle.script_lines.specs.Line.{is_skipped};
-ghost use Rattle.script_lines.specs.codings.Reading.{IsWord, read_words, read_line};
+ghost use Rattle.script_lines.specs.codings.Reading.{read_words, read_line};
 ghost use Rattle.script_lines.specs.Answer.{AnswersReading, Refuses};
 ghost use Rattle.script_lines.specs.Line.{ReadsLine};
 ghost use Rattle.script_lines.specs.Range.{IsInRange};
@@ -18,8 +17,10 @@ use crate::command::Command;
 use crate::fixed::read_fixed;
 use crate::kind::{Kind, LineStop};
 use crate::node::node;
+use crate::number::number_of;
 use crate::word::Word;
-use crate::words::{are_permitted, few_words, first_blank, is_blank, words_of};
+use crate::words::{are_permitted, few_words, is_blank, words_of};
+use arrayvec::ArrayVec;
 use port_state::TimeRanges;
 use std::alloc::Global;
 
@@ -63,17 +64,7 @@ pub fn says_nothing(line: &[u8]) -> bool
 fn behind_turn(line: &[u8]) -> Option<&[u8]>
     ensures { IfSome result (λ word. line.now ≡ codes "turn " ++ word.now) }
 {
-    match line {
-        [b't', b'u', b'r', b'n', b' ', word @ ..] => Some(word),
-        _ => None,
-    }
-}
-
-/// Whether a text is a word as it stands: it has a character, no blank, and none that isn't permitted.
-fn is_word(text: &[u8]) -> bool
-    ensures { IsTrue result → IsWord text.now }
-{
-    !text.is_empty() && first_blank(text).is_none() && are_permitted(text)
+    line.strip_prefix(b"turn ")
 }
 
 /// The number of turns of a line `turn K` in which one blank stands between the words and none else.
@@ -83,17 +74,16 @@ pub fn turn_line(line: &[u8]) -> Option<u32>
         ReadsLine times line.now (Ok (Some (command.Turn count)))) }
     ensures ranged { IfSome result (λ count. (1 ≤ count) × (count ≤ 2000000)) }
 {
-    let word = match behind_turn(without_return(line)) {
-        Some(word) if is_word(word) => Word::new(word),
-        _ => return None,
-    };
-    match word.number(1, 2_000_000) {
-        Ok(count) => Some(count),
-        Err(_) => None,
+    let count = number_of(behind_turn(without_return(line))?)?;
+    if (1..=2_000_000).contains(&count) {
+        Some(count)
+    } else {
+        None
     }
 }
 
 /// The command that words say.
+#[inline(always)]
 fn read_words(words: &[Word], times: TimeRanges) -> Result<Command, Kind>
     ensures value { result ≡ read_words times words.now }
     ensures ranged { IfOk result (IsInRange times) }
@@ -110,6 +100,20 @@ fn read_words(words: &[Word], times: TimeRanges) -> Result<Command, Kind>
     }
 }
 
+/// The command of a line that isn't skipped, with any number of words.
+#[inline(never)]
+fn read_long(alloc: Global, line: &[u8], times: TimeRanges) -> Result<Option<Command>, LineStop>
+    requires shown { IsTrue (not (is_skipped line.now)) }
+    ensures value { AnswersReading result (read_line times line.now) }
+    ensures ranged { IfOk result (λ command. IfSome command (IsInRange times)) }
+{
+    if !are_permitted(line) {
+        return Err(LineStop::Fault(Kind::Word));
+    }
+    let words = words_of(alloc, line)?;
+    Ok(Some(read_words(words.as_slice(), times)?))
+}
+
 /// The command of a line that has no carriage return at its end.
 fn read_line(alloc: Global, line: &[u8], times: TimeRanges) -> Result<Option<Command>, LineStop>
     ensures value { AnswersReading result (read_line times line.now) }
@@ -118,14 +122,11 @@ fn read_line(alloc: Global, line: &[u8], times: TimeRanges) -> Result<Option<Com
     if is_skipped(line) {
         return Ok(None);
     }
-    if !are_permitted(line) {
-        return Err(LineStop::Fault(Kind::Word));
+    let mut words = ArrayVec::new();
+    match few_words(&mut words, line) {
+        Some(()) => Ok(Some(read_words(words.as_slice(), times)?)),
+        None => read_long(alloc, line, times),
     }
-    let command = match few_words(line) {
-        Some(words) => read_words(words.as_slice(), times)?,
-        None => read_words(words_of(alloc, line)?.as_slice(), times)?,
-    };
-    Ok(Some(command))
 }
 
 /// The command of one line of a script, where a cable delays a signal by at most `d` ticks, 1 to 16,

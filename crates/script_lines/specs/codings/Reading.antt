@@ -1,5 +1,5 @@
 -- Reading by forms, one after the other.
-use Rattle.std.specs.Prelude.{◌≡◌, ℕ, ◌<◌, IsTrue, List, [], ◌∷◌, length, position, Option, Some, None, Result, Ok, Err, if◌then◌else◌}
+use Rattle.std.specs.Prelude.{ℕ, List, [], ◌∷◌, Option, Some, None, Result, Ok, Err, if◌then◌else◌}
 use Rattle.port_state.specs.declared.ranges.TimeRanges.{TimeRanges}
 use Rattle.script_lines.specs.declared.command.Command.{Command}
 use Rattle.script_lines.specs.declared.kind.Kind.{Kind}
@@ -7,7 +7,7 @@ use Rattle.script_lines.specs.declared.kind.Kind.TheVariants.{Word}
 use Rattle.script_lines.specs.Shape.{fit, first_wrong}
 use Rattle.script_lines.specs.Form.{Form, forms, shapes, command_of}
 use Rattle.script_lines.specs.Node.{has_node_form, wrong_node, node_command}
-use Rattle.script_lines.specs.Words.{is_blank, words_of}
+use Rattle.script_lines.specs.Words.{words_of}
 use Rattle.script_lines.specs.Line.{is_skipped, is_permitted_line}
 
 -- the value, unless there is a fault
@@ -43,9 +43,3 @@ abbrev pub read_line : TimeRanges → List ℕ → Result (Option Command) Kind
 read_line times line =
     if is_skipped line then Ok None
     else if is_permitted_line line then in_line (read_words times (words_of line)) else Err Word
-
--- a word as it stands: a character at least, no blank, and none that isn't permitted
-pub record IsWord (text : List ℕ) : Type 0 where
-  pub some : 0 < length text
-  pub whole : position is_blank text ≡ None
-  pub permitted : IsTrue (is_permitted_line text)
