@@ -8,7 +8,7 @@ use Rattle.cable_world.specs.Wire.{Wire, arrives, stays}
 use Rattle.cable_world.specs.Still.{IsSilent, AreSilent, hold_less}
 use Rattle.cable_world.specs.running.Hearing.{Arriving}
 use Rattle.cable_world.specs.running.Rest.{AreAtRest, AreNone}
-use Rattle.world_agenda.specs.Live.{RestBut, GiveNoneBut, HasLive}
+use Rattle.world_agenda.specs.Live.{RestBut, GiveNoneBut, HasLive, HasGivers}
 use Rattle.world_agenda.proofs.Rest.{rest-stays, rest-passes, rest-arrives}
 
 -- ---- rows that aren't live, in a turn
@@ -41,12 +41,13 @@ pub as-many :
 as-many table wires same = sym (length-map table length) ∙ ap length same ∙ length-map wires length
 
 pub row-arrives :
-    (d set : ℕ) (wires : List (List Wire)) (table : Arriving) → map length table ≡ map length wires → RestBut set wires → GiveNoneBut set table →
-    (k : ℕ) (e : List (List Signal)) → k < length table → (Holds set k → ⊥) → get_or table k e ≡ get_or (map (map (arrives d)) wires) k e
-row-arrives d set wires table same rest none k e inside out =
+    (d live givers : ℕ) (wires : List (List Wire)) (table : Arriving) → map length table ≡ map length wires → RestBut live wires → GiveNoneBut givers table →
+    (k : ℕ) (e : List (List Signal)) → k < length table → (Holds live k → ⊥) → (Holds givers k → ⊥) →
+    get_or table k e ≡ get_or (map (map (arrives d)) wires) k e
+row-arrives d live givers wires table same rest none k e inside out off =
     let within : k < length wires = omega (arith, inside, as-many table wires same) in
     get_or_default table k e [] inside
-    ∙ rest-arrives d (get_or wires k []) (get_or table k []) (rest k out) (none k out) (rows-as-long table wires k same inside within)
+    ∙ rest-arrives d (get_or wires k []) (get_or table k []) (rest k out) (none k off) (rows-as-long table wires k same inside within)
     ∙ sym (get_or-map (map (arrives d)) wires k [] e within)
 
 -- a row of a table that a call goes over row by row
@@ -75,9 +76,9 @@ taken-in old new k agree there j has = elim (cases_eq j k) [
 
 -- one row is written anew
 pub live-set :
-    (old new k : ℕ) (wires : List (List Wire)) (row d : List Wire) (table : Arriving) → k < length wires → IsWithin old new → AgreeBut old new k →
-    ((Holds new k → ⊥) → AreAtRest (get_or (slice_set wires k row) k d)) → HasLive old wires table → HasLive new (slice_set wires k row) table
-live-set old new k wires row d table inside kept agree rest h = record {
+    (old new k : ℕ) (wires : List (List Wire)) (row d : List Wire) → k < length wires → IsWithin old new → AgreeBut old new k →
+    ((Holds new k → ⊥) → AreAtRest (get_or (slice_set wires k row) k d)) → HasLive old wires → HasLive new (slice_set wires k row)
+live-set old new k wires row d inside kept agree rest h = record {
   near = λ j has. elim (cases_eq j k) [
     | inl e ↦ omega (arith, e, inside, length-set wires k row)
     | inr ne ↦ let less = h.near j ((agree j ne).0 has) in omega (arith, less, length-set wires k row)
@@ -87,37 +88,40 @@ live-set old new k wires row d table inside kept agree rest h = record {
         (rest (λ has. out (subst (λ (i : ℕ). Holds new i) (sym e) has)))
     | inr ne ↦ subst AreAtRest (sym (get_or-set_other wires k j row [] ne)) (h.rest j (λ has. out (kept j has)))
   ];
-  none = λ j out. h.none j (λ has. out (kept j has));
 }
 
 -- all the nodes that there are
+
+none-past : (set n k : ℕ) → ((j : ℕ) → Holds set j ↔ j < n) → (Holds set k → ⊥) → n ≤ k
+none-past set n k is out = elim (cases_lt k n) [
+  | inl less ↦ absurd (out ((is k).1 less))
+  | inr more ↦ more
+]
+
 pub all-live :
-    (live n : ℕ) (wires : List (List Wire)) (table : Arriving) → ((k : ℕ) → Holds live k ↔ k < n) → length wires ≡ n → length table ≡ n →
-    HasLive live wires table
-all-live live n wires table is w t = record {
+    (live n : ℕ) (wires : List (List Wire)) → ((k : ℕ) → Holds live k ↔ k < n) → length wires ≡ n → HasLive live wires
+all-live live n wires is w = record {
   near = λ k has. let less = (is k).0 has in omega (arith, less, w);
-  rest = λ k out. subst AreAtRest (sym (get_or_past wires k [] (omega (arith, past k out, w)))) (λ j v inside. absurd (omega (arith, inside)));
-  none = λ k out. subst AreNone (sym (get_or_past table k [] (omega (arith, past k out, t)))) (λ j ss inside. absurd (omega (arith, inside)));
+  rest = λ k out. subst AreAtRest (sym (get_or_past wires k [] (omega (arith, none-past live n k is out, w)))) (λ j v inside. absurd (omega (arith, inside)));
 }
-  where
-    past : (k : ℕ) → (Holds live k → ⊥) → n ≤ k
-    past k out = elim (cases_lt k n) [
-      | inl less ↦ absurd (out ((is k).1 less))
-      | inr more ↦ more
-    ]
+
+pub all-give :
+    (givers n : ℕ) (table : Arriving) → ((k : ℕ) → Holds givers k ↔ k < n) → length table ≡ n → HasGivers givers table
+all-give givers n table is t = record {
+  near = λ k has. let less = (is k).0 has in omega (arith, less, t);
+  none = λ k out. subst AreNone (sym (get_or_past table k [] (omega (arith, none-past givers n k is out, t)))) (λ j ss inside. absurd (omega (arith, inside)));
+}
 
 -- turns pass in which nothing is under way
 pub live-passes :
-    (n live : ℕ) (wires new : List (List Wire)) (table : Arriving) → new ≡ map (map (hold_less n)) wires → HasLive live wires table →
-    HasLive live new table
-live-passes n live wires new table is h =
+    (n live : ℕ) (wires new : List (List Wire)) → new ≡ map (map (hold_less n)) wires → HasLive live wires → HasLive live new
+live-passes n live wires new is h =
     let rows = map (map (hold_less n)) wires in
     let long : length rows ≡ length wires = length-map wires (map (hold_less n)) in
-    subst (λ ws. HasLive live ws table) (sym is) (record {
+    subst (HasLive live) (sym is) (record {
       near = λ k has. let less = h.near k has in omega (arith, less, long);
       rest = λ k out. elim (cases_lt k (length wires)) [
         | inl inside ↦ subst AreAtRest (row-passes n live wires h.rest k [] inside out) (h.rest k out)
         | inr past ↦ subst AreAtRest (sym (get_or_past rows k [] (omega (arith, past, long)))) (λ j v within. absurd (omega (arith, within)))
       ];
-      none = h.none;
     })

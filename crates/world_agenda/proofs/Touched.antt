@@ -5,7 +5,6 @@ use Rattle.std.proofs.lemmas.List.{get_or-map, get_or-set_same, get_or-set_other
 use Rattle.cabling.specs.NodeSet.{Holds, IsEmpty, AgreeBut}
 use Rattle.cable_world.specs.Wire.{Wire}
 use Rattle.cable_world.specs.running.ActEnds.{AreSameBut}
-use Rattle.cable_world.specs.running.Hearing.{Arriving}
 use Rattle.cable_world.specs.running.Rest.{AreAtRest}
 use Rattle.world_agenda.specs.Agenda.{AreAtBut, Knows}
 use Rattle.world_agenda.specs.Live.{HasLive}
@@ -64,14 +63,12 @@ known-touched end soon set joined next old new ends is was long near same h =
     }
 
 pub live-touched :
-    (live set joined : ℕ) (wires new : List (List Wire)) (table : Arriving) → ((k : ℕ) → Holds joined k ↔ (Holds live k ⊎ Holds set k)) →
-    length new ≡ length wires → ((k : ℕ) → Holds set k → k < length wires) → AreSameBut (Holds set) wires new → HasLive live wires table →
-    HasLive joined new table
-live-touched live set joined wires new table is long near same h = record {
+    (live set joined : ℕ) (wires new : List (List Wire)) → ((k : ℕ) → Holds joined k ↔ (Holds live k ⊎ Holds set k)) →
+    length new ≡ length wires → ((k : ℕ) → Holds set k → k < length wires) → AreSameBut (Holds set) wires new → HasLive live wires → HasLive joined new
+live-touched live set joined wires new is long near same h = record {
   near = λ k has. elim ((is k).0 has) [
     | inl so ↦ let less = h.near k so in omega (arith, less, long)
     | inr so ↦ let less = near k so in omega (arith, less, long)
   ];
   rest = λ k out. subst AreAtRest (sym (same k [] (λ so. out ((is k).1 (inr so))))) (h.rest k (λ so. out ((is k).1 (inl so))));
-  none = λ k out. h.none k (λ so. out ((is k).1 (inl so)));
 }

@@ -1,4 +1,5 @@
--- Of which nodes the wires are live: something is under way on them, or arrives from them, or one is held.
+-- Of which nodes the wires are live: something is under way on them, or one is held. And from which wires
+-- something arrives.
 use Rattle.std.specs.Prelude.{ℕ, List, [], length, slice_index_or}
 use Rattle.cabling.specs.NodeSet.{Nodes, Holds}
 use Rattle.cable_world.specs.Wire.{Wire}
@@ -15,7 +16,11 @@ abbrev pub GiveNoneBut : Nodes → Arriving → Type 0
 GiveNoneBut set table = (k : ℕ) → (Holds set k → ⊥) → AreNone (slice_index_or table k [])
 
 -- the set has each node whose wires are live
-pub record HasLive (live : Nodes) (wires : List (List Wire)) (table : Arriving) : Type 0 where
+pub record HasLive (live : Nodes) (wires : List (List Wire)) : Type 0 where
   pub near : AreBelow live (length wires)
   pub rest : RestBut live wires
-  pub none : GiveNoneBut live table
+
+-- the set has each node from whose wires something arrives
+pub record HasGivers (givers : Nodes) (table : Arriving) : Type 0 where
+  pub near : AreBelow givers (length table)
+  pub none : GiveNoneBut givers table

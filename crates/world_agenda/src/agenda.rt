@@ -9,7 +9,7 @@ ghost use Rattle.cable_world.specs.Still.{AreSilent};
 ghost use Rattle.cable_world.specs.Turn.{turns_after};
 ghost use Rattle.world_agenda.specs.Now.{now_at};
 ghost use Rattle.world_agenda.specs.Agenda.{Knows};
-ghost use Rattle.world_agenda.specs.Live.{HasLive};
+ghost use Rattle.world_agenda.specs.Live.{HasLive, HasGivers};
 ghost use Rattle.world_agenda.specs.Slow.{HasSlow};
 
 use crate::clocks::{missing, slow_nodes, ticking};
@@ -47,8 +47,10 @@ pub struct AgendaWorld<M: PortMachine> {
     level: u32,
     // Which nodes are due.
     agenda: Agenda,
-    // The nodes on whose wires something may be under way or arrive, or of which one may be held.
+    // The nodes on whose wires something may be under way, or of which one may be held.
     live: NodeSet,
+    // The nodes from whose wires something may arrive by `arrivals`.
+    givers: NodeSet,
     // The nodes whose clocks miss turns.
     slow: NodeSet,
     out: Sends,
@@ -63,7 +65,8 @@ pub struct AgendaWorld<M: PortMachine> {
     ghost same: { IsFalse spent → map length arrivals.items ≡ map length wires.items },
     ghost knows: { IsFalse spent → Knows agenda.soon agenda.next
         (map (λ n. n.clock + n.idle) nodes.items) },
-    ghost lives: { IsFalse spent → HasLive live wires.items arrivals.items },
+    ghost lives: { IsFalse spent → HasLive live wires.items },
+    ghost gives: { IsFalse spent → HasGivers givers arrivals.items },
     ghost slows: { IsFalse spent → HasSlow slow (now_at turns nodes.items) },
 }
 
@@ -134,6 +137,7 @@ impl<M: PortMachine + Drop> AgendaWorld<M> {
             wires: wire_rows(alloc, ports)?,
             arrivals: arrival_rows(alloc, ports)?,
             changed: no_changes(alloc, machines.len())?,
+            givers: NodeSet::first(machines.len() as u8),
             nodes: agenda_nodes(alloc, machines)?,
             turns: 0,
             level: 0,
@@ -255,6 +259,7 @@ impl<M: PortMachine> WorldRun for AgendaWorld<M> {
             &mut self.out,
             &mut self.agenda,
             &mut self.live,
+            &mut self.givers,
         )?;
         self.turns += 1;
         self.spent = false;

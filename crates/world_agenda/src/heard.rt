@@ -73,17 +73,17 @@ fn mark_from(cabling: &Cabling, node: u8, row: &ArrivalRow, heard: &mut Heard)
 }
 
 /// Marks in `heard`, where nothing is marked yet, which nodes hear something, and at which ports. From
-/// the wires of the nodes that aren't in `live` nothing arrives.
-pub fn hearers(cabling: &Cabling, arrivals: &[ArrivalRow], live: NodeSet, heard: &mut Heard)
+/// the wires of the nodes that aren't in `givers` nothing arrives.
+pub fn hearers(cabling: &Cabling, arrivals: &[ArrivalRow], givers: NodeSet, heard: &mut Heard)
     requires unmarked { heard.old.nodes ≡ 0 }
     requires nodes { length arrivals.now ≡ length cabling.now }
-    requires near { AreBelow live (length arrivals.now) }
-    requires none { GiveNoneBut live arrivals.now }
+    requires near { AreBelow givers (length arrivals.now) }
+    requires none { GiveNoneBut givers arrivals.now }
     ensures spared { AreSparedBut heard.new arrivals.now cabling.now }
     ensures below { AreBelow heard.new.nodes (length cabling.now) }
 {
     cables_are_two_ended(cabling);
-    let mut left = live;
+    let mut left = givers;
     while let Some(node) = left.take_least() {
         mark_from(cabling, node, &arrivals[node as usize], heard);
     }

@@ -10,7 +10,7 @@ ghost use Rattle.cable_world.specs.Parts.{world_record};
 ghost use Rattle.cable_world.specs.Turn.{turn, node_turn, wires_after_sends, same_list};
 ghost use Rattle.cable_world.specs.Turn.{all_wires_after_sends, last_changes};
 ghost use Rattle.cable_world.specs.running.ActEnds.{AreSameBut};
-ghost use Rattle.cable_world.specs.running.Hearing.{AreQuietBut, Arriving, inbox_of};
+ghost use Rattle.cable_world.specs.running.Hearing.{AreQuietBut, inbox_of};
 ghost use Rattle.cable_world.specs.running.NodeActs.{AreLawful};
 ghost use Rattle.cable_world.specs.running.Steps.{turns_of, HasItsPorts};
 ghost use Rattle.cabling.specs.NodeSet.{Holds, IsEmpty, AgreeBut, IsWithin};
@@ -18,7 +18,7 @@ ghost use Rattle.world_agenda.specs.Clock.{caught_up};
 ghost use Rattle.world_agenda.specs.Now.{now_at};
 ghost use Rattle.world_agenda.specs.Agenda.{AreAtBut, AreBelow, IdlesBut, Knows};
 ghost use Rattle.world_agenda.specs.Heard.{AreSparedBut};
-ghost use Rattle.world_agenda.specs.Live.{HasLive};
+ghost use Rattle.world_agenda.specs.Live.{HasLive, HasGivers};
 
 use crate::heard::{Heard, hearers};
 use crate::live::{note_live, turn_live};
@@ -101,8 +101,7 @@ pub fn act_agenda<M: PortMachine>(
     ensures clocks { All (λ n. n.clock ≡ turns) nodes.new }
     ensures knows { (IsMemory result → ⊥) → Knows agenda.new.soon agenda.new.next
         (map (λ n. n.clock + n.idle) nodes.new) }
-    ensures live { (IsMemory result → ⊥) → (table : Arriving) → HasLive live.old wires.old table →
-        HasLive live.new wires.new table }
+    ensures live { (IsMemory result → ⊥) → HasLive live.old wires.old → HasLive live.new wires.new }
 {
     catch_up(nodes, turns, level);
     match act_world(act, cabling, nodes, wires, changed, turns, out) {
@@ -303,8 +302,7 @@ fn turn_nodes<M: PortMachine>(
     requires behind { All (λ n. n.clock ≤ turns) nodes.old }
     requires idle { All (λ n. turns ≤ n.clock + n.idle) nodes.old }
     requires ports { HasItsPorts cabling.now (now_at turns nodes.old) }
-    requires arrivals { length arrivals.now ≡ length cabling.now }
-    requires live { HasLive live.old wires.old arrivals.now }
+    requires live { HasLive live.old wires.old }
     ensures node { OnOk result (now_at (turns + 1) nodes.new
         ≡ map (λ (s : NodeStep). s.node)
         (turns_of arrivals.now cabling.now (now_at turns nodes.old))) }
@@ -318,7 +316,7 @@ fn turn_nodes<M: PortMachine>(
     ensures soon { OnOk result (IdlesBut agenda.new.soon agenda.new.next
         (map (λ n. n.clock + n.idle) nodes.new)) }
     ensures near { OnOk result (AreBelow agenda.new.soon (length nodes.old)) }
-    ensures live { OnOk result (HasLive live.new wires.new arrivals.now) }
+    ensures live { OnOk result (HasLive live.new wires.new) }
 {
     agenda.soon = NodeSet::none();
     let mut left = visited;
@@ -336,13 +334,13 @@ fn turn_nodes<M: PortMachine>(
             &mut wires[at],
             agenda,
         )?;
-        note_live(&wires[at], &arrivals[at], node, live);
+        note_live(&wires[at], node, live);
     }
     Ok(())
 }
 
-/// The turn of a world after `turns` turns. `live` has each node whose wires are live, before and after
-/// it.
+/// The turn of a world after `turns` turns. Before and after it `live` has each node whose wires are
+/// live, and `givers` each from whose wires something arrives.
 pub fn turn_agenda<M: PortMachine>(
     delay: u8,
     cabling: &Cabling,
@@ -354,6 +352,7 @@ pub fn turn_agenda<M: PortMachine>(
     out: &mut Sends,
     agenda: &mut Agenda,
     live: &mut NodeSet,
+    givers: &mut NodeSet,
 ) -> Result<(), OutOfMemory>
     requires few { turns < 4000000000 }
     requires short { delay ≤ 16 }
@@ -363,7 +362,8 @@ pub fn turn_agenda<M: PortMachine>(
     requires behind { All (λ n. n.clock ≤ turns) nodes.old }
     requires idle { All (λ n. turns ≤ n.clock + n.idle) nodes.old }
     requires knows { Knows agenda.old.soon agenda.old.next (map (λ n. n.clock + n.idle) nodes.old) }
-    requires live { HasLive live.old wires.old arrivals.old }
+    requires live { HasLive live.old wires.old }
+    requires givers { HasGivers givers.old arrivals.old }
     ensures done { OnOk result ((t : Timing) →
         world_record delay t cabling.now
         (now_at (turns + 1) nodes.new) wires.new changed.new (turns + 1)
@@ -375,11 +375,12 @@ pub fn turn_agenda<M: PortMachine>(
     ensures ahead { OnOk result (All (λ n. turns + 1 ≤ n.clock + n.idle) nodes.new) }
     ensures knows { OnOk result (Knows agenda.new.soon agenda.new.next
         (map (λ n. n.clock + n.idle) nodes.new)) }
-    ensures live { OnOk result (HasLive live.new wires.new arrivals.new) }
+    ensures live { OnOk result (HasLive live.new wires.new) }
+    ensures givers { OnOk result (HasGivers givers.new arrivals.new) }
 {
-    turn_live(wires, delay, arrivals, live)?;
+    turn_live(wires, delay, arrivals, live, givers)?;
     let mut heard = Heard::none();
-    hearers(cabling, arrivals, *live, &mut heard);
+    hearers(cabling, arrivals, *givers, &mut heard);
     let visited = due_nodes(nodes, turns, agenda).union(heard.nodes);
     turn_nodes(
         nodes, cabling, arrivals, &heard, visited, turns, changed, out, wires, agenda, live,

@@ -6,7 +6,7 @@ use Rattle.world_agenda.proofs.heard.hearers.Given as goal
 
 abbrev pub invariant-loop-node : goal.invariant-loop-node
 invariant-loop-node l = record {
-  left : IsWithin l.left l.fn.live;
+  left : IsWithin l.left l.fn.givers;
   gives : (k : ℕ) → (Holds l.left k → ⊥) → GivesBut l.heard l.cabling k (slice_index_or l.arrivals k []);
   below : AreBelow l.heard.nodes (length l.cabling);
 }

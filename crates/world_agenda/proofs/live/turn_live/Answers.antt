@@ -13,15 +13,25 @@ pub loop-node-init : goal.loop-node-init
 loop-node-init c =
     let d = c.args.delay in
     let live = c.args.live.now in
+    let givers = c.args.givers.now in
+    let left = c.union-left.result in
+    let is = c.union-left.ensures.members in
     let old = c.args.wires.now in
     let table = c.args.arrivals.now in
-    let h = c.requires.live in
+    let rest = c.requires.live.rest in
+    let none = c.requires.givers.none in
     record {
-      left = λ k has. has;
-      wires = blend-start live (map (map (stays d)) old) old (row-stays d live old h.rest);
-      arrivals = blend-start live (map (map (arrives d)) old) table (row-arrives d live old table c.requires.same h.rest h.none);
+      left = λ k has. elim ((is k).0 has) [
+        | inl so ↦ c.requires.live.near k so
+        | inr so ↦ let less = c.requires.givers.near k so in omega (arith, less, as-many table old c.requires.same)
+      ];
+      wires = blend-start left (map (map (stays d)) old) old (λ k e inside out. row-stays d live old rest k e inside (λ so. out ((is k).1 (inl so))));
+      arrivals = blend-start left (map (map (arrives d)) old) table
+          (λ k e inside out. row-arrives d live givers old table c.requires.same rest none k e inside (λ so. out ((is k).1 (inl so))) (λ so. out ((is k).1 (inr so))));
       near = λ k has. absurd (none_of_zero k (subst (λ (n : ℕ). Holds n k) c.none-still.ensures has));
-      rest = λ k out none. (h.rest k out, h.none k out);
+      rest = λ k out off. rest k (λ so. out ((is k).1 (inl so)));
+      giving = λ k has. absurd (none_of_zero k (subst (λ (n : ℕ). Holds n k) c.none-giving.ensures has));
+      none = λ k out off. none k (λ so. out ((is k).1 (inr so)));
     }
 
 pub turn-requires-clause-same : goal.turn-requires-clause-same
@@ -31,7 +41,7 @@ turn-requires-clause-same c =
     let table = c.args.arrivals.now in
     let inv = c.loop-node.invariant in
     let held = c.in-Some.ensures.held in
-    let within : k < length old = c.requires.live.near k (inv.left k held) in
+    let within : k < length old = inv.left k held in
     let inside : k < length table = omega (arith, within, as-many table old c.requires.same) in
     let row = get_or_default c.loop-node.wires k c.index-wires-at.result [] (omega (arith, inv.wires.long, within)) in
     let came = get_or_default c.loop-node.arrivals k c.index-arrivals-at.result [] (omega (arith, inv.arrivals.long, inside)) in
@@ -48,12 +58,13 @@ loop-node-preserved c =
     let take = c.in-Some.ensures in
     let left = c.loop-node.left in
     let less = c.take_least.new.self in
-    let within : k < length old = c.requires.live.near k (inv.left k take.held) in
+    let within : k < length old = inv.left k take.held in
     let inside : k < length table = omega (arith, within, as-many table old c.requires.same) in
     let row = c.index-wires-at.result in
     let was : row ≡ get_or old k row = c.index-wires-at.is ∙ inv.wires.waits k row within take.held in
     let turned = c.in_ok-turn.ensures in
     let note = c.note_live.ensures in
+    let given = c.note_giver.ensures in
     let rows = c.loop-node.wires in
     let arrivals = c.loop-node.arrivals in
     let new = c.turn.new.self in
@@ -68,15 +79,21 @@ loop-node-preserved c =
         | inl e ↦ omega (arith, e, within)
         | inr ne ↦ inv.near j ((note.others j ne).0 has)
       ];
-      rest = λ j out none. elim (cases_eq j k) [
+      rest = λ j out off. elim (cases_eq j k) [
         | inl e ↦
-            let off : Holds c.note_live.new.live k → ⊥ = λ has. none (subst (λ (i : ℕ). Holds c.note_live.new.live i) (sym e) has) in (
-              at-place AreAtRest (slice_set rows k new) j k c.index-wires-at-in-Some.result [] (omega (arith, length-set rows k new, inv.wires.long, within)) e (note.rest off),
-              at-place AreNone (slice_set arrivals k came) j k c.index-arrivals-at-in-Some.result [] (omega (arith, length-set arrivals k came, inv.arrivals.long, inside)) e (note.none off),
-            )
-        | inr ne ↦
-            let had = inv.rest j (λ has. out ((take.others j ne).1 has)) (λ has. none ((note.others j ne).1 has)) in
-            (subst AreAtRest (sym (get_or-set_other rows k j new [] ne)) had.0, subst AreNone (sym (get_or-set_other arrivals k j came [] ne)) had.1)
+            at-place AreAtRest (slice_set rows k new) j k c.index-wires-at-in-Some.result [] (omega (arith, length-set rows k new, inv.wires.long, within)) e
+            (note.rest (λ has. off (subst (λ (i : ℕ). Holds c.note_live.new.live i) (sym e) has)))
+        | inr ne ↦ subst AreAtRest (sym (get_or-set_other rows k j new [] ne)) (inv.rest j (λ has. out ((take.others j ne).1 has)) (λ has. off ((note.others j ne).1 has)))
+      ];
+      giving = λ j has. elim (cases_eq j k) [
+        | inl e ↦ omega (arith, e, within)
+        | inr ne ↦ inv.giving j ((given.others j ne).0 has)
+      ];
+      none = λ j out off. elim (cases_eq j k) [
+        | inl e ↦
+            at-place AreNone (slice_set arrivals k came) j k c.index-arrivals-at-in-Some.result [] (omega (arith, length-set arrivals k came, inv.arrivals.long, inside)) e
+            (given.none (λ has. off (subst (λ (i : ℕ). Holds c.note_giver.new.givers i) (sym e) has)))
+        | inr ne ↦ subst AreNone (sym (get_or-set_other arrivals k j came [] ne)) (inv.none j (λ has. out ((take.others j ne).1 has)) (λ has. off ((given.others j ne).1 has)))
       ];
     }
 

@@ -3,7 +3,6 @@ use Rattle.std.proofs.lemmas.List.{length-map}
 use Rattle.cabling.specs.NodeSet.{Holds}
 use Rattle.port_state.specs.declared.timing.Timing.{Timing}
 use Rattle.port_state.specs.Machine.{PortNode}
-use Rattle.cable_world.specs.Wire.{Wire}
 use Rattle.cable_world.specs.Act.{ActLeads, act_fault}
 use Rattle.cable_world.specs.Parts.{world_record}
 use Rattle.cable_world.specs.running.NodeActs.{AreLawful}
@@ -57,11 +56,11 @@ returns-in-Ok-clause-knows g c = λ fine.
     (λ k has. has) (λ k has. has) touched.nodes c.set_clocks.ensures.same) c.requires.knows
 
 pub returns-in-Ok-clause-live : goal.returns-in-Ok-clause-live
-returns-in-Ok-clause-live g c = λ fine table live.
+returns-in-Ok-clause-live g c = λ fine live.
     let touched = c.in-Ok.ensures.touched in
     let f = c.requires.lawful.2.well_formed in
     let many = length-map c.args.nodes.now (λ n. caught_up c.args.turns n.clock (g.M.PortMachine.record_of n.machine)) in
-    live-touched c.args.live.now c.in-Ok.touched _ c.args.wires.now c.act_world.new.wires table c.union.ensures.members c.act_world.auto.wires
+    live-touched c.args.live.now c.in-Ok.touched _ c.args.wires.now c.act_world.new.wires c.union.ensures.members c.act_world.auto.wires
     (λ k has. let less = touched.near k has in omega (arith, less, c.catch_up.auto.nodes, many, f.count, f.wire_rows)) touched.wires live
 
 -- ---- it is refused
@@ -91,9 +90,9 @@ returns-in-Fault-clause-knows g c = λ fine.
     (sym (ap (map (λ n. n.clock + n.idle)) kept.1 ∙ c.catch_up.ensures.ends)) c.requires.knows
 
 pub returns-in-Fault-clause-live : goal.returns-in-Fault-clause-live
-returns-in-Fault-clause-live g c = λ fine table live.
+returns-in-Fault-clause-live g c = λ fine live.
     let kept = fault-of c.act_world.result c.in-Err.stop c.in-Fault.fault _ c.in-Err.is c.in-Fault.is c.act_world.ensures.same in
-    subst (λ (rows : List (List Wire)). HasLive c.args.live.now rows table) (sym kept.2) live
+    subst (HasLive c.args.live.now) (sym kept.2) live
 
 -- ---- there is no memory
 

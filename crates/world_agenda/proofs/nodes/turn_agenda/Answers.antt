@@ -55,14 +55,6 @@ hearers-requires-clause-nodes g c =
     let w = c.requires.lawful.1.well_formed in
     ap length c.in_ok-turn_live.ensures.arrives ∙ length-map c.args.wires.now (map (arrives c.args.delay)) ∙ w.wire_rows
 
-pub hearers-requires-clause-near : goal.hearers-requires-clause-near
-hearers-requires-clause-near g c =
-    let rows = c.args.wires.now in
-    let d = c.args.delay in
-    λ k has.
-    let less = c.in_ok-turn_live.ensures.live.near k has in
-    omega (arith, less, ap length c.in_ok-turn_live.ensures.arrives, length-map rows (map (arrives d)), ap length c.in_ok-turn_live.ensures.stays, length-map rows (map (stays d)))
-
 pub due_nodes-requires-clause-few : goal.due_nodes-requires-clause-few
 due_nodes-requires-clause-few g c =
     let f : AgendaNode g.row.M.Denot g.M.PortMachine → PortNode = λ n. caught_up c.args.turns n.clock (g.M.PortMachine.record_of n.machine) in

@@ -174,7 +174,7 @@ loop-node-preserved g c =
         | inl e ↦ omega (arith, e, within)
         | inr ne ↦ inv.near j ((c.turn_node.ensures.others j ne).0 has)
       ];
-      live = live-set c.loop-node.live c.note_live.new.live k c.loop-node.wires c.turn_node.new.wires c.index-wires-at-in-Some.result table (omega (arith, inv.wires.long, rows))
+      live = live-set c.loop-node.live c.note_live.new.live k c.loop-node.wires c.turn_node.new.wires c.index-wires-at-in-Some.result (omega (arith, inv.wires.long, rows))
           c.note_live.ensures.kept c.note_live.ensures.others c.note_live.ensures.rest inv.live;
     }
 
@@ -269,9 +269,3 @@ at-requires g c =
     let k = c.in-Some.node in
     let within : k < length c.args.nodes.now = c.requires.below k (c.loop-node.invariant.left k c.in-Some.ensures.held) in
     omega (arith, within, c.requires.few)
-
-pub bounds-arrivals-at : goal.bounds-arrivals-at
-bounds-arrivals-at g c =
-    let k = c.in-Some.node in
-    let within : k < length c.args.nodes.now = c.requires.below k (c.loop-node.invariant.left k c.in-Some.ensures.held) in
-    omega (arith, within, c.requires.arrivals, c.requires.nodes)

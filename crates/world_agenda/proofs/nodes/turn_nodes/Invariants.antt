@@ -31,7 +31,7 @@ invariant-loop-node g l =
       soon : (k : ℕ) → k < length first → (Holds l.left k → ⊥) → (Holds l.agenda.soon k → ⊥) →
           l.agenda.next ≤ get_or (map (λ n. n.clock + n.idle) l.nodes) k 0;
       near : AreBelow l.agenda.soon (length first);
-      live : HasLive l.live l.wires l.arrivals;
+      live : HasLive l.live l.wires;
     }
 
 abbrev pub decreases-loop-node : goal.decreases-loop-node

@@ -53,7 +53,8 @@ invariant_of-self g c =
       marks = self.marks;
       knows = self.knows;
       slows = λ fine. subst (HasSlow self.slow) (sym nodes) (slow-passed self.slow k (map f self.nodes.items) (self.slows c.requires.sound));
-      lives = λ fine. live-passes k self.live self.wires.items (with_items self.wires c.pass_live.new.wires).items self.arrivals.items rows (self.lives c.requires.sound);
+      lives = λ fine. live-passes k self.live self.wires.items (with_items self.wires c.pass_live.new.wires).items rows (self.lives c.requires.sound);
+      gives = self.gives;
       same = λ fine. self.same c.requires.sound
           ∙ sym (ap (λ (l : List (List Wire)). map length l) (ws ∙ c.pass_live.ensures) ∙ rows-long (hold_less k) c.deref_mut.result.now
           ∙ ap (λ (l : List (List Wire)). map length l) c.deref_mut.ensures.value);

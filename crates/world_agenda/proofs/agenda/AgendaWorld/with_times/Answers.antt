@@ -14,7 +14,7 @@ use Rattle.world_agenda.specs.Clock.{caught_up}
 use Rattle.world_agenda.specs.Slow.{HasSlow}
 use Rattle.world_agenda.proofs.Known.{known-nothing}
 use Rattle.world_agenda.proofs.Late.{all-now}
-use Rattle.world_agenda.proofs.LiveRows.{all-live}
+use Rattle.world_agenda.proofs.LiveRows.{all-live, all-give}
 use Rattle.world_agenda.proofs.agenda.AgendaWorld.with_times.Goals as goal
 use Rattle.cable_world.proofs.Lemmas.{are-counts, as-long, each-node, power-on, start-is}
 
@@ -59,8 +59,11 @@ invariant_of-result g c =
       knows = λ fine. known-nothing c.unknown.result.soon c.unknown.result.next _ c.unknown.ensures.soon c.unknown.ensures.next;
       lives = λ fine.
           let made : length counts ≡ c.len.result = ap length is ∙ length-map nodes (λ (x : PortNode). x.state.ports) ∙ long ∙ omega (arith, c.len.ensures, c.args.machines.ok.0) in
-          all-live c.first.result c.len.result c.in_ok-wire_rows.field-0.items c.in_ok-arrival_rows.field-0.items c.first.ensures
-          (ap length c.in_ok-wire_rows.ensures ∙ length-map counts (λ count. replicate count empty_wire) ∙ made)
+          all-live c.first.result c.len.result c.in_ok-wire_rows.field-0.items c.first.ensures
+          (ap length c.in_ok-wire_rows.ensures ∙ length-map counts (λ count. replicate count empty_wire) ∙ made);
+      gives = λ fine.
+          let made : length counts ≡ c.len-3.result = ap length is ∙ length-map nodes (λ (x : PortNode). x.state.ports) ∙ long ∙ omega (arith, c.len-3.ensures, c.args.machines.ok.0) in
+          all-give c.first-2.result c.len-3.result c.in_ok-arrival_rows.field-0.items c.first-2.ensures
           (ap length c.in_ok-arrival_rows.ensures ∙ length-map counts (λ count. replicate count []) ∙ made);
       same = λ fine. ap (λ rows. map length rows) c.in_ok-arrival_rows.ensures ∙ as-long [] empty_wire counts ∙ sym (ap (λ rows. map length rows) c.in_ok-wire_rows.ensures);
     }

@@ -25,6 +25,7 @@ invariant_of-self g c =
       marks = self.marks;
       knows = self.knows;
       slows = self.slows;
-      lives = λ fine. subst (λ rows. HasLive self.live rows self.arrivals.items) (sym same) (self.lives fine);
+      lives = λ fine. subst (HasLive self.live) (sym same) (self.lives fine);
+      gives = self.gives;
       same = λ fine. self.same fine ∙ sym (ap (λ (rows : List (List Wire)). map length rows) same);
     }

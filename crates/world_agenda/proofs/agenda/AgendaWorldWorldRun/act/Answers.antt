@@ -85,9 +85,9 @@ invariant_of-self g c =
           (All-weaker (λ n. n.clock ≡ self.turns) (λ n. n.clock ≤ self.turns) (λ n e. omega (arith, e)) new.nodes said.clocks);
       idle = subst (λ xs. All (λ n. self.turns ≤ n.clock + n.idle) xs) (sym ns)
           (All-weaker (λ n. n.clock ≡ self.turns) (λ n. self.turns ≤ n.clock + n.idle) (λ n e. omega (arith, e)) new.nodes said.clocks);
-      lives = λ fine. subst (λ (rows : List (List Wire)). HasLive new.live rows self.arrivals.items) (sym ws)
-          (said.live (there fine) self.arrivals.items
-          (subst (λ (rows : List (List Wire)). HasLive self.live rows self.arrivals.items) (sym c.deref_mut-2.ensures.value) (self.lives c.if-self.false)));
+      lives = λ fine. subst (HasLive new.live) (sym ws)
+          (said.live (there fine) (subst (HasLive self.live) (sym c.deref_mut-2.ensures.value) (self.lives c.if-self.false)));
+      gives = λ fine. self.gives c.if-self.false;
       knows = λ fine. subst (λ xs. Knows new.agenda.soon new.agenda.next (map (λ n. n.clock + n.idle) xs)) (sym ns)
           (said.knows (there fine));
       marks = ap length cs ∙ auto.changed ∙ ap length c.deref_mut-3.ensures.value ∙ self.marks ∙ sym (ap length ns ∙ auto.nodes ∙ ap length c.deref_mut.ensures.value);

@@ -51,9 +51,10 @@ invariant_of-self g c =
       marks = self.marks;
       knows = self.knows;
       slows = self.slows;
-      lives = λ fine. live-set self.live c.insert.new.self end.node self.wires.items c.hold.new.self [] self.arrivals.items inside
+      lives = λ fine. live-set self.live c.insert.new.self end.node self.wires.items c.hold.new.self [] inside
           (taken-in self.live c.insert.new.self end.node c.insert.ensures.others c.insert.ensures.holds) c.insert.ensures.others
           (λ out. absurd (out c.insert.ensures.holds)) (self.lives fine);
+      gives = self.gives;
       same = λ fine. self.same fine ∙ sym (ap (λ rows. map length rows) made ∙ put-long self.wires.items end held);
     }
 

@@ -44,7 +44,11 @@ turn_agenda-requires-clause-knows g c =
 
 pub turn_agenda-requires-clause-live : goal.turn_agenda-requires-clause-live
 turn_agenda-requires-clause-live g c =
-    rw (c.deref_mut-4.ensures.value, c.deref_mut-2.ensures.value) (c.args.self.now.lives c.if-self.false)
+    rw c.deref_mut-2.ensures.value (c.args.self.now.lives c.if-self.false)
+
+pub turn_agenda-requires-clause-givers : goal.turn_agenda-requires-clause-givers
+turn_agenda-requires-clause-givers g c =
+    rw c.deref_mut-4.ensures.value (c.args.self.now.gives c.if-self.false)
 
 -- want of memory leaves no node past its idle ticks
 pub invariant_of-self : goal.invariant_of-self
@@ -65,6 +69,7 @@ invariant_of-self g c =
       idle = subst (λ xs. All (λ n. self.turns ≤ n.clock + n.idle) xs) (sym ns) c.turn_agenda.ensures.idle;
       knows = λ fine. absurd cc;
       lives = λ fine. absurd cc;
+      gives = λ fine. absurd cc;
       slows = λ fine. absurd cc;
       marks = ap length cs ∙ auto.changed ∙ ap length c.deref_mut-3.ensures.value ∙ self.marks ∙ sym (ap length ns ∙ auto.nodes ∙ ap length c.deref_mut.ensures.value);
       same = λ fine. absurd cc;
@@ -94,7 +99,8 @@ invariant_of-self-2 g c =
       behind = λ fine. subst (λ xs. All (λ n. n.clock ≤ self.turns + 1) xs) (sym ns) c.in_ok-turn_agenda.ensures.behind;
       idle = subst (λ xs. All (λ n. self.turns + 1 ≤ n.clock + n.idle) xs) (sym ns) c.in_ok-turn_agenda.ensures.ahead;
       knows = λ fine. rw ns c.in_ok-turn_agenda.ensures.knows;
-      lives = λ fine. rw (ws, arr) c.in_ok-turn_agenda.ensures.live;
+      lives = λ fine. rw ws c.in_ok-turn_agenda.ensures.live;
+      gives = λ fine. rw arr c.in_ok-turn_agenda.ensures.givers;
       slows = λ fine. subst (λ (v : CableWorld). HasSlow self.slow v.nodes) (sym done)
           (slow-turn self.slow w (lawful-now w c.worlds_stay_lawful.ensures.reached (self.reached c.if-self.false)).well_formed (self.slows c.if-self.false));
       marks = ap length cs ∙ auto.changed ∙ ap length c.deref_mut-3.ensures.value ∙ self.marks ∙ sym (ap length ns ∙ auto.nodes ∙ ap length c.deref_mut.ensures.value);
