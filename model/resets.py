@@ -1,6 +1,7 @@
 """The text of a Linux kernel's trace or log: docs/VIEW-LOGS.md, 'resets'."""
 
 import re
+from datetime import datetime, timedelta
 
 from .captures import write_pairs
 from .changes import Log
@@ -14,7 +15,7 @@ EVENTS = {
     "firewire:bus_reset_handle:": "kernel",
 }
 DRIVERS = ("firewire_core", "firewire_ohci")
-DEVICE = "([0-9a-fA-F]{4}:[0-9a-fA-F]{2}:[0-9a-fA-F]{2}[.][0-9a-fA-F]):"
+DEVICE = "([0-9a-fA-F]{4,8}:[0-9a-fA-F]{2}:[0-9a-fA-F]{2}[.][0-9a-fA-F]):"
 FIRST = DEVICE + " ([0-9]+) selfIDs, generation ([0-9]+),(?: local node ID ([0-9a-fA-F]{1,4}))?(?= |$)"
 PACKET = DEVICE + " selfID [0n]: ([0-9a-fA-F]{1,8}), "
 # How the drivers' own messages begin.
@@ -77,6 +78,50 @@ def local_of(value):
     return None if value & 63 == 63 else value & 63
 
 
+def seconds(text):
+    """The microseconds of digits, a point and six digits, or nine; None if the text is something else."""
+    found = re.fullmatch("([0-9]{1,10})[.]([0-9]{6})([0-9]{3})?", text)
+    if found is None or int(found.group(1)) > 0xFFFFFFFF:
+        return None
+    return int(found.group(1)) * 1000000 + int(found.group(2))
+
+
+DATE = "([0-9]{4})-([0-9]{2})-([0-9]{2})[Tt]([0-9]{2}):([0-9]{2}):([0-9]{2})([.,][0-9]{1,9})?"
+ZONE = "(?:[Zz]|([+-])([0-9]{2}):?([0-9]{2})?)"
+
+
+def date(text):
+    """The microseconds since 1970 of a date and a time of day with its zone; None if the text is something else."""
+    found = re.fullmatch(DATE + ZONE, text)
+    if found is None:
+        return None
+    year, month, day, hour, minute, second = (int(part) for part in found.groups()[:6])
+    fraction, sign, hours, minutes = found.groups()[6:]
+    try:
+        moment = datetime(year, month, day, hour, minute, min(second, 59) if second == 60 else second)
+    except ValueError:
+        return None
+    ahead = timedelta(hours=int(hours or 0), minutes=int(minutes or 0))
+    past = (moment - datetime(1970, 1, 1) + (ahead if sign == "-" else -ahead)) // timedelta(microseconds=1)
+    past += int((fraction or ".0")[1:].ljust(9, "0")) // 1000
+    return past if past >= 0 and int(minutes or 0) < 60 and int(hours or 0) < 26 else None
+
+
+def front_time(before, name):
+    """When a driver's line was: by the words before the driver's name, or by the fields before it in its word."""
+    time = None
+    for word in before:
+        inner = word[:-1].removeprefix("[") if word.endswith("]") else word
+        found = seconds(inner)
+        found = date(word) if found is None else found
+        time = time if found is None else found
+    fields = name.split(",")
+    if ";" in name and len(fields) > 2 and re.fullmatch("[0-9]{1,16}", fields[2]):
+        micros = int(fields[2])
+        time = micros if micros < 2**32 * 1000000 else time
+    return time
+
+
 class Card:
     def __init__(self):
         self.event = None  # the generation and the source of the last event that was shown or not judged
@@ -97,7 +142,8 @@ class Resets:
         """Takes a line of the log."""
         words = re.split("[ \t\r]+", text.strip(" \t\r"))
         event = next((place for place, said in enumerate(words) if said in EVENTS), None)
-        driver = next((place for place, said in enumerate(words) if said.split(";")[-1] in DRIVERS), None)
+        drivers = [said.removeprefix("MESSAGE=") for said in words]
+        driver = next((place for place, said in enumerate(drivers) if said.split(";")[-1] in DRIVERS), None)
         if event is not None:
             try:
                 self.event(number, EVENTS[words[event]], words[:event], words[event + 1 :])
@@ -110,10 +156,11 @@ class Resets:
                 card.apart = True
             self.log.write(f"line {number} events are lost", {"line": number, "lost": True})
         elif driver is not None:
-            self.driver(number, words[:driver], words[driver + 1 :])
+            self.driver(number, front_time(words[:driver], words[driver]), words[driver + 1 :])
 
     def event(self, number, source, before, words):
-        times = [said[:-1] for said in before if re.fullmatch(r"[0-9]+[.][0-9]{6}:", said)]
+        times = [seconds(said[:-1]) for said in before if said.endswith(":")]
+        times = [time for time in times if time is not None]
         reset = {"line": number, "card": one_number(words, "card_index"), "source": source, "local": None}
         reset["time"] = times[-1] if times else None
         if source == "kernel":
@@ -136,7 +183,7 @@ class Resets:
         """A reset of a card, of which the log lacks so many packets; without data its controller failed."""
         card = self.cards.setdefault(reset["card"], Card())
         event = reset["generation"], reset["source"]
-        time = None if reset["time"] is None else int(reset["time"].replace(".", ""))
+        time = reset["time"]
         booted = time is not None and card.time is not None and time + 1000000 <= card.time
         second = card.event is not None and card.event[0] == event[0] and card.event[1] != event[1] and not booted
         if second and card.was_shown:
@@ -167,7 +214,7 @@ class Resets:
         if nodes is not None:
             card.last, card.apart = nodes, False
 
-    def driver(self, number, before, words):
+    def driver(self, number, time, words):
         """A line of a driver: the first of a reset, a packet of the reset that is open, or a message."""
         said = " ".join(words)
         first, packet = re.match(FIRST, said), re.match(PACKET, said)
@@ -175,9 +222,8 @@ class Resets:
             device, count, generation, local = first.groups()
             device = device.lower()
             self.close(device)
-            times = [word[:-1].lstrip("[") for word in before if re.fullmatch(r"\[?[0-9]+[.][0-9]{6}\]", word)]
             reset = {"line": number, "card": device, "source": "driver", "generation": int(generation)}
-            reset["time"] = times[-1] if times else None
+            reset["time"] = time
             reset["local"] = local_of(int(local, 16)) if local else None
             reset.update(count=int(count), list=[])
             self.open[device] = reset
@@ -192,7 +238,9 @@ class Resets:
                     self.close(device)
         elif words[1:3] in MESSAGES:
             plain = "".join(char if ord(char) < 128 else "?" for char in said)
-            self.log.write(f"line {number} {said}", {"line": number, "kernel": plain})
+            when = "" if time is None else f" time {time // 1000000}.{time % 1000000:06d}"
+            members = {"line": number} if time is None else {"line": number, "time": time}
+            self.log.write(f"line {number}{when} {said}", dict(members, kernel=plain))
 
     def close(self, device):
         """Shows the open reset of a card, if it has all its packets; else says how many are missing."""

@@ -4,7 +4,7 @@ Each is made by a generator `words` (random.Random) alone. docs/VIEW-LOGS.md, 'r
 """
 from . import captures
 
-DEVICES = ["0000:05:00.0", "000a:1f:0b.3"]
+DEVICES = ["0000:05:00.0", "000a:1f:0b.3", "10000:e1:00.0"]
 MESSAGES = [
     "firewire_core {}: topology build failed", "firewire_core {}: PHY ID mismatch in self ID: 2 != 1",
     "firewire_core {}: parent port inconsistency for node 2: parent_count=2",
@@ -27,7 +27,17 @@ class Log:
         """What stands before the name of an event."""
         time = f"{self.micros // 1000000}.{self.micros % 1000000:06}"
         return self.words.choice([f"  irq/19-firewire-412   [002] .....   {time}: "] * 6 + [
-            f"swapper     0 [001]  {time[:-3]}: ", "", "x: ", f"kworker/1:2-123 [001] {time}: "])
+            f"swapper     0 [001]  {time[:-3]}: ", "", "x: ", f"kworker/1:2-123 [001] {time}: ",
+            f"kworker/1:2-123 [001] {time}789: "])
+
+    def front(self):
+        """What stands before a driver's name."""
+        micros = self.micros % 1000000
+        return self.words.choice([
+            f"[{self.micros // 1000000:5}.{micros:06}] ", f"[{self.micros // 1000000:5}.{micros:06}] ",
+            "Nov 29 10:00:00 desk kernel: ", f"4,1234,{self.micros},-;", f"17646232{self.micros // 10000000 % 100:02}.{micros:06} k: ",
+            f"2026-12-01T21:06:{self.micros // 1000000 % 60:02},{micros:06}+00:00 ", "MESSAGE=",
+            f"2026-12-01T21:06:{self.micros // 1000000 % 60:02}+0100 desk kernel: "])
 
     def quads(self, quads):
         if self.braces:
@@ -78,8 +88,7 @@ class Log:
     def driver(self, device, generation, quads):
         """The driver's list of a reset; now and then packets are missing, or other lines stand within it."""
         words = self.words
-        head = words.choice([f"[{self.micros // 1000000:5}.{self.micros % 1000000:06}] ", "Nov 29 10:00:00 desk kernel: ",
-                             f"4,1234,{self.micros},-;"]) + f"firewire_ohci {device}: "
+        head = self.front() + f"firewire_ohci {device}: "
         self.lines.append(f"{head}{len(quads)} selfIDs, generation {generation}, local node ID ffc{words.randrange(16):x}")
         for quad in quads:
             if words.random() < 0.03:
@@ -91,8 +100,7 @@ class Log:
     def other(self):
         words = self.words
         message = words.choice(MESSAGES).format(words.choice(DEVICES))
-        head = words.choice(["[  100.123456] ", "4,1234,100123456,-;", ""])
-        self.lines.append(words.choice([head + message, words.choice(OTHERS)]))
+        self.lines.append(words.choice([self.front() + message, words.choice(OTHERS)]))
 
 
 def log(words):

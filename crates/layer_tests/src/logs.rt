@@ -45,7 +45,7 @@ fn lines_by_themselves(rt: HostRuntime) -> Result<(), Fail> {
         let kind = match line_of(rt.alloc(), line)? {
             LogLine::Other => 'o',
             LogLine::Lost => 'l',
-            LogLine::Said(_) => 's',
+            LogLine::Said { .. } => 's',
             LogLine::Begins(_) => 'b',
             LogLine::Packet { .. } => 'p',
             LogLine::Garbled => 'g',

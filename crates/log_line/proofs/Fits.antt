@@ -12,11 +12,11 @@ use Rattle.line_words.proofs.Lemmas.{small_digits}
 use Rattle.log_line.specs.Number.{number_of}
 use Rattle.log_line.specs.Lists.{is_comma, before, numbers_of, between_commas, between_blanks, unclosed, within, spaced, list_in, bare}
 use Rattle.log_line.specs.Words.{behind, to_field, words_of, value_of}
-use Rattle.log_line.specs.Line.{named, is_lost, said_or, list_field, reset_of, event, of_words, line_of}
-use Rattle.log_line.specs.Said.{said, is_driver}
+use Rattle.log_line.specs.Line.{named, is_lost, said_or, by_driver, list_field, reset_of, event, of_words, line_of}
+use Rattle.log_line.specs.Said.{said_behind}
+use Rattle.log_line.specs.Driver.{driver}
 use Rattle.log_line.specs.Device.{device_of}
-use Rattle.log_line.specs.Time.{or_time, bracket_time}
-use Rattle.log_line.specs.Listing.{before_comma, digits_in, is_of_packet, is_of_reset, local_in, begins, packet, listed, listing}
+use Rattle.log_line.specs.Listing.{before_comma, digits_in, is_of_packet, is_of_reset, local_in, begins, packet, listed}
 
 -- ---- the quadlets of a list
 
@@ -111,23 +111,21 @@ listed_apart time (v ∷ a ∷ b ∷ c ∷ d ∷ words) r e =
     two_apart (is_of_packet a b) (is_of_reset b c) (packet (device_of v) (digits_in 16 8 (before_comma c))) (begins time (local_in words) (device_of v) (of_digits 10 10 a) (digits_in 10 10 (before_comma d))) r
     (packet_apart (device_of v) (digits_in 16 8 (before_comma c)) r) (begins_apart time (local_in words) (device_of v) (of_digits 10 10 a) (digits_in 10 10 (before_comma d)) r) e
 
-listing_apart : (time : Option ℕ) (words : List (List ℕ)) (r : Reset) → listing time words ≡ OfReset r → ⊥
-listing_apart time [] r e = absurd cc
-listing_apart time (w ∷ ws) r e = go (is_driver w) e (λ t f. listing_apart t ws r f)
+driver_apart : (d : Option (Option ℕ × List (List ℕ))) (r : Reset) → by_driver d ≡ OfReset r → ⊥
+driver_apart None r e = absurd cc
+driver_apart (Some d) r e = go (said_behind d.1) e
   where
-    go : (v : Bool) → (if v then listed time ws else listing (or_time (bracket_time w) time) ws) ≡ OfReset r →
-        ((t : Option ℕ) → listing t ws ≡ OfReset r → ⊥) → ⊥
-    go true e more = listed_apart time ws r e
-    go false e more = more (or_time (bracket_time w) time) e
+    go : (text : Option (List ℕ)) → said_or (listed d.0 d.1) d.0 text ≡ OfReset r → ⊥
+    go None f = listed_apart d.0 d.1 r f
+    go (Some text) f = absurd cc
 
 words_fit : (words : List (List ℕ)) (found : Option (Origin × Option ℕ × List (List ℕ))) (r : Reset) → of_words words found ≡ OfReset r →
     Fit r.list
-words_fit words None r e = neither (is_lost words) (said words) e
+words_fit words None r e = neither (is_lost words) e
   where
-    neither : (v : Bool) (text : Option (List ℕ)) → (if v then Lost else said_or (listing None words) text) ≡ OfReset r → Fit r.list
-    neither true text e = absurd cc
-    neither false None e = absurd (listing_apart None words r e)
-    neither false (Some text) e = absurd cc
+    neither : (v : Bool) → (if v then Lost else by_driver (driver None words)) ≡ OfReset r → Fit r.list
+    neither true f = absurd cc
+    neither false f = absurd (driver_apart (driver None words) r f)
 words_fit words (Some x) r e = event_fits x.0 x.1 x.2 r e
 
 pub line_fits : (line : List ℕ) (r : Reset) → line_of line ≡ OfReset r → Fit r.list
@@ -167,14 +165,13 @@ listed_fits time (v ∷ a ∷ b ∷ c ∷ d ∷ words) card quad e =
     either_packet (is_of_packet a b) (is_of_reset b c) (packet (device_of v) (digits_in 16 8 (before_comma c))) (begins time (local_in words) (device_of v) (of_digits 10 10 a) (digits_in 10 10 (before_comma d))) card quad
     (λ f. in_text_fits 16 8 (before_comma c) quad (quad_is (device_of v) (digits_in 16 8 (before_comma c)) card quad f)) (begins_none time (local_in words) (device_of v) (of_digits 10 10 a) (digits_in 10 10 (before_comma d)) card quad) e
 
-listing_fits : (time : Option ℕ) (words : List (List ℕ)) (card quad : ℕ) → listing time words ≡ Packet card quad → quad < 2 ^ 32
-listing_fits time [] card quad e = absurd cc
-listing_fits time (w ∷ ws) card quad e = go (is_driver w) e (λ t f. listing_fits t ws card quad f)
+driver_fits : (d : Option (Option ℕ × List (List ℕ))) (card quad : ℕ) → by_driver d ≡ Packet card quad → quad < 2 ^ 32
+driver_fits None card quad e = absurd cc
+driver_fits (Some d) card quad e = go (said_behind d.1) e
   where
-    go : (v : Bool) → (if v then listed time ws else listing (or_time (bracket_time w) time) ws) ≡ Packet card quad →
-        ((t : Option ℕ) → listing t ws ≡ Packet card quad → quad < 2 ^ 32) → quad < 2 ^ 32
-    go true e more = listed_fits time ws card quad e
-    go false e more = more (or_time (bracket_time w) time) e
+    go : (text : Option (List ℕ)) → said_or (listed d.0 d.1) d.0 text ≡ Packet card quad → quad < 2 ^ 32
+    go None f = listed_fits d.0 d.1 card quad f
+    go (Some text) f = absurd cc
 
 no_packet : (origin : Origin) (time n a b : Option ℕ) (c : Option Bool) (d : Option (List ℕ)) (card quad : ℕ) →
     reset_of origin time n a b c d ≡ Packet card quad → ⊥
@@ -192,12 +189,11 @@ event_apart Core time words card quad e = no_packet Core time _ _ _ _ _ card qua
 packet_fits : (words : List (List ℕ)) (found : Option (Origin × Option ℕ × List (List ℕ))) (card quad : ℕ) →
     of_words words found ≡ Packet card quad → quad < 2 ^ 32
 packet_fits words (Some x) card quad e = absurd (event_apart x.0 x.1 x.2 card quad e)
-packet_fits words None card quad e = neither (is_lost words) (said words) e
+packet_fits words None card quad e = neither (is_lost words) e
   where
-    neither : (v : Bool) (text : Option (List ℕ)) → (if v then Lost else said_or (listing None words) text) ≡ Packet card quad → quad < 2 ^ 32
-    neither true text e = absurd cc
-    neither false None e = listing_fits None words card quad e
-    neither false (Some text) e = absurd cc
+    neither : (v : Bool) → (if v then Lost else by_driver (driver None words)) ≡ Packet card quad → quad < 2 ^ 32
+    neither true f = absurd cc
+    neither false f = driver_fits (driver None words) card quad f
 
 pub line_packet_fits : (line : List ℕ) (card quad : ℕ) → line_of line ≡ Packet card quad → quad < 2 ^ 32
 unfolding line_of

@@ -12,9 +12,9 @@ use Rattle.line_words.specs.Words.{is_some_text, words_by}
 use Rattle.line_words.proofs.Lemmas.{some_text}
 use Rattle.log_line.specs.Words.{is_blank, words_of, behind}
 use Rattle.log_line.specs.declared.line.LogLine.TheVariants.{Other}
-use Rattle.log_line.specs.Time.{time_of, or_time, bracket_time}
-use Rattle.log_line.specs.Said.{is_driver, said}
-use Rattle.log_line.specs.Listing.{listing}
+use Rattle.log_line.specs.Time.{time_of, or_time, front_time}
+use Rattle.log_line.specs.Said.{is_driver}
+use Rattle.log_line.specs.Driver.{driver}
 use Rattle.log_line.specs.Line.{event_of, named, has_loss, is_lost, line_of}
 use Rattle.log_line.specs.Marks.{is_mark, has_mark, begins_loss}
 
@@ -137,6 +137,8 @@ no_driver word h =
       not_named word (codes "firewire_ohci") refl h,
       not_named _ (codes ";firewire_core") refl end,
       not_named _ (codes ";firewire_ohci") refl end,
+      not_named word (codes "MESSAGE=firewire_core") refl h,
+      not_named word (codes "MESSAGE=firewire_ohci") refl h,
     ) refl
 
 no_name : (time : Option ℕ) (words : List (List ℕ)) → All Unmarked words → named time words ≡ None
@@ -144,15 +146,10 @@ no_name time [] h = refl
 no_name time (word ∷ words) h =
     rw (no_event word (All-head Unmarked word words h), named) (no_name (or_time (time_of word) time) words (All-tail Unmarked word words h))
 
-not_said : (words : List (List ℕ)) → All Unmarked words → said words ≡ None
-not_said [] h = refl
-not_said (word ∷ words) h =
-    rw (no_driver word (All-head Unmarked word words h)) (not_said words (All-tail Unmarked word words h))
-
-not_listed : (time : Option ℕ) (words : List (List ℕ)) → All Unmarked words → listing time words ≡ Other
-not_listed time [] h = refl
-not_listed time (word ∷ words) h =
-    rw (no_driver word (All-head Unmarked word words h)) (not_listed (or_time (bracket_time word) time) words (All-tail Unmarked word words h))
+none_driven : (time : Option ℕ) (words : List (List ℕ)) → All Unmarked words → driver time words ≡ None
+none_driven time [] h = refl
+none_driven time (word ∷ words) h =
+    rw (no_driver word (All-head Unmarked word words h)) (none_driven (or_time (front_time word) time) words (All-tail Unmarked word words h))
 
 -- ---- no lost events
 
@@ -199,8 +196,7 @@ passed_over line unmarked unlost =
     rw (
       no_name None (words_of (take 65536 line)) words,
       not_lost (take 65536 line) unlost,
-      not_listed None (words_of (take 65536 line)) words,
-      not_said (words_of (take 65536 line)) words,
+      none_driven None (words_of (take 65536 line)) words,
     ) refl
 
 pub nothing_shown : (line : List ℕ) → length line ≤ 65536 → has_mark line ≡ false →

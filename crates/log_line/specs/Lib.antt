@@ -8,3 +8,4 @@ pub mod Local
 pub mod Listing
 pub mod Line
 pub mod Marks
+pub mod Driver

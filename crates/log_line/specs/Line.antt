@@ -5,13 +5,14 @@ use Rattle.log_line.specs.Number.{number_of}
 use Rattle.log_line.specs.Words.{words_of, value_of, behind}
 use Rattle.log_line.specs.Time.{time_of, or_time}
 use Rattle.log_line.specs.Local.{local_of}
-use Rattle.log_line.specs.Listing.{listing}
-use Rattle.log_line.specs.Said.{said}
+use Rattle.log_line.specs.Driver.{driver}
+use Rattle.log_line.specs.Listing.{listed}
+use Rattle.log_line.specs.Said.{said_behind}
 use Rattle.log_line.specs.Lists.{list_of}
 use Rattle.log_line.specs.declared.line.Origin.{Origin}
 use Rattle.log_line.specs.declared.line.Origin.TheVariants.{Controller, Core}
 use Rattle.log_line.specs.declared.line.LogLine.{LogLine}
-use Rattle.log_line.specs.declared.line.LogLine.TheVariants.{Lost, Said, Garbled, OfReset}
+use Rattle.log_line.specs.declared.line.LogLine.TheVariants.{Other, Lost, Said, Garbled, OfReset}
 
 -- the event that a word names, alone or behind its system's name
 abbrev pub event_of : List ℕ → Option Origin
@@ -93,13 +94,22 @@ event Core time words =
     (number_field (value_of (codes "generation=") words)) (Some false)
     (list_field (value_of (codes "self_ids=") words))
 
-abbrev pub said_or : LogLine → Option (List ℕ) → LogLine
-said_or line None = line
-said_or line (Some text) = Said text
+-- ---- the lines of a driver
+
+abbrev pub said_or : LogLine → Option ℕ → Option (List ℕ) → LogLine
+said_or line time None = line
+said_or line time (Some text) = Said time text
+
+-- by the time of a line, and the words behind its driver's name
+abbrev pub by_driver : Option (Option ℕ × List (List ℕ)) → LogLine
+by_driver None = Other
+by_driver (Some d) = said_or (listed d.0 d.1) d.0 (said_behind d.1)
+
+-- ---- all of them
 
 -- a line of words, and the event that is named among them
 abbrev pub of_words : List (List ℕ) → Option (Origin × Option ℕ × List (List ℕ)) → LogLine
-of_words words None = if is_lost words then Lost else said_or (listing None words) (said words)
+of_words words None = if is_lost words then Lost else by_driver (driver None words)
 of_words words (Some e) = event e.0 e.1 e.2
 
 -- what a line is, by its first 65,536 bytes

@@ -5,10 +5,8 @@ use Rattle.std.specs.Str.{bytes_eq}
 use Rattle.log_line.specs.declared.line.LogLine.{LogLine}
 use Rattle.log_line.specs.declared.line.LogLine.TheVariants.{Other, Begins, Packet}
 use Rattle.line_words.specs.Digits.{of_digits}
-use Rattle.log_line.specs.Time.{or_time, bracket_time}
 use Rattle.log_line.specs.Device.{device_of}
 use Rattle.log_line.specs.Local.{local_of}
-use Rattle.log_line.specs.Said.{is_driver}
 
 -- what stands before a last comma
 abbrev pub before_comma : List ℕ → Option (List ℕ)
@@ -53,9 +51,3 @@ listed time (device ∷ a ∷ b ∷ c ∷ d ∷ words) =
     begins time (local_in words) (device_of device) (of_digits 10 10 a) (digits_in 10 10 (before_comma d))
     else Other)
 listed time _ = Other
-
--- of the first driver that is named; the time is the last one before
-abbrev pub listing : Option ℕ → List (List ℕ) → LogLine
-listing time [] = Other
-listing time (word ∷ words) =
-    if is_driver word then listed time words else listing (or_time (bracket_time word) time) words

@@ -3,12 +3,17 @@ use Rattle.std.specs.Prelude.{ℕ, ◌-◌, ◌&&◌, ◌||◌, Bool, List, [], 
 use Rattle.std.specs.Str.{bytes_eq}
 use Rattle.log_line.specs.Lists.{spaced}
 
--- a driver's name, alone or behind what /dev/kmsg has before it
+-- a driver's name behind what /dev/kmsg has before it
+abbrev pub is_record : List ℕ → Bool
+is_record word =
+    bytes_eq (drop (length word - 14) word) (codes ";firewire_core")
+    || bytes_eq (drop (length word - 14) word) (codes ";firewire_ohci")
+
+-- a driver's name: alone, behind what /dev/kmsg has before it, or behind the name of a journal's field
 abbrev pub is_driver : List ℕ → Bool
 is_driver word =
-    bytes_eq word (codes "firewire_core") || bytes_eq word (codes "firewire_ohci")
-    || bytes_eq (drop (length word - 14) word) (codes ";firewire_core")
-    || bytes_eq (drop (length word - 14) word) (codes ";firewire_ohci")
+    bytes_eq word (codes "firewire_core") || bytes_eq word (codes "firewire_ohci") || is_record word
+    || bytes_eq word (codes "MESSAGE=firewire_core") || bytes_eq word (codes "MESSAGE=firewire_ohci")
 
 abbrev pub are_words : List ℕ → List ℕ → List ℕ → List ℕ → Bool
 are_words a b first second = bytes_eq a first && bytes_eq b second
@@ -35,8 +40,3 @@ abbrev pub said_behind : List (List ℕ) → Option (List ℕ)
 said_behind (device ∷ a ∷ b ∷ words) =
     if is_of_topology a b || is_of_packets a b then Some (spaced device (a ∷ b ∷ words)) else None
 said_behind _ = None
-
--- of the first driver that is named
-abbrev pub said : List (List ℕ) → Option (List ℕ)
-said [] = None
-said (word ∷ words) = if is_driver word then said_behind words else said words

@@ -7,6 +7,7 @@
 #![tactic(auto)]
 
 mod device;
+mod driver;
 mod line;
 mod list;
 mod listing;

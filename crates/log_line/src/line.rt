@@ -1,15 +1,17 @@
 //! What a line of the log is, by itself.
 ghost use Rattle.std.specs.Prelude.{◌≡◌, Some, None, take, IfOk, MatchOption};
 ghost use Rattle.log_line.specs.Words.{words_of, value_of};
-ghost use Rattle.log_line.specs.Line.{event_of, named, is_loss, has_loss, is_lost, number_field, list_field, truth_of, truth_field, reset_of, event, of_words, line_of};
+ghost use Rattle.log_line.specs.Line.{event_of, named, is_loss, has_loss, is_lost, number_field, list_field, truth_of, truth_field, reset_of, event, by_driver, of_words, line_of};
+ghost use Rattle.log_line.specs.Driver.{driver};
 ghost use Rattle.log_line.specs.declared.line.Origin.{Origin};
 
+use crate::driver::driver;
 use crate::list::list_of;
-use crate::listing::listing;
+use crate::listing::listed;
 use crate::local::local_of;
 use crate::marks::may_be_shown;
 use crate::number::number_of;
-use crate::said::{LogText, said};
+use crate::said::{LogText, said_behind};
 use crate::time::time_of;
 use crate::word::Word;
 use crate::words::{value_of, words_of};
@@ -64,8 +66,8 @@ pub enum LogLine {
     Other,
     /// Events were lost here.
     Lost,
-    /// The kernel says this.
-    Said(LogText),
+    /// The kernel says this; the time is in microseconds, where the line says it.
+    Said { time: Option<u64>, text: LogText },
     /// The driver begins to list the packets of a reset.
     Begins(Begun),
     /// The driver lists a packet.
@@ -245,6 +247,19 @@ pub fn front(line: &[u8], most: usize) -> &[u8]
     }
 }
 
+/// What a line is by the first driver that its words name.
+fn of_driver(alloc: Global, words: &[Word]) -> Result<LogLine, AllocError>
+    ensures { IfOk result (λ line. line ≡ by_driver (driver None words.now)) }
+{
+    let Some((time, behind)) = driver(words) else {
+        return Ok(LogLine::Other);
+    };
+    match said_behind(alloc, behind)? {
+        Some(text) => Ok(LogLine::Said { time, text }),
+        None => Ok(listed(time, behind)),
+    }
+}
+
 /// What a line of the log is, by its first 65,536 bytes. What stands before the event's name, and
 /// other fields of it, may be anything.
 #[tactic(auto, unfolding(crate::specs::Line::line_of))]
@@ -259,9 +274,6 @@ pub fn line_of(alloc: Global, line: &[u8]) -> Result<LogLine, AllocError>
     match named(&words) {
         Some((origin, time, behind)) => event(alloc, origin, time, behind),
         None if is_lost(&words) => Ok(LogLine::Lost),
-        None => match said(alloc, &words)? {
-            Some(text) => Ok(LogLine::Said(text)),
-            None => Ok(listing(&words)),
-        },
+        None => of_driver(alloc, &words),
     }
 }

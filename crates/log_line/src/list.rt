@@ -11,7 +11,7 @@ use quad_lanes::QuadList;
 use std::alloc::{AllocError, Global};
 
 /// The place of the first comma of a text.
-fn first_comma(text: &[u8]) -> Option<usize>
+pub(crate) fn first_comma(text: &[u8]) -> Option<usize>
     ensures value { result ≡ position is_comma text.now }
     ensures within { IfSome result (λ place. place < length text.now) }
 {

@@ -1,13 +1,11 @@
 //! The resets that the OHCI driver lists in its own log.
 ghost use Rattle.std.specs.Prelude.{◌≡◌, ◌≤◌, None};
 ghost use Rattle.std.specs.Option.{option_copied};
-ghost use Rattle.log_line.specs.Listing.{before_comma, digits_in, is_of_local, local_in, begins, packet, listed, listing};
+ghost use Rattle.log_line.specs.Listing.{before_comma, digits_in, is_of_local, local_in, begins, packet, listed};
 
 use crate::device::device_of;
 use crate::line::{Begun, LogLine};
 use crate::local::local_of;
-use crate::said::is_driver;
-use crate::time::bracket_time;
 use crate::word::Word;
 use line_words::of_digits;
 
@@ -80,7 +78,7 @@ fn packet(card: Option<u64>, quad: Option<u32>) -> LogLine
 }
 
 /// What the words behind the driver's name are.
-fn listed(time: Option<u64>, words: &[Word]) -> LogLine
+pub(crate) fn listed(time: Option<u64>, words: &[Word]) -> LogLine
     ensures { result ≡ listed time words.now }
 {
     let [device, a, b, c, d, behind @ ..] = words else {
@@ -93,24 +91,6 @@ fn listed(time: Option<u64>, words: &[Word]) -> LogLine
         let card = device_of(device);
         let count = of_digits(a.as_bytes(), 10, 10);
         return begins(time, local_in(behind), card, count, digits_in(d, 10, 10));
-    }
-    LogLine::Other
-}
-
-/// What a line is by the first driver that its words name.
-pub(crate) fn listing(words: &[Word]) -> LogLine
-    ensures { result ≡ listing None words.now }
-{
-    let mut time = None;
-    let mut rest = words;
-    while let [word, behind @ ..] = rest {
-        if is_driver(word) {
-            return listed(time, behind);
-        }
-        if let Some(found) = bracket_time(word) {
-            time = Some(found);
-        }
-        rest = behind;
     }
     LogLine::Other
 }

@@ -1,7 +1,7 @@
 //! What the kernel's FireWire drivers say of a reset themselves.
 ghost use Rattle.std.specs.Prelude.{◌≡◌, ◌∷◌, IfOk, MatchOption, None, Some};
 ghost use Rattle.log_line.specs.Lists.{spaced};
-ghost use Rattle.log_line.specs.Said.{is_driver, are_words, is_of_topology, is_of_packets, said_behind, said};
+ghost use Rattle.log_line.specs.Said.{is_driver, is_record, are_words, is_of_topology, is_of_packets, said_behind};
 
 use crate::word::Word;
 use std::alloc::{AllocError, Global};
@@ -36,14 +36,23 @@ impl LogText {
     }
 }
 
-/// Whether a word is a driver's name, alone or behind what /dev/kmsg has before it.
+/// Whether a word is a driver's name behind what /dev/kmsg has before it.
+pub(crate) fn is_record(word: &Word) -> bool
+    ensures { result ≡ is_record word.now }
+{
+    word.ends(b";firewire_core") || word.ends(b";firewire_ohci")
+}
+
+/// Whether a word is a driver's name: alone, behind what /dev/kmsg has before it, or behind the name of
+/// a journal's field.
 pub(crate) fn is_driver(word: &Word) -> bool
     ensures { result ≡ is_driver word.now }
 {
     word.is(b"firewire_core")
         || word.is(b"firewire_ohci")
-        || word.ends(b";firewire_core")
-        || word.ends(b";firewire_ohci")
+        || is_record(word)
+        || word.is(b"MESSAGE=firewire_core")
+        || word.is(b"MESSAGE=firewire_ohci")
 }
 
 fn are_words(a: &Word, b: &Word, first: &[u8], second: &[u8]) -> bool
@@ -88,7 +97,7 @@ fn joined(alloc: Global, first: &Word, words: &[Word]) -> Result<LogText, AllocE
 }
 
 /// What is said behind a driver's name.
-fn said_behind(alloc: Global, words: &[Word]) -> Result<Option<LogText>, AllocError>
+pub(crate) fn said_behind(alloc: Global, words: &[Word]) -> Result<Option<LogText>, AllocError>
     ensures { IfOk result (λ text. text ≡ said_behind words.now) }
 {
     let [device, rest @ ..] = words else {
@@ -100,20 +109,6 @@ fn said_behind(alloc: Global, words: &[Word]) -> Result<Option<LogText>, AllocEr
     if is_of_topology(a, b) || is_of_packets(a, b) {
         let text = joined(alloc, device, rest)?;
         return Ok(Some(text));
-    }
-    Ok(None)
-}
-
-/// What the first driver that is named among words says of a reset.
-pub(crate) fn said(alloc: Global, words: &[Word]) -> Result<Option<LogText>, AllocError>
-    ensures { IfOk result (λ text. text ≡ said words.now) }
-{
-    let mut rest = words;
-    while let [word, behind @ ..] = rest {
-        if is_driver(word) {
-            return said_behind(alloc, behind);
-        }
-        rest = behind;
     }
     Ok(None)
 }

@@ -89,7 +89,7 @@ same_shown : (form : LogForm) (n : ℕ) (ks : Noted) (line : LogLine) (a b : Lis
     IsLogLineShown form n ks line a c p → IsLogLineShown form n ks line b d q → AreSame a b c d p q
 same_shown form n ks Other a b c d p q x y = (x.0 ∙ sym y.0, x.1 ∙ sym y.1, x.2 ∙ sym y.2)
 same_shown form n ks Lost a b c d p q x y = (x.0 ∙ sym y.0, x.1 ∙ sym y.1, x.2 ∙ sym y.2)
-same_shown form n ks (Said words) a b c d p q x y = (x.0 ∙ sym y.0, x.1 ∙ sym y.1, x.2 ∙ sym y.2)
+same_shown form n ks (Said time words) a b c d p q x y = (x.0 ∙ sym y.0, x.1 ∙ sym y.1, x.2 ∙ sym y.2)
 same_shown form n ks (Begins begun) a b c d p q x y = same_begun form n ks begun a b c d p q x y
 same_shown form n ks (Packet card quad) a b c d p q x y = same_packet form (waits_of card ks) quad (ended card ks) a b c d p q x y
 same_shown form n ks Garbled a b c d p q x y = (x.0 ∙ sym y.0, x.1 ∙ sym y.1, x.2 ∙ sym y.2)

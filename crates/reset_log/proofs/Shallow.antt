@@ -27,7 +27,7 @@ card_shallow card = go (nat_lt card 4294967296)
 pub name_shallow : (n : ℕ) (r : Reset) (rest : Members) → members_depth (name_members n r rest) ≤ members_depth rest
 name_shallow n r rest = omega (arith, card_shallow r.card)
 
-known_shallow : (name : List ℕ) (value : Option ℕ) (rest : Members) →
+pub known_shallow : (name : List ℕ) (value : Option ℕ) (rest : Members) →
     members_depth (known_member name value rest) ≤ members_depth rest
 known_shallow name None rest = omega arith
 known_shallow name (Some n) rest = omega arith

@@ -144,7 +144,7 @@ some_shown : (form : LogForm) (n : ℕ) (ks : Noted) (line : LogLine) →
     ((card quad : ℕ) → line ≡ Packet card quad → quad < 2 ^ 32) → IsFine ks → SomeStep (IsLogLineShown form n ks line)
 some_shown form n ks Other f g fine = ([], false, ks, (refl, refl, refl), fine)
 some_shown form n ks Lost f g fine = (lost_text form n, false, behind_loss ks, (refl, refl, refl), fine)
-some_shown form n ks (Said words) f g fine = (told_text form n words, false, ks, (refl, refl, refl), fine)
+some_shown form n ks (Said time words) f g fine = (told_text form n time words, false, ks, (refl, refl, refl), fine)
 some_shown form n ks (Begins begun) f g fine = some_begun form n ks begun fine
 some_shown form n ks (Packet card quad) f g fine =
     some_packet form (waits_of card ks) quad (ended card ks) (fine_found (is_at (nat_cmp card)) ks.pending fine) (g card quad refl) (fine_ended card ks fine)

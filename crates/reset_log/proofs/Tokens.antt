@@ -17,7 +17,7 @@ name_written n r rest =
     ap (λ (ts : List Token). key (codes "line") ∷ number (decimal n) ∷ key (codes "card") ∷ ts)
     (sym (append_assoc (json_tokens (card_value r.card)) (key (codes "generation") ∷ number (decimal r.generation) ∷ []) (members_tokens rest)))
 
-known_written : (name : List ℕ) (value : Option ℕ) (rest : Members) →
+pub known_written : (name : List ℕ) (value : Option ℕ) (rest : Members) →
     members_tokens (known_member name value rest) ≡ known_tokens name value ++ members_tokens rest
 known_written name None rest = refl
 known_written name (Some n) rest = refl

@@ -1,16 +1,22 @@
 -- The texts of a card: its number, or the name of its device, `0000:05:00.0`.
 use Rattle.std.specs.Prelude.{ℕ, ◌+◌, ◌-◌, ◌/◌, ◌%◌, nat_lt, List, [], ◌∷◌, ◌++◌, if◌then◌else◌}
+use Rattle.topology_stack.specs.Hex.{hex}
 use Rattle.view_text.specs.Packet.{field}
 
-abbrev pub hex_digit : ℕ → ℕ
-hex_digit n = if nat_lt (n % 16) 10 then 48 + n % 16 else 87 + n % 16
+-- with how many digits a domain is written: 4 at least
+abbrev pub domain_digits : ℕ → ℕ
+domain_digits n =
+    if nat_lt n 65536 then 4
+    else (if nat_lt n 1048576 then 5
+    else (if nat_lt n 16777216 then 6
+    else (if nat_lt n 268435456 then 7 else 8)))
 
+-- domain, bus, slot and function of a device
 unfoldable pub device_text : ℕ → List ℕ
 device_text n =
-    hex_digit (n / 268435456 / 256) ∷ hex_digit (n / 268435456 / 16) ∷ hex_digit (n / 268435456)
-    ∷ hex_digit (n / 16777216) ∷ 58
-    ∷ hex_digit (n / 1048576) ∷ hex_digit (n / 65536) ∷ 58
-    ∷ hex_digit (n / 4096) ∷ hex_digit (n / 256) ∷ 46 ∷ hex_digit n ∷ []
+    let domain = n / 16777216 % 4294967296 in
+    hex (domain_digits domain) domain
+    ++ 58 ∷ (hex 2 (n / 65536 % 256) ++ 58 ∷ (hex 2 (n / 256 % 256) ++ 46 ∷ hex 1 (n % 256)))
 
 -- a card behind a word
 abbrev pub card_field : List ℕ → ℕ → List ℕ

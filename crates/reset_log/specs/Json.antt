@@ -81,10 +81,12 @@ lost_value number = line_value number (member (codes "lost") (boolean true) no_m
 abbrev pub ascii : ℕ → ℕ
 ascii b = if nat_lt b 128 then b else 63
 
--- what the kernel says
-abbrev pub told_value : ℕ → List ℕ → Json
-told_value number words =
-    line_value number (member (codes "kernel") (string (map ascii words)) no_members)
+-- what the kernel says, and when
+abbrev pub told_value : ℕ → Option ℕ → List ℕ → Json
+told_value number time words =
+    line_value number
+    (known_member (codes "time") time
+    (member (codes "kernel") (string (map ascii words)) no_members))
 
 -- ---- the end of a log
 

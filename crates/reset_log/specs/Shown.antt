@@ -42,9 +42,9 @@ abbrev pub lost_text : LogForm → ℕ → List ℕ
 lost_text (Text standard) number = lost number
 lost_text (Json standard) number = json_line (lost_value number)
 
-abbrev pub told_text : LogForm → ℕ → List ℕ → List ℕ
-told_text (Text standard) number words = told number words
-told_text (Json standard) number words = json_line (told_value number words)
+abbrev pub told_text : LogForm → ℕ → Option ℕ → List ℕ → List ℕ
+told_text (Text standard) number time words = told number time words
+told_text (Json standard) number time words = json_line (told_value number time words)
 
 abbrev pub totals_text : LogForm → Noted → List ℕ
 totals_text (Text standard) n = totals n
@@ -108,8 +108,8 @@ abbrev pub IsLogLineShown : LogForm → ℕ → Noted → LogLine → List ℕ �
 IsLogLineShown form number n Other text bad next = (text ≡ []) × (bad ≡ false) × (next ≡ n)
 IsLogLineShown form number n Lost text bad next =
     (text ≡ lost_text form number) × (bad ≡ false) × (next ≡ behind_loss n)
-IsLogLineShown form number n (Said words) text bad next =
-    (text ≡ told_text form number words) × (bad ≡ false) × (next ≡ n)
+IsLogLineShown form number n (Said time words) text bad next =
+    (text ≡ told_text form number time words) × (bad ≡ false) × (next ≡ n)
 IsLogLineShown form number n Garbled text bad next =
     (text ≡ garbled_text form number) × (bad ≡ true) × (next ≡ n)
 IsLogLineShown form number n (Begins b) text bad next =

@@ -17,10 +17,6 @@ garbled number = field (codes "line ") number ++ codes " garbled\n"
 unfoldable pub lost : ℕ → List ℕ
 lost number = field (codes "line ") number ++ codes " events are lost\n"
 
--- `line N`, and what the kernel says there
-unfoldable pub told : ℕ → List ℕ → List ℕ
-told number words = field (codes "line ") number ++ (codes " " ++ (words ++ codes "\n"))
-
 abbrev pub digit : ℕ → ℕ
 digit n = 48 + n % 10
 
@@ -34,6 +30,12 @@ seconds word micros =
 abbrev pub if_known : List ℕ → Option ℕ → List ℕ
 if_known word None = []
 if_known word (Some micros) = seconds word micros
+
+-- `line N`, where it is known ` time T`, and what the kernel says there
+unfoldable pub told : ℕ → Option ℕ → List ℕ → List ℕ
+told number time words =
+    field (codes "line ") number
+    ++ (if_known (codes " time ") time ++ (codes " " ++ (words ++ codes "\n")))
 
 abbrev pub if_missing : ℕ → List ℕ
 if_missing count = if count == 0 then [] else field (codes " missing ") count

@@ -1,20 +1,23 @@
 //! The texts of a card: its number, or the name of its device.
-ghost use Rattle.std.specs.Prelude.{◌≡◌, ◌-◌, ◌++◌, OnOk};
-ghost use Rattle.reset_log.specs.Device.{hex_digit, device_text, card_field};
+ghost use Rattle.std.specs.Prelude.{◌≡◌, ◌≤◌, ◌-◌, ◌++◌, OnOk};
+ghost use Rattle.reset_log.specs.Device.{domain_digits, device_text, card_field};
 
 use log_line::DEVICES;
 use std::alloc::AllocError;
+use topology_stack::put_hex;
 use view_text::put_field;
 
-/// The last hexadecimal digit of a number.
-fn hex_digit(number: u64) -> u8
-    ensures { result ≡ hex_digit number }
+/// With how many digits a domain is written.
+fn domain_digits(domain: u32) -> u32
+    ensures value { result ≡ domain_digits domain }
+    ensures few { result ≤ 8 }
 {
-    let digit = (number % 16) as u8;
-    if digit < 10 {
-        b'0' + digit
-    } else {
-        b'a' - 10 + digit
+    match domain {
+        0..0x1_0000 => 4,
+        0x1_0000..0x10_0000 => 5,
+        0x10_0000..0x100_0000 => 6,
+        0x100_0000..0x1000_0000 => 7,
+        _ => 8,
     }
 }
 
@@ -23,22 +26,14 @@ fn hex_digit(number: u64) -> u8
 pub(crate) fn put_device(out: &mut Vec<u8>, device: u64) -> Result<(), AllocError>
     ensures { OnOk result (out.new.items ≡ out.old.items ++ device_text device) }
 {
-    let domain = device / 268_435_456;
-    let name = [
-        hex_digit(domain / 256),
-        hex_digit(domain / 16),
-        hex_digit(domain),
-        hex_digit(device / 16_777_216),
-        b':',
-        hex_digit(device / 1_048_576),
-        hex_digit(device / 65_536),
-        b':',
-        hex_digit(device / 4_096),
-        hex_digit(device / 256),
-        b'.',
-        hex_digit(device),
-    ];
-    out.extend_from_slice(&name)?;
+    let domain = (device / 16_777_216 % 4_294_967_296) as u32;
+    put_hex(out, domain_digits(domain), domain)?;
+    out.push(b':')?;
+    put_hex(out, 2, (device / 65_536 % 256) as u32)?;
+    out.push(b':')?;
+    put_hex(out, 2, (device / 256 % 256) as u32)?;
+    out.push(b'.')?;
+    put_hex(out, 1, (device % 256) as u32)?;
     Ok(())
 }
 

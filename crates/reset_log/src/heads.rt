@@ -33,12 +33,18 @@ pub(crate) fn put_lost(out: &mut Vec<u8>, number: u64) -> Result<(), AllocError>
     Ok(())
 }
 
-/// Appends what the kernel says.
+/// Appends what the kernel says, and when, where that is known.
 #[tactic(auto, unfolding(crate::specs::Texts::told))]
-pub(crate) fn put_told(out: &mut Vec<u8>, number: u64, words: &[u8]) -> Result<(), AllocError>
-    ensures { OnOk result (out.new.items ≡ out.old.items ++ told number words.now) }
+pub(crate) fn put_told(
+    out: &mut Vec<u8>,
+    number: u64,
+    time: Option<u64>,
+    words: &[u8],
+) -> Result<(), AllocError>
+    ensures { OnOk result (out.new.items ≡ out.old.items ++ told number time words.now) }
 {
     put_field(out, b"line ", number)?;
+    put_if_known(out, b" time ", time)?;
     out.extend_from_slice(b" ")?;
     out.extend_from_slice(words)?;
     out.extend_from_slice(b"\n")?;

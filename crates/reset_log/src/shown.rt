@@ -126,18 +126,24 @@ fn lost_text(alloc: Global, form: LogForm, number: u64) -> Result<Vec<u8>, Alloc
     }
 }
 
-/// What is shown in a form of what the kernel says.
-fn told_text(alloc: Global, form: LogForm, number: u64, words: &[u8]) -> Result<Vec<u8>, AllocError>
-    ensures text { IfOk result (λ text. text.items ≡ told_text form number words.now) }
+/// What is shown in a form of what the kernel says, and when.
+fn told_text(
+    alloc: Global,
+    form: LogForm,
+    number: u64,
+    time: Option<u64>,
+    words: &[u8],
+) -> Result<Vec<u8>, AllocError>
+    ensures text { IfOk result (λ text. text.items ≡ told_text form number time words.now) }
     ensures json { IfOk result (λ text. IfJson form (AreJsonLines text.items)) }
 {
     match form {
         LogForm::Text(_) => {
             let mut text = Vec::new(alloc);
-            put_told(&mut text, number, words)?;
+            put_told(&mut text, number, time, words)?;
             Ok(text)
         }
-        LogForm::Json(_) => told_line(alloc, number, words),
+        LogForm::Json(_) => told_line(alloc, number, time, words),
     }
 }
 
@@ -322,8 +328,8 @@ pub(crate) fn show_line(
             notes.forget();
             Ok(Shown { text, bad: false })
         }
-        LogLine::Said(words) => {
-            let text = told_text(alloc, form, number, words.as_slice())?;
+        LogLine::Said { time, text } => {
+            let text = told_text(alloc, form, number, time, text.as_slice())?;
             Ok(Shown { text, bad: false })
         }
         LogLine::Begins(begun) => show_begun(alloc, form, notes, number, begun),

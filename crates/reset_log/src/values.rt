@@ -215,14 +215,20 @@ pub(crate) fn lost_line(alloc: Global, number: u64) -> Result<Vec<u8>, AllocErro
     Ok(line)
 }
 
-/// The line of what the kernel says.
-pub(crate) fn told_line(alloc: Global, number: u64, words: &[u8]) -> Result<Vec<u8>, AllocError>
-    ensures line { IfOk result (λ line. line.items ≡ json_line (told_value number words.now)) }
+/// The line of what the kernel says, and when.
+pub(crate) fn told_line(
+    alloc: Global,
+    number: u64,
+    time: Option<u64>,
+    words: &[u8],
+) -> Result<Vec<u8>, AllocError>
+    ensures line { IfOk result (λ line. line.items ≡ json_line (told_value number time words.now)) }
     ensures json { IfOk result (λ line. IsJsonLine line.items) }
 {
     let mut out = JsonText::new(alloc);
     out.open_schema()?;
     out.number_member("line", number)?;
+    put_micros(&mut out, "time", time)?;
     out.key("kernel")?;
     put_ascii(alloc, &mut out, words)?;
     out.close_object()?;
