@@ -61,20 +61,32 @@ def tell(old, new, now, by_new=False):
     for node in both:
         for key in VALUES:
             if old[node][key] != new[now[node]][key]:
-                lines.append(f"node {node} now {now[node]} {key} {old[node][key]} now {new[now[node]][key]}")
+                lines.append(f"{pair(node, now[node])} {key} {old[node][key]} now {new[now[node]][key]}")
     roots = len(old) - 1, len(new) - 1
     managers = manager_of(old), manager_of(new)
     for word, (one, other) in (("root", roots), ("irm", managers)):
         if (one is None) != (other is None) or one is not None and now.get(one) != other:
-            lines.append(f"{word} old {'none' if one is None else one} new {'none' if other is None else other}")
+            lines.append(another(word, one, other))
     return "".join(line + "\n" for line in lines)
+
+
+def pair(old, new):
+    """A node by its IDs in the old bus and the new one; the second is left out if it is the same."""
+    return f"node {old}" if old == new else f"node {old} now {new}"
+
+
+def another(word, old, new):
+    """That another node is the root or the manager."""
+    if old == new:
+        return f"{word} is another node, again {old}"
+    return f"{word} old {'none' if old is None else old} new {'none' if new is None else new}"
 
 
 def moved(node, there, before, after, old, new, now, was):
     """The line on the cable to a node's parent, if it is another."""
     gone = before is not None and not is_in(before, new, now)
     fresh = after is not None and not is_in(after, old, was)
-    start = f"node {node} now {there}"
+    start = pair(node, there)
     if gone and fresh:
         return [f"{start} moved from {place(before)} to {place(after)}"]
     if gone:
@@ -97,11 +109,11 @@ def change_line(change):
     if kind == "moved":
         word = "moved from" if change["to"] and change["from"] else "left" if change["from"] else "joined"
         both = change["from"] and change["to"]
-        return f"node {old} now {new}" + hangs(word, change["from"] or change["to"]) + (hangs("to", change["to"]) if both else "")
+        return pair(old, new) + hangs(word, change["from"] or change["to"]) + (hangs("to", change["to"]) if both else "")
     if kind in VALUES:
-        return f"node {old} now {new} {kind} {int(change['from'])} now {int(change['to'])}"
+        return f"{pair(old, new)} {kind} {int(change['from'])} now {int(change['to'])}"
     word = {"root": "root", "manager": "irm"}[kind]
-    return f"{word} old {'none' if old is None else old} new {'none' if new is None else new}"
+    return another(word, old, new)
 
 
 def refused_line(capture):
@@ -149,8 +161,9 @@ def check(old, new, text):
     """Whether some choice of nodes that are one in both buses has these lines."""
     went = {int(node) for node in re.findall(r"^node (\d+) went", text, re.M)}
     came = {int(node) for node in re.findall(r"^node (\d+) came", text, re.M)}
-    known = {int(node): int(there) for node, there in re.findall(r"^node (\d+) now (\d+) ", text, re.M)}
-    gone = {int(node) for node in re.findall(r"^node (\d+) now \d+ (?:moved|left)", text, re.M)} | went
+    stays = r"^node (\d+)(?: now (\d+))? (?:moved|left|joined|" + "|".join(VALUES) + ")"
+    known = {int(node): int(there or node) for node, there in re.findall(stays, text, re.M)}
+    gone = {int(node) for node in re.findall(r"^node (\d+)(?: now \d+)? (?:moved|left)", text, re.M)} | went
     root = len(old) - 1
     if "\nroot " not in "\n" + text:
         known[root] = len(new) - 1

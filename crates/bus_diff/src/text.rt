@@ -1,7 +1,7 @@
 //! The changes as text.
 ghost use Rattle.std.specs.Prelude.{◌≡◌, ◌++◌, codes, IfOk, OnOk};
 ghost use Rattle.view_text.specs.Packet.{field};
-ghost use Rattle.bus_diff.specs.Text.{place, place_or, pair_words, move_words, quality_word, value_words, manager_word, change_words, change_line, changes_text};
+ghost use Rattle.bus_diff.specs.Text.{place, place_or, pair_words, move_words, quality_word, value_words, manager_word, is_same, root_words, irm_words, change_words, change_line, changes_text};
 
 use crate::change::{Change, Quality};
 use crate::pair::Pair;
@@ -42,7 +42,9 @@ fn put_pair(out: &mut Vec<u8>, pair: Pair) -> Result<(), OutOfMemory>
     ensures { OnOk result (out.new.items ≡ out.old.items ++ pair_words pair) }
 {
     put_field(out, b"node ", u64::from(pair.old))?;
-    put_field(out, b" now ", u64::from(pair.new))?;
+    if pair.old != pair.new {
+        put_field(out, b" now ", u64::from(pair.new))?;
+    }
     Ok(())
 }
 
@@ -99,6 +101,42 @@ fn put_manager(out: &mut Vec<u8>, word: &[u8], manager: Option<u8>) -> Result<()
     Ok(())
 }
 
+/// Appends that another node is the root.
+#[tactic(auto, unfolding(crate::specs::Text::root_words))]
+fn put_root(out: &mut Vec<u8>, from: u8, to: u8) -> Result<(), OutOfMemory>
+    ensures { OnOk result (out.new.items ≡ out.old.items ++ root_words from to) }
+{
+    if from == to {
+        return put_field(out, b"root is another node, again ", u64::from(from));
+    }
+    put_field(out, b"root old ", u64::from(from))?;
+    put_field(out, b" new ", u64::from(to))?;
+    Ok(())
+}
+
+/// Whether both are one ID.
+fn is_same(from: Option<u8>, to: Option<u8>) -> bool
+    ensures { result ≡ is_same from to }
+{
+    match (from, to) {
+        (Some(from), Some(to)) => from == to,
+        _ => false,
+    }
+}
+
+/// Appends that another node is the isochronous resource manager.
+#[tactic(auto, unfolding(crate::specs::Text::irm_words))]
+fn put_irm(out: &mut Vec<u8>, from: Option<u8>, to: Option<u8>) -> Result<(), OutOfMemory>
+    ensures { OnOk result (out.new.items ≡ out.old.items ++ irm_words from to) }
+{
+    if is_same(from, to) {
+        return put_manager(out, b"irm is another node, again ", from);
+    }
+    put_manager(out, b"irm old ", from)?;
+    put_manager(out, b" new ", to)?;
+    Ok(())
+}
+
 /// Appends that a node went or came.
 fn put_lone(
     out: &mut Vec<u8>,
@@ -135,14 +173,8 @@ fn put_words(out: &mut Vec<u8>, change: Change) -> Result<(), OutOfMemory>
             put_pair(out, pair)?;
             put_value(out, quality, from, to)
         }
-        Change::Root { from, to } => {
-            put_field(out, b"root old ", u64::from(from))?;
-            put_field(out, b" new ", u64::from(to))
-        }
-        Change::Manager { from, to } => {
-            put_manager(out, b"irm old ", from)?;
-            put_manager(out, b" new ", to)
-        }
+        Change::Root { from, to } => put_root(out, from, to),
+        Change::Manager { from, to } => put_irm(out, from, to),
     }
 }
 
