@@ -10,7 +10,8 @@ use Rattle.script_lines.specs.Number.{number_of}
 use Rattle.bus_cli.specs.declared.form.Form.{Form}
 use Rattle.bus_cli.specs.declared.form.Form.TheVariants.{Capture, Rom, Run, Advice, Make, OfItself}
 use Rattle.bus_cli.specs.declared.form.CaptureForm.TheVariants.{Read, Read95, Maps}
-use Rattle.bus_cli.specs.Form.{AreWordsOf, AreMakeWords, Asks, IsForm}
+use Rattle.script_made.specs.Asked.{AreMadeWords}
+use Rattle.bus_cli.specs.Form.{AreWordsOf, Asks, IsForm}
 use Rattle.bus_cli.specs.codings.Reading.{AsksFewNodes}
 
 -- ---- the form of words, found by trying them all
@@ -98,7 +99,7 @@ abbrev AreForm : List (List ℕ) → Type 0
 AreForm words = (form : Form) × AreWordsOf form words
 
 abbrev AreMake : List (List ℕ) → Type 0
-AreMake words = (nodes : ℕ) × (seed : ℕ) × AreMakeWords nodes seed words
+AreMake words = (nodes : ℕ) × (seed : ℕ) × AreMadeWords (codes "make") nodes seed words
 
 not_found : (words : List (List ℕ)) → form_of words ≡ None → AreForm words → ⊥
 not_found words none is = let e : None ≡ Some is.0 = sym none ∙ is_found is.0 words is.1 in cc

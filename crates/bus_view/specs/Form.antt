@@ -1,11 +1,11 @@
 -- The words that the program is asked with.
-use Rattle.std.specs.Prelude.{◌≡◌, ◌⊎◌, ℕ, ◌≤◌, Some, IsTrue, List, [], ◌∷◌, map, codes, string_bytes, String}
+use Rattle.std.specs.Prelude.{◌≡◌, ◌⊎◌, ℕ, IsTrue, List, [], ◌∷◌, map, codes, string_bytes, String}
 use Rattle.std.specs.Global.{Global}
 use Rattle.about.specs.Asked.{AreWordsFor}
 use Rattle.self_id.specs.declared.standard.Standard.{Standard}
 use Rattle.self_id.specs.declared.standard.Standard.TheVariants.{Ieee1995, Ieee2000}
 use Rattle.script_lines.specs.Name.{is_name}
-use Rattle.script_lines.specs.Number.{number_of}
+use Rattle.script_made.specs.Asked.{AreMadeWords}
 use Rattle.top_call.specs.Asked.{AsksUnread}
 use Rattle.reset_list.specs.declared.form.LogForm.{LogForm}
 use Rattle.reset_log.specs.Form.{AreWordsBy as AreResetsWords}
@@ -19,16 +19,6 @@ abbrev pub standard_words : Standard → List (List ℕ)
 standard_words Ieee2000 = []
 standard_words Ieee1995 = codes "--1995" ∷ []
 
--- `script N SEED`: 1 to 63 nodes and a seed, each a number as scripts have them
-pub record AreScriptWords (nodes seed : ℕ) (words : List (List ℕ)) : Type 0 where
-  pub nodes_word : List ℕ
-  pub seed_word : List ℕ
-  pub words_are : words ≡ codes "script" ∷ nodes_word ∷ seed_word ∷ []
-  pub nodes_are : number_of nodes_word ≡ Some nodes
-  pub some_nodes : 1 ≤ nodes
-  pub few_nodes : nodes ≤ 63
-  pub seed_is : number_of seed_word ≡ Some seed
-
 -- the words of each form
 abbrev pub AreWordsOf : ViewForm → List (List ℕ) → Type 0
 AreWordsOf (Capture Packets standard) words = words ≡ codes "packets" ∷ standard_words standard
@@ -40,7 +30,7 @@ AreWordsOf Waves words = words ≡ codes "waves" ∷ []
 AreWordsOf DotRun words = words ≡ codes "dot-run" ∷ []
 AreWordsOf JsonRun words = words ≡ codes "json-run" ∷ []
 AreWordsOf Explain words = words ≡ codes "explain" ∷ []
-AreWordsOf (Script nodes seed) words = AreScriptWords nodes seed words
+AreWordsOf (Script nodes seed) words = AreMadeWords (codes "script") nodes seed words
 AreWordsOf (ListOf name) words = (words ≡ codes "capture" ∷ name ∷ []) × IsTrue (is_name name)
 AreWordsOf (Resets form) words = AreResetsWords form words
 AreWordsOf (Nosy form) words = AreNosyWords form words

@@ -1,4 +1,5 @@
 pub mod Made
 pub mod MadeRead
 pub mod MadeValid
+pub mod Asked
 pub mod codings
