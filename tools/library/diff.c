@@ -71,16 +71,31 @@ static void put_lone(int id, const char *alone, const char *word, const struct b
   else printf(" %s", alone);
 }
 
+static void put_pair(const struct busconf_change *it) {
+  printf("node %d", it->old_id);
+  if (it->old_id != it->new_id) printf(" now %d", it->new_id);
+}
+
 static void put_move(const struct busconf_change *it) {
   int old = is_there(&it->old_cable), now = is_there(&it->new_cable);
-  printf("node %d now %d", it->old_id, it->new_id);
+  put_pair(it);
   if (old) put_place(now ? "moved from" : "left", &it->old_cable);
   if (now) put_place(old ? "to" : "joined", &it->new_cable);
 }
 
-static void put_manager(const char *word, int id) {
+static void put_id(const char *word, int id) {
   if (id == BUSCONF_ID_NONE) printf("%s none", word);
   else printf("%s %d", word, id);
+}
+
+static void put_another(const char *word, const struct busconf_change *it) {
+  printf("%s", word);
+  if (it->old_id == it->new_id) {
+    printf(" is another node, again %d", it->old_id);
+    return;
+  }
+  put_id(" old", it->old_id);
+  put_id(" new", it->new_id);
 }
 
 static void put_change(const struct busconf_change *it) {
@@ -94,14 +109,11 @@ static void put_change(const struct busconf_change *it) {
   case BUSCONF_CHANGE_SPEED:
   case BUSCONF_CHANGE_CONTENDER:
   case BUSCONF_CHANGE_POWER:
-    printf("node %d now %d %s %d now %d", it->old_id, it->new_id, values[it->kind - BUSCONF_CHANGE_LINK],
-           it->old_value, it->new_value);
+    put_pair(it);
+    printf(" %s %d now %d", values[it->kind - BUSCONF_CHANGE_LINK], it->old_value, it->new_value);
     break;
-  case BUSCONF_CHANGE_ROOT: printf("root old %d new %d", it->old_id, it->new_id); break;
-  case BUSCONF_CHANGE_MANAGER:
-    put_manager("irm old", it->old_id);
-    put_manager(" new", it->new_id);
-    break;
+  case BUSCONF_CHANGE_ROOT: put_another("root", it); break;
+  case BUSCONF_CHANGE_MANAGER: put_another("irm", it); break;
   }
   printf("\n");
 }

@@ -164,22 +164,30 @@ def place(word, cable):
     return f" {word} port {cable.port} of node {cable.parent} on its port {cable.child_port}"
 
 
+def another(word, it):
+    """That another node is the root or the manager."""
+    none = lambda number: "none" if number is None else number
+    if it.old_id == it.new_id:
+        return f"{word} is another node, again {it.old_id}"
+    return f"{word} old {none(it.old_id)} new {none(it.new_id)}"
+
+
 def change_line(it):
     """The line of a change, as `busview diff` writes it."""
     old, new, kind = it.old_cable, it.new_cable, it.kind
-    none = lambda number: "none" if number is None else number
+    both = f"node {it.old_id}" if it.old_id == it.new_id else f"node {it.old_id} now {it.new_id}"
     if kind == busconf.ChangeKind.WENT:
         return f"node {it.old_id}" + (place("went from", old) if old else " went")
     if kind == busconf.ChangeKind.CAME:
         return f"node {it.new_id}" + (place("came to", new) if new else " came")
     if kind == busconf.ChangeKind.MOVED:
         left = place("moved from" if new else "left", old) if old else ""
-        return f"node {it.old_id} now {it.new_id}{left}" + (place("to" if old else "joined", new) if new else "")
+        return both + left + (place("to" if old else "joined", new) if new else "")
     if kind == busconf.ChangeKind.ROOT:
-        return f"root old {it.old_id} new {it.new_id}"
+        return another("root", it)
     if kind == busconf.ChangeKind.MANAGER:
-        return f"irm old {none(it.old_id)} new {none(it.new_id)}"
-    return f"node {it.old_id} now {it.new_id} {kind.name.lower()} {it.old_value} now {it.new_value}"
+        return another("irm", it)
+    return f"{both} {kind.name.lower()} {it.old_value} now {it.new_value}"
 
 
 def differs(capture, words):
