@@ -8,5 +8,5 @@
 mod entry;
 mod ticks;
 
-pub use entry::enter;
-pub use ticks::reset_tick;
+pub use entry::{enter, enter_into};
+pub use ticks::{reset_tick, reset_tick_into};

@@ -7,7 +7,7 @@ ghost use Rattle.cable_world.specs.World.{IsNodeAtPowerOn};
 use crate::nodes::{USUAL, spec};
 use cable_world::{World, WorldRun};
 use phy_machine::FieldMachine;
-use port_state::{PortMachine, Sends, Signal, Timing, View};
+use port_state::{Outbox, PortMachine, Signal, Timing, View};
 use self_id::Attrs;
 use std::alloc::{AllocError, Global};
 use std::cell::Cell;
@@ -33,25 +33,25 @@ impl PortMachine for Counting<'_> {
 
     ghost record_of = { λ m. field_node m.machine };
 
-    fn on_signal(&mut self, port: u8, signal: Signal, out: &mut Sends) {
-        self.machine.on_signal(port, signal, out);
+    fn on_signal_into(&mut self, port: u8, signal: Signal, out: &mut Outbox) {
+        self.machine.on_signal_into(port, signal, out);
     }
 
-    fn tick(&mut self, out: &mut Sends) {
+    fn tick_into(&mut self, out: &mut Outbox) {
         self.count();
-        self.machine.tick(out);
+        self.machine.tick_into(out);
     }
 
-    fn disturb(&mut self, out: &mut Sends) {
-        self.machine.disturb(out);
+    fn disturb_into(&mut self, out: &mut Outbox) {
+        self.machine.disturb_into(out);
     }
 
-    fn plugged(&mut self, port: u8, out: &mut Sends) {
-        self.machine.plugged(port, out);
+    fn plugged_into(&mut self, port: u8, out: &mut Outbox) {
+        self.machine.plugged_into(port, out);
     }
 
-    fn pulled(&mut self, port: u8, out: &mut Sends) {
-        self.machine.pulled(port, out);
+    fn pulled_into(&mut self, port: u8, out: &mut Outbox) {
+        self.machine.pulled_into(port, out);
     }
 
     fn set_config(&mut self, root_id: u8, force: bool, gap: Option<u8>) {

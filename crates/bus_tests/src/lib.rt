@@ -36,6 +36,12 @@ mod spent;
 #[cfg(test)]
 mod steps;
 #[cfg(test)]
+mod surface_layers;
+#[cfg(test)]
+mod surface_nodes;
+#[cfg(test)]
+mod surface_programs;
+#[cfg(test)]
 mod texts;
 #[cfg(test)]
 mod traces;

@@ -2,7 +2,7 @@
 
 use crate::nodes::spec;
 use phy_machine::{FieldMachine, PackedMachine};
-use port_state::{Coins, PortMachine, Sends};
+use port_state::{Coins, Outbox, PortMachine};
 
 /// Which machine ticks.
 #[derive(Clone, Copy)]
@@ -28,17 +28,17 @@ const ROWS: u32 = 6;
 pub struct Nodes {
     field: FieldMachine,
     packed: PackedMachine,
-    out: Sends,
+    out: Outbox,
 }
 
 /// One tick.
-fn tick<M: PortMachine>(machine: &mut M, out: &mut Sends) {
+fn tick<M: PortMachine>(machine: &mut M, out: &mut Outbox) {
     out.clear();
-    machine.tick(out);
+    machine.tick_into(out);
 }
 
 /// The node passes over its hold, and takes the six rows up to its ID.
-fn identify<M: PortMachine>(machine: &mut M, out: &mut Sends) {
+fn identify<M: PortMachine>(machine: &mut M, out: &mut Outbox) {
     machine.pass(machine.idle_for());
     for _ in 0..ROWS {
         tick(machine, out);
@@ -47,7 +47,7 @@ fn identify<M: PortMachine>(machine: &mut M, out: &mut Sends) {
 
 /// A tick of this sort, so many times; for a busy one the node resets the bus, and identifies itself, once
 /// every six times.
-fn run<M: PortMachine>(machine: &mut M, out: &mut Sends, pace: Pace, times: u32) -> u64 {
+fn run<M: PortMachine>(machine: &mut M, out: &mut Outbox, pace: Pace, times: u32) -> u64 {
     match pace {
         Pace::Idle => {
             for _ in 0..times {
@@ -57,7 +57,7 @@ fn run<M: PortMachine>(machine: &mut M, out: &mut Sends, pace: Pace, times: u32)
         Pace::Busy => {
             for _ in 0..times / ROWS {
                 out.clear();
-                machine.disturb(out);
+                machine.disturb_into(out);
                 identify(machine, out);
             }
         }
@@ -71,7 +71,7 @@ impl Nodes {
         let mut nodes = Nodes {
             field: FieldMachine::new(spec(3, Coins::bits(0, 1))),
             packed: PackedMachine::new(spec(3, Coins::bits(0, 1))),
-            out: Sends::new(),
+            out: Outbox::new(),
         };
         identify(&mut nodes.field, &mut nodes.out);
         identify(&mut nodes.packed, &mut nodes.out);

@@ -20,7 +20,7 @@ use crate::act::{Act, ActStop};
 use crate::rows::WireRow;
 use crate::steps::{NodeAct, step_both, step_node};
 use cabling::{CableFault, Cabling, End, NodeSet, OutOfMemory};
-use port_state::{PortMachine, Sends};
+use port_state::{Outbox, PortMachine};
 
 /// Takes away what is under way on the wires from two ends, and holds. The ends exist.
 fn clear_cable(wires: &mut [WireRow], a: End, b: End)
@@ -96,7 +96,7 @@ fn plug_ends<M: PortMachine>(
     wires: &mut [WireRow],
     changed: &mut [u32],
     turns: u32,
-    out: &mut Sends,
+    out: &mut Outbox,
 ) -> Result<NodeSet, ActStop>
     requires lawful { AreLawful cabling.old (map M.record_of machines.old) wires.old changed.old
         turns }
@@ -130,7 +130,7 @@ fn pull_end<M: PortMachine>(
     wires: &mut [WireRow],
     changed: &mut [u32],
     turns: u32,
-    out: &mut Sends,
+    out: &mut Outbox,
 ) -> Result<NodeSet, ActStop>
     requires lawful { AreLawful cabling.old (map M.record_of machines.old) wires.old changed.old
         turns }
@@ -164,7 +164,7 @@ fn reset_node<M: PortMachine>(
     wires: &mut [WireRow],
     changed: &mut [u32],
     turns: u32,
-    out: &mut Sends,
+    out: &mut Outbox,
 ) -> Result<NodeSet, ActStop>
     requires lawful { (c : Wiring) × AreLawful c (map M.record_of machines.old) wires.old
         changed.old turns }
@@ -199,7 +199,7 @@ fn send_config<M: PortMachine>(
     wires: &mut [WireRow],
     changed: &mut [u32],
     turns: u32,
-    out: &mut Sends,
+    out: &mut Outbox,
 ) -> Result<NodeSet, ActStop>
     requires is { IsConfigPacket (config_packet root_id force gap) }
     requires lawful { AreLawful cabling.now (map M.record_of machines.old) wires.old changed.old
@@ -238,7 +238,7 @@ fn do_act<M: PortMachine>(
     wires: &mut [WireRow],
     changed: &mut [u32],
     turns: u32,
-    out: &mut Sends,
+    out: &mut Outbox,
 ) -> Result<NodeSet, ActStop>
     requires is { IsAct act.now }
     requires lawful { AreLawful cabling.old (map M.record_of machines.old) wires.old changed.old
@@ -277,7 +277,7 @@ pub fn act_world<M: PortMachine>(
     wires: &mut [WireRow],
     changed: &mut [u32],
     turns: u32,
-    out: &mut Sends,
+    out: &mut Outbox,
 ) -> Result<NodeSet, ActStop>
     requires is { IsAct act.now }
     requires lawful { AreLawful cabling.old (map M.record_of machines.old) wires.old changed.old

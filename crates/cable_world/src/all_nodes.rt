@@ -17,7 +17,7 @@ ghost use Rattle.cable_world.specs.Lawful.{IsLawful};
 use crate::nodes::turn_node;
 use crate::rows::{ArrivalRow, WireRow};
 use cabling::{Cabling, OutOfMemory};
-use port_state::{PortMachine, PortSet, Sends};
+use port_state::{Outbox, PortMachine, PortSet};
 
 /// A turn of every wire. What arrives at their far ends takes the place of what is in `arrivals`.
 pub fn turn_wires(
@@ -65,7 +65,7 @@ pub fn turn_one<M: PortMachine>(
     heard: PortSet,
     turns: u32,
     last: u32,
-    out: &mut Sends,
+    out: &mut Outbox,
     wires: &mut WireRow,
 ) -> Result<u32, OutOfMemory>
     requires exists { node < length cabling.now }
@@ -93,7 +93,7 @@ pub fn turn_nodes<M: PortMachine>(
     arrivals: &[ArrivalRow],
     turns: u32,
     changed: &mut [u32],
-    out: &mut Sends,
+    out: &mut Outbox,
     wires: &mut [WireRow],
 ) -> Result<(), OutOfMemory>
     requires few { length machines.old ≤ 63 }
@@ -137,7 +137,7 @@ pub fn turn_world<M: PortMachine>(
     changed: &mut [u32],
     turns: u32,
     arrivals: &mut [ArrivalRow],
-    out: &mut Sends,
+    out: &mut Outbox,
 ) -> Result<(), OutOfMemory>
     requires few { turns < 4000000000 }
     requires short { delay ≤ 16 }

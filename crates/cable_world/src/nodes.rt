@@ -9,10 +9,10 @@ ghost use Rattle.cable_world.specs.running.Rows.{signals_on};
 use crate::rows::{ArrivalRow, WireRow};
 use crate::wire::UnderWay;
 use cabling::{Cabling, End, OutOfMemory};
-use port_state::{PortMachine, PortSet, Sends};
+use port_state::{Outbox, PortMachine, PortSet};
 
 /// What a step sends goes onto the wires of its node. Most steps send nothing.
-fn send(out: &Sends, wires: &mut WireRow) -> Result<(), OutOfMemory>
+fn send(out: &Outbox, wires: &mut WireRow) -> Result<(), OutOfMemory>
     ensures sent { OnOk result (wires.new ≡ wires_after_sends 0 out.now wires.old) }
     ensures row { length wires.new ≡ length wires.old }
 {
@@ -29,7 +29,7 @@ fn hear_port<M: PortMachine>(
     port: u8,
     arriving: &[UnderWay],
     from: u8,
-    out: &mut Sends,
+    out: &mut Outbox,
     wires: &mut WireRow,
 ) -> Result<(), OutOfMemory>
     requires { port < (M.record_of machine.old).state.ports }
@@ -47,7 +47,7 @@ fn hear_port<M: PortMachine>(
             continue;
         }
         out.clear();
-        machine.on_signal(port, entry.signal, out);
+        machine.on_signal_into(port, entry.signal, out);
         send(out, wires)?;
     }
     Ok(())
@@ -70,7 +70,7 @@ fn hear_end<M: PortMachine>(
     port: u8,
     arrivals: &[ArrivalRow],
     far: Option<End>,
-    out: &mut Sends,
+    out: &mut Outbox,
     wires: &mut WireRow,
 ) -> Result<(), OutOfMemory>
     requires { port < (M.record_of machine.old).state.ports }
@@ -113,7 +113,7 @@ fn hear_ports<M: PortMachine>(
     node: u8,
     arrivals: &[ArrivalRow],
     heard: PortSet,
-    out: &mut Sends,
+    out: &mut Outbox,
     wires: &mut WireRow,
 ) -> Result<(), OutOfMemory>
     requires exists { node < length cabling.now }
@@ -144,7 +144,7 @@ fn hear<M: PortMachine>(
     node: u8,
     arrivals: &[ArrivalRow],
     heard: PortSet,
-    out: &mut Sends,
+    out: &mut Outbox,
     wires: &mut WireRow,
 ) -> Result<(), OutOfMemory>
     requires exists { node < length cabling.now }
@@ -172,7 +172,7 @@ pub fn turn_node<M: PortMachine>(
     node: u8,
     arrivals: &[ArrivalRow],
     heard: PortSet,
-    out: &mut Sends,
+    out: &mut Outbox,
     wires: &mut WireRow,
 ) -> Result<(), OutOfMemory>
     requires exists { node < length cabling.now }
@@ -188,7 +188,7 @@ pub fn turn_node<M: PortMachine>(
 {
     hear(machine, cabling, node, arrivals, heard, out, wires)?;
     out.clear();
-    machine.tick(out);
+    machine.tick_into(out);
     send(out, wires)?;
     Ok(())
 }

@@ -9,7 +9,7 @@ ghost use Rattle.cable_world.specs.running.NodeActs.{step_of, Suits, note_step, 
 use crate::all_nodes::last_change;
 use crate::rows::WireRow;
 use cabling::OutOfMemory;
-use port_state::{PortMachine, Sends};
+use port_state::{Outbox, PortMachine};
 
 /// A node resets the bus, when `turns` turns are done. Answers when its list changed last, which was
 /// at the end of turn number `last` before.
@@ -17,7 +17,7 @@ fn disturb<M: PortMachine>(
     machine: &mut M,
     turns: u32,
     last: u32,
-    out: &mut Sends,
+    out: &mut Outbox,
     wires: &mut WireRow,
 ) -> Result<u32, OutOfMemory>
     ensures node { M.record_of machine.new ≡ (node_disturb (M.record_of machine.old)).node }
@@ -29,7 +29,7 @@ fn disturb<M: PortMachine>(
 {
     let before = machine.list().len();
     out.clear();
-    machine.disturb(out);
+    machine.disturb_into(out);
     wires.send_all(out.as_slice())?;
     Ok(last_change(before, machine.list().len(), turns, last))
 }
@@ -40,7 +40,7 @@ fn plug<M: PortMachine>(
     port: u8,
     turns: u32,
     last: u32,
-    out: &mut Sends,
+    out: &mut Outbox,
     wires: &mut WireRow,
 ) -> Result<u32, OutOfMemory>
     requires exists { port < (M.record_of machine.old).state.ports }
@@ -54,7 +54,7 @@ fn plug<M: PortMachine>(
 {
     let before = machine.list().len();
     out.clear();
-    machine.plugged(port, out);
+    machine.plugged_into(port, out);
     wires.send_all(out.as_slice())?;
     Ok(last_change(before, machine.list().len(), turns, last))
 }
@@ -65,7 +65,7 @@ fn pull<M: PortMachine>(
     port: u8,
     turns: u32,
     last: u32,
-    out: &mut Sends,
+    out: &mut Outbox,
     wires: &mut WireRow,
 ) -> Result<u32, OutOfMemory>
     requires { IsTrue (is_connected (M.record_of machine.old).state.view.ports port) }
@@ -78,7 +78,7 @@ fn pull<M: PortMachine>(
 {
     let before = machine.list().len();
     out.clear();
-    machine.pulled(port, out);
+    machine.pulled_into(port, out);
     wires.send_all(out.as_slice())?;
     Ok(last_change(before, machine.list().len(), turns, last))
 }
@@ -100,7 +100,7 @@ fn step_one<M: PortMachine>(
     act: NodeAct,
     turns: u32,
     last: u32,
-    out: &mut Sends,
+    out: &mut Outbox,
     wires: &mut WireRow,
 ) -> Result<u32, OutOfMemory>
     requires { Suits act (M.record_of machine.old) }
@@ -126,7 +126,7 @@ pub fn step_node<M: PortMachine>(
     node: u8,
     act: NodeAct,
     turns: u32,
-    out: &mut Sends,
+    out: &mut Outbox,
 ) -> Result<(), OutOfMemory>
     requires exists { node < length machines.old }
     requires rows { length wires.old ≡ length machines.old }
@@ -158,7 +158,7 @@ pub fn step_both<M: PortMachine>(
     first: (u8, NodeAct),
     second: (u8, NodeAct),
     turns: u32,
-    out: &mut Sends,
+    out: &mut Outbox,
 ) -> Result<(), OutOfMemory>
     requires apart { first.0 ≢ second.0 }
     requires first { first.0 < length machines.old }

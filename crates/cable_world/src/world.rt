@@ -17,7 +17,7 @@ use crate::signals::Signals;
 use crate::start::{arrival_rows, no_changes, port_counts, wire_rows};
 use arrayvec::ArrayVec;
 use cabling::{Cabling, End, OutOfMemory};
-use port_state::{PortMachine, Sends, TimeRanges, Timing, View};
+use port_state::{Outbox, PortMachine, TimeRanges, Timing, View};
 use self_id::Attrs;
 use std::alloc::{AllocError, Global};
 
@@ -33,7 +33,7 @@ pub struct World<M: PortMachine> {
     arrivals: Vec<ArrivalRow>,
     changed: Vec<u32>,
     turns: u32,
-    out: Sends,
+    out: Outbox,
     spent: bool,
     ghost reached: { IsFalse spent → ∥ IsReached (world_record delay longest cabling
         (map M.record_of machines.items) wires.items changed.items turns) ∥₁ },
@@ -92,7 +92,7 @@ impl<M: PortMachine + Drop> World<M> {
             changed: no_changes(alloc, machines.len())?,
             machines,
             turns: 0,
-            out: Sends::new(),
+            out: Outbox::new(),
             spent: false,
         })
     }

@@ -8,7 +8,7 @@ ghost use Rattle.port_state.specs.Tick.{does};
 ghost use Rattle.port_state.specs.Valid.{IsValid};
 
 use port_state::states::NodeState;
-use port_state::{Coins, Level, Phase, Sends, Signal};
+use port_state::{Coins, Level, Outbox, Phase, Sends, Signal};
 
 /// Whether a node in T2 meets a rival: its parent port shows Parent.
 pub fn has_rival(s: &NodeState) -> bool
@@ -47,6 +47,20 @@ pub fn begin(s: &mut NodeState, coins: &mut Coins, out: &mut Sends)
     ensures sends { out.new ≡ (does (coin coins.old) (parent_shake_row s.old) s.old).sends }
     ensures coins { coins.new ≡ coins_after coins.old }
 {
+    let mut outbox = Outbox::new();
+    begin_into(s, coins, &mut outbox);
+    out.fill(&outbox);
+}
+
+/// Does what `begin` does, and passes on what is sent.
+pub fn begin_into(s: &mut NodeState, coins: &mut Coins, out: &mut Outbox)
+    requires valid { IsValid s.old }
+    requires rival { IsTrue (has_rival s.old) }
+    requires empty { out.old ≡ [] }
+    ensures state { s.new ≡ (does (coin coins.old) (parent_shake_row s.old) s.old).state }
+    ensures sends { out.new ≡ (does (coin coins.old) (parent_shake_row s.old) s.old).sends }
+    ensures coins { coins.new ≡ coins_after coins.old }
+{
     let coin = coins.next();
     let view = &mut s.view;
     view.phase = Phase::Contend;
@@ -63,6 +77,19 @@ pub fn begin(s: &mut NodeState, coins: &mut Coins, out: &mut Sends)
 /// again becomes a child, and else this node asks again. `out` is empty, and then has what was
 /// sent.
 pub fn contend_tick(s: &mut NodeState, out: &mut Sends)
+    requires valid { IsValid s.old }
+    requires contends { s.old.view.phase ≡ Phase.Contend }
+    requires empty { out.old ≡ [] }
+    ensures state { s.new ≡ (does false (contend_row s.old) s.old).state }
+    ensures sends { out.new ≡ (does false (contend_row s.old) s.old).sends }
+{
+    let mut outbox = Outbox::new();
+    contend_tick_into(s, &mut outbox);
+    out.fill(&outbox);
+}
+
+/// Does what `contend_tick` does, and passes on what is sent.
+pub fn contend_tick_into(s: &mut NodeState, out: &mut Outbox)
     requires valid { IsValid s.old }
     requires contends { s.old.view.phase ≡ Phase.Contend }
     requires empty { out.old ≡ [] }

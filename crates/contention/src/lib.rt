@@ -5,5 +5,5 @@
 
 mod contend;
 
-pub use contend::{begin, contend_tick, has_rival};
+pub use contend::{begin, begin_into, contend_tick, contend_tick_into, has_rival};
 pub use port_state::Coins;

@@ -52,8 +52,8 @@ type Step = (Option<Signal>, u16, [Option<Signal>; 2]);
 
 // The signal that was sent in this place, if it goes out on port 0.
 fn nth(out: &Sends, at: usize) -> Option<Signal> {
-    match out.pairs().nth(at) {
-        Some((0, signal)) => Some(signal),
+    match out.as_slice().get(at) {
+        Some((0, signal)) => Some(*signal),
         _ => None,
     }
 }

@@ -5,7 +5,7 @@ ghost use Rattle.phy_machine.specs.PowerOn.{with_gap_reset};
 
 use crate::field::FieldMachine;
 use crate::packed::PackedMachine;
-use port_state::{PortMachine, Sends, Signal, Timing, View};
+use port_state::{Outbox, PortMachine, Signal, Timing, View};
 use self_id::Attrs;
 
 /// A machine of either kind.
@@ -49,38 +49,38 @@ impl PortMachine for AnyMachine {
 
     ghost record_of = { any_node };
 
-    fn on_signal(&mut self, port: u8, signal: Signal, out: &mut Sends) {
+    fn on_signal_into(&mut self, port: u8, signal: Signal, out: &mut Outbox) {
         match self {
-            AnyMachine::Field(machine) => machine.on_signal(port, signal, out),
-            AnyMachine::Packed(machine) => machine.on_signal(port, signal, out),
+            AnyMachine::Field(machine) => machine.on_signal_into(port, signal, out),
+            AnyMachine::Packed(machine) => machine.on_signal_into(port, signal, out),
         }
     }
 
-    fn tick(&mut self, out: &mut Sends) {
+    fn tick_into(&mut self, out: &mut Outbox) {
         match self {
-            AnyMachine::Field(machine) => machine.tick(out),
-            AnyMachine::Packed(machine) => machine.tick(out),
+            AnyMachine::Field(machine) => machine.tick_into(out),
+            AnyMachine::Packed(machine) => machine.tick_into(out),
         }
     }
 
-    fn disturb(&mut self, out: &mut Sends) {
+    fn disturb_into(&mut self, out: &mut Outbox) {
         match self {
-            AnyMachine::Field(machine) => machine.disturb(out),
-            AnyMachine::Packed(machine) => machine.disturb(out),
+            AnyMachine::Field(machine) => machine.disturb_into(out),
+            AnyMachine::Packed(machine) => machine.disturb_into(out),
         }
     }
 
-    fn plugged(&mut self, port: u8, out: &mut Sends) {
+    fn plugged_into(&mut self, port: u8, out: &mut Outbox) {
         match self {
-            AnyMachine::Field(machine) => machine.plugged(port, out),
-            AnyMachine::Packed(machine) => machine.plugged(port, out),
+            AnyMachine::Field(machine) => machine.plugged_into(port, out),
+            AnyMachine::Packed(machine) => machine.plugged_into(port, out),
         }
     }
 
-    fn pulled(&mut self, port: u8, out: &mut Sends) {
+    fn pulled_into(&mut self, port: u8, out: &mut Outbox) {
         match self {
-            AnyMachine::Field(machine) => machine.pulled(port, out),
-            AnyMachine::Packed(machine) => machine.pulled(port, out),
+            AnyMachine::Field(machine) => machine.pulled_into(port, out),
+            AnyMachine::Packed(machine) => machine.pulled_into(port, out),
         }
     }
 

@@ -9,7 +9,7 @@ use crate::clock::TickClock;
 use crate::spec::NodeSpec;
 use crate::{idle, node};
 use port_state::states::NodeState;
-use port_state::{Coins, PortMachine, Sends, Signal, Timing, View};
+use port_state::{Coins, Outbox, PortMachine, Signal, Timing, View};
 use self_id::Attrs;
 
 /// A machine that keeps its node's record, each part in a field of its own.
@@ -60,25 +60,25 @@ impl PortMachine for FieldMachine {
 
     ghost record_of = { field_node };
 
-    fn on_signal(&mut self, port: u8, signal: Signal, out: &mut Sends) {
+    fn on_signal_into(&mut self, port: u8, signal: Signal, out: &mut Outbox) {
         node::on_signal(&mut self.state, port, signal, out);
     }
 
-    fn tick(&mut self, out: &mut Sends) {
+    fn tick_into(&mut self, out: &mut Outbox) {
         if self.clock.turn() {
             node::tick(&mut self.state, &mut self.coins, out);
         }
     }
 
-    fn disturb(&mut self, out: &mut Sends) {
+    fn disturb_into(&mut self, out: &mut Outbox) {
         node::disturb(&mut self.state, out);
     }
 
-    fn plugged(&mut self, port: u8, out: &mut Sends) {
+    fn plugged_into(&mut self, port: u8, out: &mut Outbox) {
         node::plugged(&mut self.state, port, out);
     }
 
-    fn pulled(&mut self, port: u8, out: &mut Sends) {
+    fn pulled_into(&mut self, port: u8, out: &mut Outbox) {
         node::pulled(&mut self.state, port, out);
     }
 

@@ -14,39 +14,39 @@ ghost use Rattle.phy_machine.specs.codings.RowStep.{row_step};
 ghost use Rattle.phy_machine.specs.codings.Levels.{level_of, signal_of};
 
 use arrayvec::ArrayVec;
-use bus_reset::{enter, reset_tick};
-use contention::{begin, contend_tick, has_rival};
+use bus_reset::{enter_into, reset_tick_into};
+use contention::{begin_into, contend_tick_into, has_rival};
 use port_state::states::NodeState;
-use port_state::{Coins, Level, Phase, PortView, PortViews, Sends, Signal, Timing, View};
+use port_state::{Coins, Level, Outbox, Phase, PortView, PortViews, Signal, Timing, View};
 use self_id::Attrs;
-use self_identify::{ident_signal, ident_tick};
-use tree_identify::tree_tick;
+use self_identify::{ident_signal_into, ident_tick_into};
+use tree_identify::tree_tick_into;
 
 /// What the row of the phase does, once the timer was raised.
-fn take_row(s: &mut NodeState, coins: &mut Coins, out: &mut Sends)
+fn take_row(s: &mut NodeState, coins: &mut Coins, out: &mut Outbox)
     requires valid { IsValid s.old }
     requires empty { out.old ≡ [] }
     ensures node { node_of s.new coins.new ≡ (row_step s.old.view.phase s.old coins.old).node }
     ensures sends { out.new ≡ (row_step s.old.view.phase s.old coins.old).sends }
 {
     match s.view.phase {
-        Phase::ResetStart | Phase::ResetWait => reset_tick(s, out),
-        Phase::TreeStart | Phase::ChildShake => tree_tick(s, out),
+        Phase::ResetStart | Phase::ResetWait => reset_tick_into(s, out),
+        Phase::TreeStart | Phase::ChildShake => tree_tick_into(s, out),
         Phase::ParentShake => {
             if has_rival(s) {
-                begin(s, coins, out);
+                begin_into(s, coins, out);
             } else {
-                tree_tick(s, out);
+                tree_tick_into(s, out);
             }
         }
-        Phase::Contend => contend_tick(s, out),
-        Phase::SelfIdent => ident_tick(s, out),
+        Phase::Contend => contend_tick_into(s, out),
+        Phase::SelfIdent => ident_tick_into(s, out),
         Phase::Ready => {}
     }
 }
 
 /// A tick: the timer rises, and the row of the phase applies.
-pub fn tick(s: &mut NodeState, coins: &mut Coins, out: &mut Sends)
+pub fn tick(s: &mut NodeState, coins: &mut Coins, out: &mut Outbox)
     requires valid { IsValid s.old }
     requires empty { out.old ≡ [] }
     ensures node { node_of s.new coins.new ≡ (node_tick (node_of s.old coins.old)).node }
@@ -72,7 +72,7 @@ pub fn level_of(signal: Signal) -> Option<Level>
 
 /// A port hears a level. Outside R0 a Reset begins a reset of this node too.
 #[tactic(auto, unfolding(port_state::specs::Heard::on_signal))]
-fn hear_level(s: &mut NodeState, port: u8, level: Level, out: &mut Sends)
+fn hear_level(s: &mut NodeState, port: u8, level: Level, out: &mut Outbox)
     requires bounded { IsBounded s.old }
     requires exists { port < s.old.ports }
     requires empty { out.old ≡ [] }
@@ -84,12 +84,12 @@ fn hear_level(s: &mut NodeState, port: u8, level: Level, out: &mut Sends)
     }
     s.view.ports.show(port, level);
     if level == Level::Reset && s.view.phase != Phase::ResetStart {
-        enter(s, false, out);
+        enter_into(s, false, out);
     }
 }
 
 /// A port hears a signal.
-pub fn on_signal(s: &mut NodeState, port: u8, signal: Signal, out: &mut Sends)
+pub fn on_signal(s: &mut NodeState, port: u8, signal: Signal, out: &mut Outbox)
     requires valid { IsValid s.old }
     requires exists { port < s.old.ports }
     requires empty { out.old ≡ [] }
@@ -99,23 +99,23 @@ pub fn on_signal(s: &mut NodeState, port: u8, signal: Signal, out: &mut Sends)
 {
     match level_of(signal) {
         Some(level) => hear_level(s, port, level, out),
-        None => ident_signal(s, port, signal, out),
+        None => ident_signal_into(s, port, signal, out),
     }
 }
 
 /// The node resets the bus.
-pub fn disturb(s: &mut NodeState, out: &mut Sends)
+pub fn disturb(s: &mut NodeState, out: &mut Outbox)
     requires bounded { IsBounded s.old }
     requires empty { out.old ≡ [] }
     ensures state { s.new ≡ (disturb s.old).state }
     ensures sends { out.new ≡ (disturb s.old).sends }
     ensures valid { IsValid s.new }
 {
-    enter(s, true, out);
+    enter_into(s, true, out);
 }
 
 /// A cable is plugged into a port, and the node resets the bus.
-pub fn plugged(s: &mut NodeState, port: u8, out: &mut Sends)
+pub fn plugged(s: &mut NodeState, port: u8, out: &mut Outbox)
     requires bounded { IsBounded s.old }
     requires exists { port < s.old.ports }
     requires empty { out.old ≡ [] }
@@ -133,11 +133,11 @@ pub fn plugged(s: &mut NodeState, port: u8, out: &mut Sends)
             ..view
         },
     );
-    enter(s, true, out);
+    enter_into(s, true, out);
 }
 
 /// The cable is pulled from a port, and the node resets the bus.
-pub fn pulled(s: &mut NodeState, port: u8, out: &mut Sends)
+pub fn pulled(s: &mut NodeState, port: u8, out: &mut Outbox)
     requires bounded { IsBounded s.old }
     requires exists { port < s.old.ports }
     requires empty { out.old ≡ [] }
@@ -155,7 +155,7 @@ pub fn pulled(s: &mut NodeState, port: u8, out: &mut Sends)
             ..view
         },
     );
-    enter(s, true, out);
+    enter_into(s, true, out);
 }
 
 /// The node hears a PHY configuration packet.

@@ -5,7 +5,7 @@ ghost use Rattle.phy_machine.specs.PowerOn.{IsSpec, node_of_spec, with_gap_reset
 
 use crate::field::FieldMachine;
 use crate::spec::NodeSpec;
-use port_state::{PortMachine, Sends, Signal, Timing, View};
+use port_state::{Outbox, PortMachine, Signal, Timing, View};
 use self_id::Attrs;
 
 /// A machine that keeps the flags and levels of its ports in a few words. Every machine does, so it
@@ -53,24 +53,24 @@ impl PortMachine for PackedMachine {
 
     ghost record_of = { packed_node };
 
-    fn on_signal(&mut self, port: u8, signal: Signal, out: &mut Sends) {
-        self.machine.on_signal(port, signal, out);
+    fn on_signal_into(&mut self, port: u8, signal: Signal, out: &mut Outbox) {
+        self.machine.on_signal_into(port, signal, out);
     }
 
-    fn tick(&mut self, out: &mut Sends) {
-        self.machine.tick(out);
+    fn tick_into(&mut self, out: &mut Outbox) {
+        self.machine.tick_into(out);
     }
 
-    fn disturb(&mut self, out: &mut Sends) {
-        self.machine.disturb(out);
+    fn disturb_into(&mut self, out: &mut Outbox) {
+        self.machine.disturb_into(out);
     }
 
-    fn plugged(&mut self, port: u8, out: &mut Sends) {
-        self.machine.plugged(port, out);
+    fn plugged_into(&mut self, port: u8, out: &mut Outbox) {
+        self.machine.plugged_into(port, out);
     }
 
-    fn pulled(&mut self, port: u8, out: &mut Sends) {
-        self.machine.pulled(port, out);
+    fn pulled_into(&mut self, port: u8, out: &mut Outbox) {
+        self.machine.pulled_into(port, out);
     }
 
     fn set_config(&mut self, root_id: u8, force: bool, gap: Option<u8>) {

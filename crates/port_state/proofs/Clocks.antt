@@ -26,6 +26,11 @@ pub even-on : (count : ℕ) (c : Clock) → IsRegular c → is_even (clock_on co
 even-on zero c h = refl
 even-on (suc k) c h = even-after (clock_on k c) (regular-on k c h) ∙ even-on k c h
 
+pub still-even : (c : Clock) → is_even c ≡ true → is_even (clock_after c) ≡ true
+still-even even h = refl
+still-even (slow k next) h = absurd cc
+still-even (every gap k) h = absurd cc
+
 -- ---- some turns later
 
 -- the clock goes on, whatever happens to its node
@@ -52,6 +57,14 @@ pub ticks-fewer : (n p : ℕ) (c : Clock) → n ≤ p → TicksFor p c → Ticks
 ticks-fewer n p even h t = tt
 ticks-fewer n p (slow k next) h t = omega (arith, h, t)
 ticks-fewer n p (every gap k) h t = omega (arith, h, t)
+
+-- a turn later
+pub ticks-later : (count : ℕ) (c : Clock) → TicksFor (suc count) c → TicksFor count (clock_after c)
+ticks-later count even h = tt
+ticks-later count (slow zero next) h = absurd (omega (arith, h))
+ticks-later count (slow (suc k) next) h = omega (arith, h)
+ticks-later count (every gap zero) h = absurd (omega (arith, h))
+ticks-later count (every gap (suc k)) h = omega (arith, h)
 
 pub ticks-none : (c : Clock) → TicksFor 0 c
 ticks-none even = tt

@@ -12,7 +12,7 @@ pub use Rattle.port_state.proofs.EachPort.{lowest-passes, port_is-changed, port_
 -- A tick is idle exactly where its row changes nothing, and then it raises the timer alone.
 pub use Rattle.port_state.proofs.IdleTicks.{missed-idle, after-idle_ticks, idle_ticks-rest}
 -- Clocks: regular ones, where they stand some turns later, and in which turns they tick.
-pub use Rattle.port_state.proofs.Clocks.{regular-after, regular-on, even-after, even-on, after-clock, clock_on-more, ticks-next, ticks-fewer, ticks-none}
+pub use Rattle.port_state.proofs.Clocks.{regular-after, regular-on, even-after, even-on, after-clock, clock_on-more, ticks-next, ticks-fewer, ticks-later, ticks-none, still-even}
 -- The roles of ports, as the rows of tree identify give and change them.
 pub use Rattle.port_state.proofs.Roles.{decided_few, left_is}
 -- What goes out on ports: on which, and how much.

@@ -4,7 +4,7 @@ use Rattle.std.proofs.lemmas.Bool.{ne_eqb, and_right, cases_lt, cases_eq}
 use Rattle.std.proofs.lemmas.List.{append-nil}
 use Rattle.std.proofs.Math.Bool.{and-true}
 use Rattle.port_state.specs.declared.ports.PortView.{PortView}
-use Rattle.port_state.specs.declared.sends.Sent.{Sent}
+use Rattle.port_state.specs.declared.outbox.Sent.{Sent}
 use Rattle.port_state.specs.declared.signal.Signal.{Signal}
 use Rattle.port_state.specs.PortSet.{has_port, on_ports_from, on_ports, all_sent}
 use Rattle.port_state.specs.Ports.{is_connected}

@@ -1,23 +1,24 @@
 -- What a word says of a list of ports: which of them pass a test.
-use Rattle.std.proofs.Common.{◌≡◌, ℕ, zero, suc, ◌+◌, ◌*◌, ◌^◌, ◌<◌, ◌≤◌, Bool, true, false, not, ◌&&◌, ◌==◌, cond, List, [], ◌∷◌, ◌++◌, length, map, Some, None, slice_get, slice_set, refl, subst, sym, ◌∙◌, ap, arith, inl, inr, if◌then◌else◌}
+use Rattle.std.proofs.Common.{◌≡◌, ℕ, zero, suc, ◌+◌, ◌*◌, ◌^◌, ◌<◌, ◌≤◌, Bool, true, false, not, ◌&&◌, ◌==◌, cond, List, [], ◌∷◌, ◌++◌, length, map, take, replicate, get_or, Some, None, slice_get, slice_set, refl, subst, sym, ◌∙◌, ap, arith, inl, inr, if◌then◌else◌}
 use Rattle.std.specs.Prelude.{count_by, count_ones, ◌⊎◌, nat_lt}
 use Rattle.std.specs.Int.{bit_at, trailing_zeros, w16}
 use Rattle.std.specs.Option.{ForSome}
 use Rattle.std.specs.List.{range_with_len, list_all, prefix_len, position_from}
 use Rattle.std.proofs.lemmas.Simd.{ones-mask_l, trailing_mask_l}
 use Rattle.std.proofs.lemmas.Bool.{eqb-true, eqb-false, eq-eqb, ne_eqb, cases_lt, lt-ltb, and_right}
-use Rattle.std.proofs.lemmas.List.{length-map}
+use Rattle.std.proofs.lemmas.List.{length-map, get_or-map}
 use Rattle.std.proofs.lemmas.Option.{slice_get_past}
-use Rattle.std.proofs.lemmas.List.FromFn.{length-range_with_len, map-range_with_len_more}
-use Rattle.std.proofs.lemmas.Nat.Bits.{bit_at-trailing_zeros, bit_at_above}
+use Rattle.std.proofs.lemmas.List.FromFn.{length-range_with_len, get_or-range_with_len, take-map-range_with_len, map-range_with_len_more}
+use Rattle.std.proofs.lemmas.Nat.Bits.{bit_at-zero, bit_at-trailing_zeros, bit_at_above}
 use lib.Count.{count_trailing_zeros}
 use lib.Lanes.{mask_l}
+use Rattle.port_state.specs.declared.signal.Level.TheVariants as level
 use Rattle.port_state.specs.declared.ports.PortView.{PortView}
 use Rattle.port_state.specs.Ports.{every, lowest, is_connected, change_port, change_port_at}
 use Rattle.port_state.specs.PortSet.{has_port}
 use Rattle.port_state.specs.declared.port_words.Words.{Words}
 use Rattle.port_state.specs.codings.WordsBack.{mask-ports}
-use Rattle.port_state.specs.codings.PortWords.{has_bit, port_at, ports_of, lowest_bit}
+use Rattle.port_state.specs.codings.PortWords.{has_bit, port_at, ports_of, all_ports, lowest_bit, FitsPorts}
 
 -- ---- how many pass, whether any does, which is the lowest
 
@@ -222,19 +223,105 @@ map-ports f count w v h = go (range_with_len 0 count)
     go [] = refl
     go (k ∷ ks) = rw (h k, go ks) refl
 
+at-changed :
+    (f : PortView → PortView) (w : Words) (at k : ℕ) →
+    (if k == at then f (port_at w k) else port_at w k)
+    ≡ (if k == at then f (port_at w at) else port_at w k)
+at-changed f w at k = go (k == at) refl
+  where
+    go :
+        (b : Bool) → (k == at) ≡ b →
+        (if b then f (port_at w k) else port_at w k) ≡ (if b then f (port_at w at) else port_at w k)
+    go true i = ap (λ j. f (port_at w j)) (eqb-true k at i)
+    go false i = refl
+
 pub change-ports :
     (f : PortView → PortView) (count : ℕ) (w v : Words) (at : ℕ) → at < count →
     ((k : ℕ) → port_at v k ≡ (if k == at then f (port_at w k) else port_at w k)) →
     ports_of count v ≡ change_port at f (ports_of count w)
 change-ports f count w v at h e =
-    set-ports count w v at (f (port_at w at)) h (λ k. e k ∙ go k (k == at) refl)
+    set-ports count w v at (f (port_at w at)) h (λ k. e k ∙ at-changed f w at k)
     ∙ sym (ap (λ o. change_port_at o at f (ports_of count w)) (get-ports count w at h))
-  where
-    go :
-        (k : ℕ) (b : Bool) → (k == at) ≡ b →
-        (if b then f (port_at w k) else port_at w k) ≡ (if b then f (port_at w at) else port_at w k)
-    go k true i = ap (λ j. f (port_at w j)) (eqb-true k at i)
-    go k false i = refl
+
+-- ---- the views of 16 ports, there or not
+
+-- what no bits say of a port
+abbrev pub no_view : PortView
+no_view = record {
+  connected = false;
+  shown = level.Reset;
+  child = false;
+  asked = false;
+  named = false;
+}
+
+no-bit : (word k : ℕ) → word < 2 ^ 0 → has_bit word k ≡ false
+no-bit word k less =
+    let none : word ≡ 0 = omega arith in
+    ap (λ n. has_bit n k) none ∙ ap (λ n. n == 1) (bit_at-zero k)
+
+no-view : (w : Words) (k : ℕ) → FitsPorts 0 w → no_view ≡ port_at w k
+no-view w k f = rw (
+  no-bit w.connected k f.connected,
+  no-bit w.high k f.high,
+  no-bit w.low k f.low,
+  no-bit w.child k f.child,
+  no-bit w.asked k f.asked,
+  no-bit w.named k f.named,
+) refl
+
+no-views :
+    (w : Words) → FitsPorts 0 w → (a n : ℕ) →
+    replicate n no_view ≡ map (port_at w) (range_with_len a n)
+no-views w f a zero = refl
+no-views w f a (suc n) =
+    ap (λ p. p ∷ replicate n no_view) (no-view w a f)
+    ∙ ap (λ ps. port_at w a ∷ ps) (no-views w f (a + 1) n)
+
+pub all-none : (w : Words) → FitsPorts 0 w → replicate 16 no_view ≡ all_ports w
+unfolding all_ports
+all-none w f = no-views w f 0 16
+
+pub all-first :
+    (w : Words) (views : List PortView) (count at : ℕ) → at ≡ count → count ≤ 16 →
+    views ≡ all_ports w → take at views ≡ ports_of count w
+unfolding all_ports
+all-first w views count at here few is =
+    ap (λ n. take n views) here ∙ ap (take count) is
+    ∙ take-map-range_with_len (port_at w) 0 16 count few
+
+pub all-set :
+    (w v : Words) (views : List PortView) (at i : ℕ) (p : PortView) → i ≡ at → at < 16 →
+    views ≡ all_ports w → ((k : ℕ) → port_at v k ≡ (if k == at then p else port_at w k)) →
+    slice_set views i p ≡ all_ports v
+unfolding all_ports
+all-set w v views at i p here h is e =
+    ap (λ n. slice_set views n p) here ∙ ap (λ xs. slice_set xs at p) is
+    ∙ sym (set-ports 16 w v at p h e)
+
+port-got :
+    (w : Words) (at : ℕ) (d : PortView) → at < 16 → get_or (ports_of 16 w) at d ≡ port_at w at
+port-got w at d h =
+    get_or-map (port_at w) (range_with_len 0 16) at 0 d (omega (arith, length-range_with_len 0 16))
+    ∙ ap (port_at w) (get_or-range_with_len 0 16 at 0 h ∙ (let e : 0 + at ≡ at = omega arith in e))
+
+pub all-changed :
+    (f : PortView → PortView) (w v : Words) (views : List PortView) (at i : ℕ) (d : PortView) →
+    i ≡ at → at < 16 → views ≡ all_ports w →
+    ((k : ℕ) → port_at v k ≡ (if k == at then f (port_at w k) else port_at w k)) →
+    slice_set views i (f (get_or views i d)) ≡ all_ports v
+unfolding all_ports
+all-changed f w v views at i d here h is e =
+    ap (λ n. slice_set views n (f (get_or views n d))) here
+    ∙ ap (λ xs. slice_set xs at (f (get_or xs at d))) is
+    ∙ ap (λ p. slice_set (ports_of 16 w) at (f p)) (port-got w at d h)
+    ∙ sym (set-ports 16 w v at (f (port_at w at)) h (λ k. e k ∙ at-changed f w at k))
+
+pub all-mapped :
+    (f : PortView → PortView) (w v : Words) (views : List PortView) → views ≡ all_ports w →
+    ((k : ℕ) → port_at v k ≡ f (port_at w k)) → map f views ≡ all_ports v
+unfolding all_ports
+all-mapped f w v views is h = ap (map f) is ∙ sym (map-ports f 16 w v h)
 
 -- ---- the ports that are connected
 

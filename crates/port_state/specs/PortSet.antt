@@ -1,7 +1,7 @@
 -- Sets of ports, and what goes out on the ports of a set.
 use Rattle.std.specs.Prelude.{ℕ, zero, suc, ◌+◌, Bool, ◌&&◌, ◌==◌, nat_lt, List, [], ◌∷◌, ◌++◌, if◌then◌else◌}
 use Rattle.std.specs.Int.{bit_at}
-use Rattle.port_state.specs.declared.sends.Sent.{Sent}
+use Rattle.port_state.specs.declared.outbox.Sent.{Sent}
 use Rattle.port_state.specs.declared.signal.Signal.{Signal}
 use Rattle.port_state.specs.Ports.{PortNumber}
 use Rattle.port_state.specs.Sends.{PortSignal}

@@ -10,6 +10,7 @@
 mod coins;
 mod idle_laws;
 mod machine;
+mod outbox;
 mod pairs;
 mod port_set;
 mod port_words;
@@ -26,12 +27,13 @@ mod view;
 pub use coins::Coins;
 pub use idle_laws::idle_ticks;
 pub use machine::PortMachine;
+pub use outbox::{Outbox, Sent};
 pub use pairs::Pairs;
 pub use port_set::PortSet;
 pub use ports::{PortView, PortViews};
 pub use range_laws::{ranges_are_suitable, standard_ranges_are_suitable, standard_times_are_few};
 pub use ranges::{Misfit, TimeRanges};
-pub use sends::{Sends, Sent};
+pub use sends::Sends;
 pub use signal::{Level, Phase, Signal};
 pub use step_laws::{
     cables_by_number, coins_repeat, config_is_valid, ports_by_number, power_on_is_valid,

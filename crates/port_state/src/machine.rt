@@ -10,6 +10,7 @@ ghost use Rattle.port_state.specs.Machine.{PortNode, node_on_signal, node_tick, 
 ghost use Rattle.port_state.specs.Machine.{node_plugged, node_pulled, node_set_config};
 ghost use Rattle.port_state.specs.Idle.{IsIdleFor, after_ticks};
 
+use crate::outbox::Outbox;
 use crate::sends::Sends;
 use crate::signal::Signal;
 use crate::timing::Timing;
@@ -21,31 +22,32 @@ use self_id::Attrs;
 ///
 /// What a machine keeps stands for the record of a node with its coins and its clock, and each call
 /// does that call's step of the step table to it. `out` is empty at each call, and then has what was
-/// sent, the first signal first.
+/// sent, the first signal first. Who implements the trait writes the calls with `_into`, which pass
+/// on what is sent; the ones without give it as a list.
 pub trait PortMachine {
     ghost record_of: { Self → PortNode };
 
     /// A port, numbered from 0, hears a signal.
-    fn on_signal(&mut self, port: u8, signal: Signal, out: &mut Sends)
+    fn on_signal_into(&mut self, port: u8, signal: Signal, out: &mut Outbox)
         requires empty { out.old ≡ [] }
         requires exists { port < (record_of self.old).state.ports }
         ensures node { record_of self.new ≡ (node_on_signal port signal (record_of self.old)).node }
         ensures sends { out.new ≡ (node_on_signal port signal (record_of self.old)).sends };
 
     /// A turn of the clock passes: a tick, or a turn that the clock misses.
-    fn tick(&mut self, out: &mut Sends)
+    fn tick_into(&mut self, out: &mut Outbox)
         requires empty { out.old ≡ [] }
         ensures node { record_of self.new ≡ (node_tick (record_of self.old)).node }
         ensures sends { out.new ≡ (node_tick (record_of self.old)).sends };
 
     /// The node resets the bus.
-    fn disturb(&mut self, out: &mut Sends)
+    fn disturb_into(&mut self, out: &mut Outbox)
         requires empty { out.old ≡ [] }
         ensures node { record_of self.new ≡ (node_disturb (record_of self.old)).node }
         ensures sends { out.new ≡ (node_disturb (record_of self.old)).sends };
 
     /// A cable is plugged into a port, numbered from 0, that has none.
-    fn plugged(&mut self, port: u8, out: &mut Sends)
+    fn plugged_into(&mut self, port: u8, out: &mut Outbox)
         requires empty { out.old ≡ [] }
         requires exists { port < (record_of self.old).state.ports }
         requires free { IsFalse (is_connected (record_of self.old).state.view.ports port) }
@@ -53,11 +55,70 @@ pub trait PortMachine {
         ensures sends { out.new ≡ (node_plugged port (record_of self.old)).sends };
 
     /// The cable is pulled from a port, numbered from 0, that has one.
-    fn pulled(&mut self, port: u8, out: &mut Sends)
+    fn pulled_into(&mut self, port: u8, out: &mut Outbox)
         requires empty { out.old ≡ [] }
         requires connected { IsTrue (is_connected (record_of self.old).state.view.ports port) }
         ensures node { record_of self.new ≡ (node_pulled port (record_of self.old)).node }
         ensures sends { out.new ≡ (node_pulled port (record_of self.old)).sends };
+
+    /// A port, numbered from 0, hears a signal.
+    fn on_signal(&mut self, port: u8, signal: Signal, out: &mut Sends)
+        requires empty { out.old ≡ [] }
+        requires exists { port < (record_of self.old).state.ports }
+        ensures node { record_of self.new ≡ (node_on_signal port signal (record_of self.old)).node }
+        ensures sends { out.new ≡ (node_on_signal port signal (record_of self.old)).sends }
+    {
+        let mut outbox = Outbox::new();
+        self.on_signal_into(port, signal, &mut outbox);
+        out.fill(&outbox);
+    }
+
+    /// A turn of the clock passes: a tick, or a turn that the clock misses.
+    fn tick(&mut self, out: &mut Sends)
+        requires empty { out.old ≡ [] }
+        ensures node { record_of self.new ≡ (node_tick (record_of self.old)).node }
+        ensures sends { out.new ≡ (node_tick (record_of self.old)).sends }
+    {
+        let mut outbox = Outbox::new();
+        self.tick_into(&mut outbox);
+        out.fill(&outbox);
+    }
+
+    /// The node resets the bus.
+    fn disturb(&mut self, out: &mut Sends)
+        requires empty { out.old ≡ [] }
+        ensures node { record_of self.new ≡ (node_disturb (record_of self.old)).node }
+        ensures sends { out.new ≡ (node_disturb (record_of self.old)).sends }
+    {
+        let mut outbox = Outbox::new();
+        self.disturb_into(&mut outbox);
+        out.fill(&outbox);
+    }
+
+    /// A cable is plugged into a port, numbered from 0, that has none.
+    fn plugged(&mut self, port: u8, out: &mut Sends)
+        requires empty { out.old ≡ [] }
+        requires exists { port < (record_of self.old).state.ports }
+        requires free { IsFalse (is_connected (record_of self.old).state.view.ports port) }
+        ensures node { record_of self.new ≡ (node_plugged port (record_of self.old)).node }
+        ensures sends { out.new ≡ (node_plugged port (record_of self.old)).sends }
+    {
+        let mut outbox = Outbox::new();
+        self.plugged_into(port, &mut outbox);
+        out.fill(&outbox);
+    }
+
+    /// The cable is pulled from a port, numbered from 0, that has one.
+    fn pulled(&mut self, port: u8, out: &mut Sends)
+        requires empty { out.old ≡ [] }
+        requires connected { IsTrue (is_connected (record_of self.old).state.view.ports port) }
+        ensures node { record_of self.new ≡ (node_pulled port (record_of self.old)).node }
+        ensures sends { out.new ≡ (node_pulled port (record_of self.old)).sends }
+    {
+        let mut outbox = Outbox::new();
+        self.pulled_into(port, &mut outbox);
+        out.fill(&outbox);
+    }
 
     /// The node hears a PHY configuration packet, which takes effect at the next reset. With
     /// `force` (R) it is then to be root if its ID is `root_id`, 0 to 63, and else not. With a gap

@@ -3,8 +3,8 @@ ghost use Rattle.std.specs.Prelude.{◌≡◌};
 ghost use Rattle.std.specs.Iterator.{YieldsFirst, item_count};
 ghost use Rattle.port_state.specs.PortSet.{all_sent};
 
+use crate::outbox::Sent;
 use crate::port_set::PortSet;
-use crate::sends::Sent;
 use crate::signal::Signal;
 use std::marker::Model;
 

@@ -1,5 +1,5 @@
 //! What a node knows of its ports, in words of which bit k is about port k.
-ghost use Rattle.std.specs.Prelude.{◌≡◌, ℕ, ◌^◌, ◌<◌, ◌==◌, ◌&&◌, not, true, if◌then◌else◌};
+ghost use Rattle.std.specs.Prelude.{◌≡◌, ℕ, ◌^◌, ◌<◌, ◌==◌, ◌&&◌, ◌↔◌, not, true, false, if◌then◌else◌};
 ghost use Rattle.port_state.specs.Entry.{without_marks};
 ghost use Rattle.port_state.specs.Ports.{asks, is_remaining, is_unnamed};
 ghost use Rattle.port_state.specs.TreeIdentify.{adopt};
@@ -172,6 +172,14 @@ impl Words {
         self.child = with_bit(self.child, at, port.child);
         self.asked = with_bit(self.asked, at, port.asked);
         self.named = with_bit(self.named, at, port.named);
+    }
+
+    /// Whether some port has a mark: it leads to a child, or it is said to be asked or named.
+    pub(crate) fn has_marks(&self) -> bool
+        ensures { result ≡ false
+            ↔ ((k : ℕ) → without_marks (port_at self.now k) ≡ port_at self.now k) }
+    {
+        self.child | self.asked | self.named != 0
     }
 
     /// Says that no port leads to a child.

@@ -27,30 +27,57 @@ pub struct PortView {
     pub named: bool,
 }
 
-/// The views of a node's ports, port 0 first, at most 16. They are kept in a few words, so that
-/// what a step asks or changes of all ports takes a few instructions.
+/// The views of a node's ports, port 0 first, at most 16. They are kept in a few words too, so that
+/// what a step asks of all ports takes a few instructions.
 #[derive(Clone, Copy, Debug)]
 pub struct PortViews {
     count: u8,
     words: Words,
+    // What the words say of each port, 0 to 15, there or not.
+    views: [PortView; 16],
 }
 
 impl Model for PortViews {
-    ghost use Rattle.std.specs.Prelude.{List, ◌≤◌};
+    ghost use Rattle.std.specs.Prelude.{List, ◌≡◌, ◌≤◌};
     ghost use Rattle.port_state.specs.declared.ports.PortView.{PortView};
 
     ghost Value = { List PortView };
 
-    ghost use Rattle.port_state.specs.codings.PortWords.{ports_of, FitsPorts};
+    ghost use Rattle.port_state.specs.codings.PortWords.{ports_of, all_ports, FitsPorts};
     ghost use Rattle.port_state.specs.codings.WordsBack.{inside_of, inside-back};
 
     ghost view = { λ p. ports_of p.count p.words };
 
-    ghost invariant = { λ p. (p.count ≤ 16) × FitsPorts p.count p.words };
+    ghost invariant = { λ p. (p.count ≤ 16) × FitsPorts p.count p.words
+        × (p.views ≡ all_ports p.words) };
 
     ghost inverse = { inside_of };
 
-    ghost inverse_ok = { λ p h. inside-back p h.1 };
+    ghost inverse_ok = { λ p h. inside-back p h.1 h.2 };
+}
+
+/// Clears the marks of each of these ports.
+#[inline(never)]
+fn unmark_all(views: &mut [PortView])
+    ensures { views.new ≡ map without_marks views.old }
+{
+    for at in 0..views.len() {
+        views[at].child = false;
+        views[at].asked = false;
+        views[at].named = false;
+    }
+}
+
+/// Makes each of these ports whose neighbour asks lead to a child.
+#[inline(never)]
+fn adopt_each(views: &mut [PortView])
+    ensures { views.new ≡ map adopt views.old }
+{
+    for at in 0..views.len() {
+        if views[at].connected && views[at].shown == Level::Parent {
+            views[at].child = true;
+        }
+    }
 }
 
 impl PortViews {
@@ -61,6 +88,13 @@ impl PortViews {
         PortViews {
             count: 0,
             words: Words::new(),
+            views: [PortView {
+                connected: false,
+                shown: Level::Reset,
+                child: false,
+                asked: false,
+                named: false,
+            }; 16],
         }
     }
 
@@ -70,7 +104,15 @@ impl PortViews {
         ensures { self.new ≡ self.old ++ port ∷ [] }
     {
         self.words.set(self.count, port);
+        self.views[usize::from(self.count)] = port;
         self.count += 1;
+    }
+
+    /// The views, port 0 first.
+    pub fn as_slice(&self) -> &[PortView]
+        ensures { result.now ≡ self.now }
+    {
+        &self.views[..usize::from(self.count)]
     }
 
     /// The number of ports.
@@ -110,6 +152,7 @@ impl PortViews {
         ensures { self.new ≡ slice_set self.old at port }
     {
         self.words.set(at as u8, port);
+        self.views[at] = port;
     }
 
     /// A port, which exists, shows a level.
@@ -118,13 +161,17 @@ impl PortViews {
         ensures { self.new ≡ change_port port (λ p. record p { shown = level }) self.old }
     {
         self.words.show(port, level);
+        self.views[usize::from(port)].shown = level;
     }
 
     /// Each port keeps its cable and its level, and leads to no child.
     pub fn clear_marks(&mut self)
         ensures { self.new ≡ map without_marks self.old }
     {
-        self.words.clear_marks();
+        if self.words.has_marks() {
+            self.words.clear_marks();
+            unmark_all(&mut self.views);
+        }
     }
 
     /// Each port whose neighbour asks leads to a child.
@@ -132,6 +179,7 @@ impl PortViews {
         ensures { self.new ≡ map adopt self.old }
     {
         self.words.adopt_all();
+        adopt_each(&mut self.views);
     }
 
     /// The child of a port, which exists, was asked.
@@ -140,6 +188,7 @@ impl PortViews {
         ensures { self.new ≡ change_port port (λ p. record p { asked = true }) self.old }
     {
         self.words.ask(port);
+        self.views[usize::from(port)].asked = true;
     }
 
     /// The child of a port, which exists, has identified itself.
@@ -148,6 +197,7 @@ impl PortViews {
         ensures { self.new ≡ change_port port (λ p. record p { named = true }) self.old }
     {
         self.words.name(port);
+        self.views[usize::from(port)].named = true;
     }
 
     /// Whether every connected port shows Idle or Parent: no neighbour resets any more.

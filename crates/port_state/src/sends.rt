@@ -1,47 +1,24 @@
 //! What a node sends in one step.
-ghost use Rattle.std.specs.Prelude.{◌≡◌, ◌<◌, ◌≤◌, ◌↔◌, IsTrue, [], ◌∷◌, ◌++◌, length, ◌+◌};
-ghost use Rattle.port_state.specs.PortSet.{on_ports, all_sent};
-ghost use Rattle.port_state.specs.Sends.{on_every};
+ghost use Rattle.std.specs.Prelude.{◌≡◌, ◌<◌, ◌≤◌, ◌↔◌, IsTrue, [], ◌∷◌, ◌++◌, length};
 
-use crate::pairs::Pairs;
-use crate::port_set::PortSet;
-use crate::ports::PortViews;
+use crate::outbox::Outbox;
 use crate::signal::Signal;
+use arrayvec::ArrayVec;
 use std::marker::Model;
 
-/// How many signals a step sends at most: seven on each of sixteen ports. No step needs as many,
-/// since the most is three packets on every port, and Done.
-pub const SENDS_LIMIT: usize = 112;
-
-/// A signal that is sent on some ports at once.
-#[derive(Clone, Copy, Debug, Default)]
-pub struct Sent {
-    /// The ports.
-    pub ports: PortSet,
-    /// The signal.
-    pub signal: Signal,
-}
-
-/// Signals with the ports on which they are sent, first to last, at most 112. What is sent on some
-/// ports at once is kept as one entry.
-#[derive(Debug, Drop)]
+/// Ports with the signals that are sent on them, first to last, at most 112.
+#[derive(Drop)]
 pub struct Sends {
-    // The entries, of which the first `count` are there.
-    entries: [Sent; SENDS_LIMIT],
-    count: usize,
+    items: ArrayVec<(u8, Signal), 112>,
 }
 
 impl Model for Sends {
-    ghost use Rattle.std.specs.Prelude.{List, length, take, ◌≤◌, ℕ};
+    ghost use Rattle.std.specs.Prelude.{List, ℕ};
     ghost use Rattle.port_state.specs.declared.signal.Signal.{Signal};
-    ghost use Rattle.port_state.specs.PortSet.{all_sent};
 
     ghost Value = { List (ℕ × Signal) };
 
-    ghost view = { λ s. all_sent (take s.count s.entries) };
-
-    ghost invariant = { λ s. (s.count ≤ length (all_sent (take s.count s.entries)))
-        × (length (all_sent (take s.count s.entries)) ≤ 112) };
+    ghost view = { λ s. s.items.items };
 }
 
 impl Sends {
@@ -50,73 +27,46 @@ impl Sends {
         ensures { result ≡ [] }
     {
         Sends {
-            entries: [Sent {
-                ports: PortSet::none(),
-                signal: Signal::Idle,
-            }; SENDS_LIMIT],
-            count: 0,
+            items: ArrayVec::new(),
         }
     }
 
     /// Appends a port, 0 to 15, and the signal that is sent on it.
     pub fn push(&mut self, port: u8, signal: Signal)
-        requires port { port < 16 }
         requires room { length self.old < 112 }
         ensures { self.new ≡ self.old ++ (port, signal) ∷ [] }
     {
-        self.entries[self.count] = Sent {
-            ports: PortSet::one(port),
-            signal,
-        };
-        self.count += 1;
+        self.items.push((port, signal));
     }
 
-    /// Appends a signal on each port of a set, in rising port order.
-    pub fn push_on(&mut self, ports: PortSet, signal: Signal)
-        requires { length self.old + length (on_ports ports signal) ≤ 112 }
-        ensures { self.new ≡ self.old ++ on_ports ports signal }
+    /// Appends what an outbox has, to a list that is empty.
+    pub fn fill(&mut self, outbox: &Outbox)
+        requires { self.old ≡ [] }
+        ensures { self.new ≡ outbox.now }
     {
-        if !ports.is_none() {
-            self.entries[self.count] = Sent { ports, signal };
-            self.count += 1;
+        for (port, signal) in outbox.pairs() {
+            self.push(port, signal);
         }
-    }
-
-    /// Appends a signal on each connected port of a node, in rising port order.
-    pub fn push_on_every(&mut self, ports: &PortViews, signal: Signal)
-        requires { length self.old + length ports.now ≤ 112 }
-        ensures sends { self.new ≡ self.old ++ on_every signal ports.now }
-        ensures fits { length self.new ≤ length self.old + length ports.now }
-    {
-        self.push_on(ports.connected(), signal);
     }
 
     /// Takes away all of them.
     pub fn clear(&mut self)
         ensures { self.new ≡ [] }
     {
-        self.count = 0;
+        self.items.clear();
     }
 
     /// Whether there are none.
     pub fn is_none(&self) -> bool
         ensures { IsTrue result ↔ (self.now ≡ []) }
     {
-        self.count == 0
+        self.items.is_empty()
     }
 
-    /// The signals with their ports, what was sent first first.
-    pub fn as_slice(&self) -> &[Sent]
-        ensures value { all_sent result.now ≡ self.now }
-        ensures few { length result.now ≤ 112 }
+    /// The ports with their signals, what was sent first first.
+    pub fn as_slice(&self) -> &[(u8, Signal)]
+        ensures { result.now ≡ self.now }
     {
-        &self.entries[..self.count]
-    }
-
-    /// Each port with the signal that is sent on it, what was sent first first.
-    pub fn pairs(&self) -> Pairs<'_>
-        ensures { result ≡ self.now }
-    {
-        Pairs::of_entries(self.as_slice())
+        self.items.as_slice()
     }
 }

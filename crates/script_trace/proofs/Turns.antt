@@ -3,9 +3,10 @@ use Rattle.std.proofs.Common.{◌≡◌, ℕ, zero, suc, ◌+◌, ◌-◌, ◌<�
 use Rattle.std.specs.Option.{option_map}
 use Rattle.std.proofs.lemmas.List.{append_assoc, length-map}
 use Rattle.std.proofs.lemmas.Option.{slice_get-map, slice_get_within, get_or_from_slice_get}
-use Rattle.port_state.specs.Clock.{Clock, even, slow, every, clock_after, TicksFor}
+use Rattle.port_state.specs.Clock.{Clock, even, slow, every, TicksFor}
 use Rattle.port_state.specs.Idle.{after_ticks}
 use Rattle.port_state.specs.Machine.{PortNode}
+use Rattle.port_state.proofs.Lemmas.{ticks-later}
 use Rattle.cable_world.specs.World.{CableWorld}
 use Rattle.cable_world.specs.Turn.{turn, turns_after}
 use Rattle.cable_world.specs.Still.{IsStillFor, after_still, StillTurnsPass}
@@ -22,13 +23,6 @@ ticks-first : (k : ℕ) (c : Clock) → TicksFor (suc k) c → TicksFor 1 c
 ticks-first k even t = t
 ticks-first k (slow n next) t = omega (arith, t)
 ticks-first k (every gap n) t = omega (arith, t)
-
-ticks-later : (k : ℕ) (c : Clock) → TicksFor (suc k) c → TicksFor k (clock_after c)
-ticks-later k even t = t
-ticks-later k (slow zero next) t = absurd (omega (arith, t))
-ticks-later k (slow (suc n) next) t = omega (arith, t)
-ticks-later k (every gap zero) t = absurd (omega (arith, t))
-ticks-later k (every gap (suc n)) t = omega (arith, t)
 
 all-first : (k : ℕ) (w : CableWorld) → AllTick (suc k) w → AllTick 1 w
 all-first k w ticks = λ i x at. ticks-first k x.clock (ticks i x at)

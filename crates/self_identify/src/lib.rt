@@ -10,5 +10,5 @@ mod group;
 mod hearing;
 mod ticks;
 
-pub use hearing::ident_signal;
-pub use ticks::{ident_tick, node_count};
+pub use hearing::{ident_signal, ident_signal_into};
+pub use ticks::{ident_tick, ident_tick_into, node_count};

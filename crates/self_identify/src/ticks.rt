@@ -12,7 +12,7 @@ use crate::group;
 use arrayvec::ArrayVec;
 use phy_packet::is_packet_zero;
 use port_state::states::NodeState;
-use port_state::{Phase, PortViews, Sends, Signal};
+use port_state::{Outbox, Phase, PortViews, Sends, Signal};
 
 /// How many nodes a list of packets shows: so many of its quadlets are a packet zero.
 pub fn node_count(list: &[u32]) -> usize
@@ -33,7 +33,7 @@ fn append(list: &mut ArrayVec<u32, 252>, quads: &[u32])
 }
 
 /// Sends each packet in turn on every connected port.
-fn send_packets(quads: &[u32], ports: &PortViews, out: &mut Sends)
+fn send_packets(quads: &[u32], ports: &PortViews, out: &mut Outbox)
     requires few { length ports.now ≤ 16 }
     requires packets { length quads.now ≤ 4 }
     requires room { length out.old + 16 * length quads.now ≤ 112 }
@@ -48,7 +48,7 @@ fn send_packets(quads: &[u32], ports: &PortViews, out: &mut Sends)
 /// S4 to A0: the node's ID is the number of the nodes before it. It sends its packets on every
 /// connected port, and Done to its parent.
 #[inline(never)]
-fn name_itself(s: &mut NodeState, out: &mut Sends)
+fn name_itself(s: &mut NodeState, out: &mut Outbox)
     requires bounded { IsBounded s.old }
     requires empty { out.old ≡ [] }
     ensures state { s.new ≡ (naming_step s.old).state }
@@ -77,6 +77,19 @@ fn name_itself(s: &mut NodeState, out: &mut Sends)
 /// children one after the other, the lowest port first and each once, when the one before has said
 /// Done; then it identifies itself. `out` is empty, and then has what was sent.
 pub fn ident_tick(s: &mut NodeState, out: &mut Sends)
+    requires valid { IsValid s.old }
+    requires identifies { s.old.view.phase ≡ Phase.SelfIdent }
+    requires empty { out.old ≡ [] }
+    ensures state { s.new ≡ (ident_step s.old).state }
+    ensures sends { out.new ≡ (ident_step s.old).sends }
+{
+    let mut outbox = Outbox::new();
+    ident_tick_into(s, &mut outbox);
+    out.fill(&outbox);
+}
+
+/// Does what `ident_tick` does, and passes on what is sent.
+pub fn ident_tick_into(s: &mut NodeState, out: &mut Outbox)
     requires valid { IsValid s.old }
     requires identifies { s.old.view.phase ≡ Phase.SelfIdent }
     requires empty { out.old ≡ [] }

@@ -9,4 +9,4 @@ mod parent_shake;
 mod ticks;
 mod tree_start;
 
-pub use ticks::tree_tick;
+pub use ticks::{tree_tick, tree_tick_into};

@@ -7,11 +7,11 @@ ghost use Rattle.port_state.specs.TreeIdentify.{parent_shake_row};
 ghost use Rattle.port_state.specs.Tick.{does};
 
 use port_state::states::NodeState;
-use port_state::{Level, Phase, Sends, Signal};
+use port_state::{Level, Outbox, Phase, Signal};
 
 /// T2 to S0: the root is granted at once; any other node where its parent port shows Child, to
 /// which it sends Idle.
-pub fn tick(s: &mut NodeState, out: &mut Sends)
+pub fn tick(s: &mut NodeState, out: &mut Outbox)
     requires few { length s.old.view.ports ≤ 16 }
     requires parent { ForSome s.old.view.parent (λ p. p < length s.old.view.ports) }
     requires alone { IsFalse (parent_asks s.old.view.parent s.old) }

@@ -5,7 +5,7 @@ ghost use Rattle.port_state.specs.TreeIdentify.{is_decided, tree_start_row};
 ghost use Rattle.port_state.specs.Tick.{does};
 
 use port_state::states::NodeState;
-use port_state::{Level, Phase, PortViews, Sends, Signal};
+use port_state::{Level, Outbox, Phase, PortViews, Signal};
 
 /// Whether every neighbour asks, or all but one do and the node needn't wait to become root.
 fn is_decided(s: &NodeState) -> bool
@@ -18,7 +18,7 @@ fn is_decided(s: &NodeState) -> bool
 }
 
 /// Sends Child on each port whose neighbour asks, and Parent on each other, in rising port order.
-fn send_notices(ports: &PortViews, out: &mut Sends)
+fn send_notices(ports: &PortViews, out: &mut Outbox)
     requires few { length ports.now ≤ 16 }
     requires room { length out.old + length ports.now ≤ 112 }
     ensures { out.new ≡ out.old ++ notices ports.now }
@@ -38,7 +38,7 @@ fn send_notices(ports: &PortViews, out: &mut Sends)
 
 /// T0 to T1 where the roles of the ports are decided; else the node says that its configuration
 /// timed out, if it has waited that long.
-pub fn tick(s: &mut NodeState, out: &mut Sends)
+pub fn tick(s: &mut NodeState, out: &mut Outbox)
     requires few { length s.old.view.ports ≤ 16 }
     requires empty { out.old ≡ [] }
     ensures state { s.new ≡ (does false (tree_start_row s.old) s.old).state }

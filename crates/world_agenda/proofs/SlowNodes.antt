@@ -8,7 +8,7 @@ use Rattle.cabling.proofs.Lemmas.{none_of_zero}
 use Rattle.port_state.specs.Clock.{Clock, even, slow, every, is_even, misses, clock_after, clock_on, TicksFor}
 use Rattle.port_state.specs.Machine.{PortNode}
 use Rattle.port_state.specs.Idle.{after_ticks}
-use Rattle.port_state.proofs.Lemmas.{after-clock}
+use Rattle.port_state.proofs.Lemmas.{after-clock, still-even}
 use Rattle.cable_world.specs.declared.act.Act.{Act}
 use Rattle.cable_world.specs.World.{CableWorld}
 use Rattle.cable_world.specs.Turn.{turn}
@@ -20,11 +20,6 @@ use Rattle.world_agenda.specs.Slow.{HasSlow}
 use Rattle.world_agenda.proofs.Blend.{some-at}
 
 -- ---- an even clock
-
-still-even : (c : Clock) → is_even c ≡ true → is_even (clock_after c) ≡ true
-still-even even h = refl
-still-even (slow k next) h = absurd cc
-still-even (every gap k) h = absurd cc
 
 even-later : (count : ℕ) (c : Clock) → is_even c ≡ true → is_even (clock_on count c) ≡ true
 even-later zero c h = h

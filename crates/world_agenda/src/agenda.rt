@@ -26,7 +26,7 @@ use cable_world::{
     worlds_stay_reached,
 };
 use cabling::{Cabling, End, NodeSet, OutOfMemory};
-use port_state::{PortMachine, Sends, TimeRanges, Timing, View};
+use port_state::{Outbox, PortMachine, TimeRanges, Timing, View};
 use self_id::Attrs;
 use std::alloc::{AllocError, Global};
 
@@ -53,7 +53,7 @@ pub struct AgendaWorld<M: PortMachine> {
     givers: NodeSet,
     // The nodes whose clocks miss turns.
     slow: NodeSet,
-    out: Sends,
+    out: Outbox,
     spent: bool,
     ghost reached: { IsFalse spent → ∥ IsReached (world_record delay longest cabling
         (now_at turns nodes.items) wires.items changed.items turns) ∥₁ },
@@ -141,7 +141,7 @@ impl<M: PortMachine + Drop> AgendaWorld<M> {
             nodes: agenda_nodes(alloc, machines)?,
             turns: 0,
             level: 0,
-            out: Sends::new(),
+            out: Outbox::new(),
             spent: false,
         })
     }

@@ -5,7 +5,7 @@ ghost use Rattle.port_state.specs.Group.{shown_attrs};
 ghost use Rattle.port_state.specs.Idle.{IsIdleFor};
 ghost use Rattle.world_agenda.specs.Clock.{caught_up};
 
-use port_state::{PortMachine, Sends, Signal, Timing, View};
+use port_state::{Outbox, PortMachine, Signal, Timing, View};
 use self_id::Attrs;
 
 /// A machine with the turn at whose end it stands, and for how many turns from there nothing happens to
@@ -114,29 +114,29 @@ impl<M: PortMachine> AgendaNode<M> {
 impl<M: PortMachine> PortMachine for AgendaNode<M> {
     ghost record_of = { λ n. M.record_of n.machine };
 
-    fn on_signal(&mut self, port: u8, signal: Signal, out: &mut Sends) {
+    fn on_signal_into(&mut self, port: u8, signal: Signal, out: &mut Outbox) {
         self.idle = 0;
-        self.machine.on_signal(port, signal, out);
+        self.machine.on_signal_into(port, signal, out);
     }
 
-    fn tick(&mut self, out: &mut Sends) {
-        self.machine.tick(out);
+    fn tick_into(&mut self, out: &mut Outbox) {
+        self.machine.tick_into(out);
         self.idle = self.machine.idle_for();
     }
 
-    fn disturb(&mut self, out: &mut Sends) {
+    fn disturb_into(&mut self, out: &mut Outbox) {
         self.idle = 0;
-        self.machine.disturb(out);
+        self.machine.disturb_into(out);
     }
 
-    fn plugged(&mut self, port: u8, out: &mut Sends) {
+    fn plugged_into(&mut self, port: u8, out: &mut Outbox) {
         self.idle = 0;
-        self.machine.plugged(port, out);
+        self.machine.plugged_into(port, out);
     }
 
-    fn pulled(&mut self, port: u8, out: &mut Sends) {
+    fn pulled_into(&mut self, port: u8, out: &mut Outbox) {
         self.idle = 0;
-        self.machine.pulled(port, out);
+        self.machine.pulled_into(port, out);
     }
 
     fn set_config(&mut self, root_id: u8, force: bool, gap: Option<u8>) {

@@ -26,7 +26,7 @@ use crate::node::AgendaNode;
 use cable_world::parts::{ArrivalRow, WireRow, act_world, turn_one};
 use cable_world::{Act, ActStop};
 use cabling::{Cabling, NodeSet, OutOfMemory};
-use port_state::{PortMachine, PortSet, Sends};
+use port_state::{Outbox, PortMachine, PortSet};
 
 // ---- between turns
 
@@ -73,7 +73,7 @@ pub fn act_agenda<M: PortMachine>(
     changed: &mut [u32],
     turns: u32,
     level: u32,
-    out: &mut Sends,
+    out: &mut Outbox,
     agenda: &mut Agenda,
     live: &mut NodeSet,
 ) -> Result<(), ActStop>
@@ -226,7 +226,7 @@ fn turn_node<M: PortMachine>(
     heard: PortSet,
     turns: u32,
     last: u32,
-    out: &mut Sends,
+    out: &mut Outbox,
     wires: &mut WireRow,
     agenda: &mut Agenda,
 ) -> Result<u32, OutOfMemory>
@@ -284,7 +284,7 @@ fn turn_nodes<M: PortMachine>(
     visited: NodeSet,
     turns: u32,
     changed: &mut [u32],
-    out: &mut Sends,
+    out: &mut Outbox,
     wires: &mut [WireRow],
     agenda: &mut Agenda,
     live: &mut NodeSet,
@@ -349,7 +349,7 @@ pub fn turn_agenda<M: PortMachine>(
     changed: &mut [u32],
     turns: u32,
     arrivals: &mut [ArrivalRow],
-    out: &mut Sends,
+    out: &mut Outbox,
     agenda: &mut Agenda,
     live: &mut NodeSet,
     givers: &mut NodeSet,

@@ -8,7 +8,7 @@ use Rattle.port_state.specs.declared.signal.Signal.{Signal}
 use Rattle.port_state.specs.Ports.{PortNumber}
 use Rattle.port_state.specs.Sends.{PortSignal, sent_on}
 use Rattle.port_state.specs.PortSet.{has_port, all_sent}
-use Rattle.port_state.specs.declared.sends.Sent.{Sent}
+use Rattle.port_state.specs.declared.outbox.Sent.{Sent}
 use Rattle.port_state.proofs.Lemmas.{has-above, sent_on-all_sent}
 use Rattle.cable_world.specs.declared.wire.UnderWay.{UnderWay}
 use Rattle.cable_world.specs.Wire.{Travelling, Wire, empty_wire, new_signal, add_signals, age_signal, age_wire, gives, arrives, stays}

@@ -1,9 +1,11 @@
 -- Worlds that never settle: how it is shown that no number of turns is enough.
-use Rattle.std.proofs.Common.{◌≡◌, ◌≢◌, ◌⊎◌, ℕ, zero, suc, ◌<◌, ◌≤◌, Bool, true, false, not, ◌&&◌, List, [], ◌∷◌, Option, Some, None, is_some, nat_lt, map, slice_get, refl, sym, ◌∙◌, ap, subst, arith, inl, inr}
+use Rattle.std.proofs.Common.{◌≡◌, ◌≢◌, ◌⊎◌, ℕ, zero, suc, ◌<◌, ◌≤◌, Bool, true, false, not, ◌&&◌, List, [], ◌∷◌, Option, Some, None, is_some, nat_lt, map, slice_get, bit_or, ◌^◌, if◌then◌else◌, refl, sym, ◌∙◌, ap, subst, arith, inl, inr}
 use Rattle.std.proofs.lemmas.Bool.{cases_lt, and_parts}
+use Rattle.std.proofs.lemmas.Nat.{le_or_l}
 use Rattle.std.specs.Prelude.{IsSome, IsSomeAnd}
 use Rattle.std.specs.List.{list_all}
 use Rattle.port_state.specs.declared.view.View.{View}
+use Rattle.port_state.specs.Contention.{draws_with}
 use Rattle.port_state.specs.Machine.{PortNode}
 use Rattle.cable_world.specs.World.{CableWorld, NodeSet}
 use Rattle.cable_world.specs.Turn.{turn}
@@ -190,3 +192,16 @@ comes-round holds Start p some held back opens w s k set =
     on-the-way : (n : ℕ) → OnTheWay (quiet_after (always holds) n w)
     on-the-way zero = record { from = w; starts = s; after = 0; below = some; is = refl }
     on-the-way (suc n) = let r = on-the-way n in next (quiet_after (always holds) n w) r (cases_lt (suc r.after) p)
+
+-- ---- coins
+
+-- a coin more keeps what was drawn
+pub keeps-drawn : (n f : ℕ) → 1 ≤ f → 1 ≤ draws_with true n f
+keeps-drawn n f some = go (nat_lt n 32)
+  where
+    more : 1 ≤ bit_or f (2 ^ n)
+    more = let grows = le_or_l f (2 ^ n) in omega (arith, some, grows)
+
+    go : (b : Bool) → 1 ≤ (if b then bit_or f (2 ^ n) else f)
+    go true = more
+    go false = some

@@ -3,8 +3,7 @@
 -- with a long wait that is longer than any short one in turns. But the clock of node 1 misses every
 -- third turn, three of them in each of its waits, and so these are eight turns long too. They contend
 -- for ever, though the two coins of a round are never equal.
-use Rattle.std.proofs.Common.{◌≡◌, ℕ, ◌+◌, ◌<◌, ◌≤◌, Bool, true, false, List, [], ◌∷◌, Some, map, min, bit_or, nat_lt, if◌then◌else◌, ◌^◌, refl, subst, sym, arith}
-use Rattle.std.proofs.lemmas.Nat.{le_or_l}
+use Rattle.std.proofs.Common.{◌≡◌, ℕ, ◌+◌, ◌<◌, ◌≤◌, true, false, List, [], ◌∷◌, Some, map, min, refl, subst, sym, arith}
 use Rattle.self_id.specs.Group.{group}
 use Rattle.port_state.specs.declared.signal.Level.TheVariants as level
 use Rattle.port_state.specs.declared.signal.Phase.TheVariants.{Contend}
@@ -28,7 +27,7 @@ use Rattle.cable_world.proofs.worked.Summary.{attrs, at, after_plug}
 use Rattle.cable_world.specs.Run.{ComesOf, starts}
 use Rattle.cable_world.proofs.StaysReached.{all-turned}
 use Rattle.cable_world.proofs.worked.ComesOf.{comes-plugged}
-use Rattle.cable_world.proofs.worked.NeverSettles.{NeverSettles, IsOpen, always, each_view, is_unnamed, open-unnamed, first_draws, two-unlike, Below, below, comes-round}
+use Rattle.cable_world.proofs.worked.NeverSettles.{NeverSettles, IsOpen, always, each_view, is_unnamed, open-unnamed, first_draws, two-unlike, Below, below, comes-round, keeps-drawn}
 
 -- ---- times that suit, also with a clock that misses turns
 
@@ -137,20 +136,9 @@ opens t n f i some l =
     open-unnamed (quiet_after (always none) i (rivals t n f)) now.0
     (two-unlike (quiet_after (always none) i (rivals t n f)) f 0 now.1 (λ same. absurd (omega (arith, some, same))))
 
--- a coin more keeps what was drawn
-keeps : (n f : ℕ) → 1 ≤ f → 1 ≤ draws_with true n f
-keeps n f some = go (nat_lt n 32)
-  where
-    more : 1 ≤ bit_or f (2 ^ n)
-    more = let grows = le_or_l f (2 ^ n) in omega (arith, some, grows)
-
-    go : (b : Bool) → 1 ≤ (if b then bit_or f (2 ^ n) else f)
-    go true = more
-    go false = some
-
 again : (t n f : ℕ) → 1 ≤ f → Start (quiet_after (always none) 9 (rivals t n f))
 unfolding Start
-again t n f some = (t + 1 + 1 + 1 + 1 + 1 + 1 + 1 + 1 + 1, min (n + 1) 65535, draws_with true n f, keeps n f some, round t n f)
+again t n f some = (t + 1 + 1 + 1 + 1 + 1 + 1 + 1 + 1 + 1, min (n + 1) 65535, draws_with true n f, keeps-drawn n f some, round t n f)
 
 never : NeverSettles none start
 unfolding Start

@@ -14,7 +14,8 @@ use Rattle.port_state.specs.declared.timing.Timing.{Timing}
 use Rattle.cable_world.specs.Times.{SuitsSlowly}
 use Rattle.cable_world.proofs.Lemmas.{misses-slowly}
 use Rattle.port_state.specs.Clock.{Clock, clock_after, TicksFor}
-use Rattle.convergence.proofs.turns.Clocks.{ticks-less, ticks-after, ticks-missed, misses-none}
+use Rattle.port_state.proofs.Lemmas.{ticks-fewer, ticks-later}
+use Rattle.convergence.proofs.turns.Clocks.{ticks-missed, misses-none}
 use Rattle.convergence.proofs.turns.Moves.{Drew, DrewNone, Shook, Waits, TookRival, AskedAgain, Fights, coin_of, beat-shaken, beat-fought}
 use Rattle.convergence.proofs.coins.Rivals.{none-so-old, ages-first, Beats, Rivals, swapped, together-round, same-round, stand-round, no-contend, shaking-silent, other-level, up-late, up-mid, not-down, drew-sees, accepted-sees, took-sees, again-sees, draws-not, adds-draw, adds-still, coin-still, asks-on, asks-here, sees-child}
 
@@ -392,11 +393,11 @@ near-on d x y r ux uy hx hy cx cy w v same near = go (waited-timer d y x s uy ux
     go (inr t) (inl a) = inl (omega (arith, up, t, a))
     go (inr t) (inr a) =
         let left : (ticking y).state.view.wait - (ticking y).state.view.timer ≡ rest = omega (arith, same, t, split) in
-        inr (omega (arith, up, t, a.0), subst (λ n. TicksFor n (clock_after y.clock)) (sym left) (ticks-after rest y.clock (subst (λ n. TicksFor n y.clock) split a.1)), times a.2)
+        inr (omega (arith, up, t, a.0), subst (λ n. TicksFor n (clock_after y.clock)) (sym left) (ticks-later rest y.clock (subst (λ n. TicksFor n y.clock) split a.1)), times a.2)
     go (inl t) (inl a) =
         let left : (ticking y).state.view.wait - (ticking y).state.view.timer ≤ y.node.timing.long = omega (arith, same, t.1, wait-counted d y x s uy ux cy) in
         let slow = missed-by y r.beats_back t.0 in
-        inr (omega (arith, up, t.1, a), ticks-less _ y.node.timing.long (clock_after y.clock) left slow.0, times (apart-slow d x y r slow.1))
+        inr (omega (arith, up, t.1, a), ticks-fewer _ y.node.timing.long (clock_after y.clock) left slow.0, times (apart-slow d x y r slow.1))
     go (inl t) (inr a) = absurd (misses-none rest y.clock (subst (λ n. TicksFor n y.clock) split a.1) (r.beats_back.missed t.0))
 
 module _
@@ -637,10 +638,10 @@ module _
       go (inr t) (inl a) = inl (omega (arith, t, a))
       go (inr t) (inr a) =
           let left : (ticking x).state.view.wait - (ticking x).state.view.timer ≡ rest = omega (arith, same, t, split) in
-          inr (omega (arith, t, a.0), subst (λ n. TicksFor n (clock_after x.clock)) (sym left) (ticks-after rest x.clock (subst (λ n. TicksFor n x.clock) split a.1)), long-on a.2, a.3)
+          inr (omega (arith, t, a.0), subst (λ n. TicksFor n (clock_after x.clock)) (sym left) (ticks-later rest x.clock (subst (λ n. TicksFor n x.clock) split a.1)), long-on a.2, a.3)
       go (inl t) (inl a) =
           let left : (ticking x).state.view.wait - (ticking x).state.view.timer ≤ x.node.timing.long = omega (arith, same, t.1, wait-counted d x y r ux uy cx) in
           let slow = missed-by x r.beats t.0 in
           let known = slowly t.0 in
-          inr (omega (arith, t.1, a), ticks-less _ x.node.timing.long (clock_after x.clock) left slow.0, long-on known.0, known.1)
+          inr (omega (arith, t.1, a), ticks-fewer _ x.node.timing.long (clock_after x.clock) left slow.0, long-on known.0, known.1)
       go (inl t) (inr a) = absurd (misses-none rest x.clock (subst (λ n. TicksFor n x.clock) split a.1) (r.beats.missed t.0))

@@ -3,7 +3,7 @@ use Rattle.std.proofs.Common.{◌≡◌, ◌⊎◌, inl, inr, ℕ, ◌≤◌, Bo
 use Rattle.std.specs.Prelude.{nat_le}
 use Rattle.port_state.specs.declared.timing.Timing.{Timing}
 use Rattle.cable_world.specs.Times.{Suits}
-use Rattle.cable_world.proofs.Lemmas.{suits-cables}
+use Rattle.cable_world.proofs.Lemmas.{beat-misses, suits-cables}
 use Rattle.convergence.proofs.Common.{End, Wiring, far, ports_of, Phase, NodeState, beat, is_child, is_port, port_is, draws_with, IsValid, PortNode, Travelling, new_signal, CableWorld, wire_of, hold, ComesOfPowerOn, inbox, turn_at, turn, IsLawful, is_before_tree, is_shaking, signals_of, has_reset, shown_or_idle, level_shown, leads_down, cabling-after, delay-after, before, hears, ticks, side, side-node, side-wire, ticking, not-both, turn-state, comes, holds-kept, PlacedHold, HoldSchedule, with_holds, quiet_after, AddsDraw, DrewTogether, KnowsCoins, AreApart, AreRivals, Contests, IsContested, contrary}
 use Rattle.port_state.specs.declared.signal.Phase.TheVariants as phase
 use Rattle.port_state.specs.declared.signal.Signal.TheVariants as signal
@@ -25,17 +25,6 @@ use Rattle.convergence.proofs.coins.CoinsInTurns.{knows-after}
 use Rattle.convergence.proofs.coins.Rivals.{Rivals}
 use Rattle.convergence.proofs.turns.Roles.{early-parentless}
 use Rattle.convergence.proofs.turns.PortFacts.{same-port}
-
--- ---- clocks
-
-beat-missed : (x : PortNode) → beat x ≡ None → misses x.clock ≡ true
-beat-missed x e = go (misses x.clock) refl e
-  where
-    go : (b : Bool) → misses x.clock ≡ b → (if b then None else Some (coin x.coins)) ≡ None → b ≡ true
-    go true f g = refl
-    go false f g = absurd cc
-
--- ---- turns
 
 pub rivals-of :
     (w : CableWorld) → IsLawful w → IsContested w → (a b : End) (x y : PortNode) →
@@ -65,8 +54,8 @@ rivals-of w l c a b x y e at_x at_y =
       waits_back = ty.long_least;
       short = tx.short_most;
       short_back = ty.short_most;
-      beats = record { missed = beat-missed x; longest = w.longest; keeps = l.paced a.node x at_x };
-      beats_back = record { missed = beat-missed y; longest = w.longest; keeps = l.paced b.node y at_y };
+      beats = record { missed = beat-misses x; longest = w.longest; keeps = l.paced a.node x at_x };
+      beats_back = record { missed = beat-misses y; longest = w.longest; keeps = l.paced b.node y at_y };
     }
 
 turn-cable :

@@ -8,8 +8,9 @@ use Rattle.port_state.specs.Resetting.{is_calm}
 use Rattle.cable_world.specs.Phases.{is_after_hold}
 use Rattle.cable_world.specs.Times.{Suits, KeepsTime}
 use Rattle.port_state.specs.Clock.{clock_after, TicksFor}
+use Rattle.port_state.proofs.Lemmas.{ticks-fewer}
 use Rattle.cable_world.proofs.Lemmas.{after-longest, in-turn-rises, beat-misses, between-known, misses-slowly, steady-at}
-use Rattle.convergence.proofs.turns.Clocks.{ticks-less, ticks-missed, misses-none}
+use Rattle.convergence.proofs.turns.Clocks.{ticks-missed, misses-none}
 use Rattle.convergence.specs.Turns.{slack, seen_turns}
 use Rattle.convergence.proofs.turns.SlowTurns.{HasRun, run-on, run-over}
 use Rattle.convergence.proofs.turns.TwoTurns.{Misses, slack-later, not-missed}
@@ -89,7 +90,7 @@ module _
         elim t.0 [
           | inl m ↦
               let pace = (misses-slowly w.longest x.0.state.timing x.0.clock m.0 (keeps i k x.0 x.1)).0 in
-              inr (inr (subst (TicksFor 1) (sym t.1) (ticks-less 1 x.0.state.timing.long (clock_after x.0.clock) (some-long i k x.0 x.1) (ticks-missed x.0.state.timing.long x.0.clock m.0 pace))))
+              inr (inr (subst (TicksFor 1) (sym t.1) (ticks-fewer 1 x.0.state.timing.long (clock_after x.0.clock) (some-long i k x.0 x.1) (ticks-missed x.0.state.timing.long x.0.clock m.0 pace))))
           | inr r ↦ inl (omega (arith, r.1, ap (λ (t : Timing). t.hold) same))
         ],
       )

@@ -4,11 +4,12 @@ use Rattle.convergence.proofs.Common.{Phase, NodeState, Timing, beat, PortNode, 
 use Rattle.port_state.specs.declared.signal.Phase.TheVariants as phase
 use Rattle.cable_world.specs.Times.{Suits, KeepsTime}
 use Rattle.port_state.specs.Clock.{misses, clock_after, TicksFor}
+use Rattle.port_state.proofs.Lemmas.{ticks-fewer}
 use Rattle.cable_world.proofs.Lemmas.{after-longest, after-delay, beat-misses, misses-slowly}
 use Rattle.convergence.specs.Turns.{slack}
 use Rattle.convergence.proofs.turns.SlowTurns.{HasRun, run-on, run-over}
 use Rattle.convergence.proofs.turns.TwoTurns.{some-slack}
-use Rattle.convergence.proofs.turns.Clocks.{ticks-less, ticks-missed, misses-none}
+use Rattle.convergence.proofs.turns.Clocks.{ticks-missed, misses-none}
 use Rattle.convergence.proofs.turns.CalmTurns.{Calmly, calmly, heard_by, early-before, done-calm, turn-done}
 use Rattle.convergence.proofs.turns.BeforeTree.{StaysInStart, start-on}
 
@@ -98,7 +99,7 @@ module _ (hs : HoldSchedule) (v : CableWorld) (l : IsLawful v) (done : ResetsAre
       TicksFor 1 (clock_after x.clock)
   rests i k x at m =
       let pace = (misses-slowly v.longest x.state.timing x.clock m (keeps i k x at)).0 in
-      ticks-less 1 x.state.timing.long (clock_after x.clock) (some-long i k x at) (ticks-missed x.state.timing.long x.clock m pace)
+      ticks-fewer 1 x.state.timing.long (clock_after x.clock) (some-long i k x at) (ticks-missed x.state.timing.long x.clock m pace)
 
   abbrev pub first-of : (i k : ℕ) (y : PortNode) → Started i k y → IsEarly (later i) k
   first-of i k y s = record { node = s.calm.node; at = s.calm.at; early = start-early s.calm.node.state.view.phase s.start }

@@ -1,19 +1,6 @@
 -- Clocks, from one turn to the next.
-use Rattle.std.proofs.Common.{◌≡◌, ℕ, zero, suc, ◌≤◌, true, arith}
+use Rattle.std.proofs.Common.{◌≡◌, ℕ, zero, suc, true, arith}
 use Rattle.port_state.specs.Clock.{Clock, even, slow, every, misses, clock_after, TicksFor, KeepsPace}
-
-pub ticks-less : (n p : ℕ) (c : Clock) → n ≤ p → TicksFor p c → TicksFor n c
-ticks-less n p even h t = tt
-ticks-less n p (slow k next) h t = omega (arith, h, t)
-ticks-less n p (every gap k) h t = omega (arith, h, t)
-
--- a turn later
-pub ticks-after : (n : ℕ) (c : Clock) → TicksFor (suc n) c → TicksFor n (clock_after c)
-ticks-after n even t = tt
-ticks-after n (slow zero next) t = absurd (omega (arith, t))
-ticks-after n (slow (suc k) next) t = omega (arith, t)
-ticks-after n (every gap zero) t = absurd (omega (arith, t))
-ticks-after n (every gap (suc k)) t = omega (arith, t)
 
 -- after a turn that is missed
 pub ticks-missed : (p : ℕ) (c : Clock) → misses c ≡ true → KeepsPace p c → TicksFor p (clock_after c)

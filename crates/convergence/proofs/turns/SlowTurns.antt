@@ -4,9 +4,10 @@ use Rattle.std.proofs.lemmas.Nat.{le-div}
 use Rattle.port_state.specs.declared.timing.Timing.{Timing}
 use Rattle.port_state.specs.Clock.{Clock, misses, clock_after, TicksFor, KeepsPace, most_turns}
 use Rattle.port_state.specs.Machine.{PortNode}
+use Rattle.port_state.proofs.Lemmas.{ticks-later}
 use Rattle.cable_world.specs.Times.{SuitsSlowly, KeepsTime}
 use Rattle.cable_world.proofs.Lemmas.{misses-slowly}
-use Rattle.convergence.proofs.turns.Clocks.{ticks-after, ticks-missed, misses-none}
+use Rattle.convergence.proofs.turns.Clocks.{ticks-missed, misses-none}
 
 -- a clock of this pace has ticked so often in so many turns, and may miss the next
 pub record MayMiss (pace turns ticks : ℕ) : Type 0 where
@@ -38,7 +39,7 @@ slow-tick pace n t c (inr a) = elim (more-or (a.since + 1) pace) [
         most = omega (arith, a.most);
         least = omega (arith, a.least);
         under = more;
-        rests = ticks-after (pace - (a.since + 1)) c (subst (λ k. TicksFor k c) left a.rests);
+        rests = ticks-later (pace - (a.since + 1)) c (subst (λ k. TicksFor k c) left a.rests);
       })
   | inr last ↦
       let z : (a.gaps + 1) * pace ≡ a.gaps * pace + pace = grind arith in

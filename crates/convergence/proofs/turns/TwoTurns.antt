@@ -2,10 +2,11 @@
 use Rattle.std.proofs.Common.{◌≡◌, ◌⊎◌, inl, inr, ℕ, zero, suc, ◌+◌, ◌≤◌, Bool, true, false, List, [], ◌∷◌, Some, slice_get, if◌then◌else◌, refl, sym, ◌∙◌, ap, subst, arith}
 use Rattle.convergence.proofs.Common.{PortNode, CableWorld, turn, turn_at, IsLawful, node-after, some-same, before, one-quiet, quiet-lawful, HoldSchedule, quiet_after}
 use Rattle.port_state.specs.Clock.{Clock, even, is_even, misses, clock_after, TicksFor}
+use Rattle.port_state.proofs.Lemmas.{ticks-fewer, still-even}
 use Rattle.cable_world.specs.Times.{Suits}
 use Rattle.cable_world.proofs.Lemmas.{even-slack, misses-slowly}
 use Rattle.convergence.specs.Turns.{slack_of, slack}
-use Rattle.convergence.proofs.turns.Clocks.{ticks-less, ticks-missed, misses-none}
+use Rattle.convergence.proofs.turns.Clocks.{ticks-missed, misses-none}
 
 -- ---- even clocks
 
@@ -30,10 +31,6 @@ even-or (n ∷ ns) = go (is_even n.clock) refl (even-or ns)
 pub slack-most : (w : CableWorld) → slack w ≤ 1
 slack-most w = elim (even-or w.nodes) [ inl a ↦ omega (arith, a.1) | inr a ↦ omega (arith, a) ]
 
-even-after : (c : Clock) → is_even c ≡ true → is_even (clock_after c) ≡ true
-even-after even h = refl
-even-after c h = absurd cc
-
 even-ticks : (c : Clock) → is_even c ≡ true → misses c ≡ true → ⊥
 even-ticks even h m = cc
 even-ticks c h m = cc
@@ -41,7 +38,7 @@ even-ticks c h m = cc
 even-turn : (w : CableWorld) → IsLawful w → AreEven w.nodes → AreEven (turn w).nodes
 even-turn w l h k y at =
     let x = before w k y l.well_formed at in
-    ap (λ (z : PortNode). is_even z.clock) x.2 ∙ even-after x.0.clock (h k x.0 x.1)
+    ap (λ (z : PortNode). is_even z.clock) x.2 ∙ still-even x.0.clock (h k x.0 x.1)
 
 even-later :
     (hs : HoldSchedule) (v : CableWorld) → IsLawful v → AreEven v.nodes → (i : ℕ) →
@@ -89,7 +86,7 @@ module _ (hs : HoldSchedule) (v : CableWorld) (l : IsLawful v) where
       let is : (turn_at u k m.node).node ≡ n.node = some-same (turn_at u k m.node).node n.node (sym (node-after u k m.node s.well_formed.count m.at) ∙ ap (λ (t : CableWorld). slice_get t.nodes k) (sym (one-quiet hs i v)) ∙ n.at) in
       let fits : Suits u.delay u.longest m.node.state.timing = (s.well_formed.nodes k m.node m.at).timing in
       let pace = (misses-slowly u.longest m.node.state.timing m.node.clock m.missed (s.paced k m.node m.at)).0 in
-      let rests : TicksFor 1 (clock_after m.node.clock) = ticks-less 1 m.node.state.timing.long (clock_after m.node.clock) (omega (arith, fits.long_least, fits.short_most, fits.short_least)) (ticks-missed m.node.state.timing.long m.node.clock m.missed pace) in
+      let rests : TicksFor 1 (clock_after m.node.clock) = ticks-fewer 1 m.node.state.timing.long (clock_after m.node.clock) (omega (arith, fits.long_least, fits.short_most, fits.short_least)) (ticks-missed m.node.state.timing.long m.node.clock m.missed pace) in
       misses-none 0 n.node.clock (subst (λ (t : PortNode). TicksFor 1 t.clock) is rests) n.missed
 
   -- so of one turn, or of two where a clock may miss one, one isn't missed

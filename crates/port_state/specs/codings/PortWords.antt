@@ -48,6 +48,10 @@ port_at w k = record {
 abbrev pub ports_of : ℕ → Words → List PortView
 ports_of count w = map (port_at w) (range_with_len 0 count)
 
+-- what they say of 16 ports, there or not
+unfoldable pub all_ports : Words → List PortView
+all_ports w = ports_of 16 w
+
 -- the lowest bit of a word
 abbrev pub lowest_bit : ℕ → Option ℕ
 lowest_bit word = if word == 0 then None else Some (trailing_zeros w16 word)

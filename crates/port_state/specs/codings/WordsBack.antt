@@ -10,7 +10,7 @@ use lib.Lanes.{mask_l}
 use Rattle.port_state.specs.declared.ports.PortView.{PortView}
 use Rattle.port_state.specs.declared.port_words.Words.{Words}
 use Rattle.port_state.specs.declared.ports.PortViews.TheInside.{Inside}
-use Rattle.port_state.specs.codings.PortWords.{has_bit, level_high, level_low, level_of_bits, port_at, ports_of, FitsPorts}
+use Rattle.port_state.specs.codings.PortWords.{has_bit, level_high, level_low, level_of_bits, port_at, ports_of, all_ports, FitsPorts}
 
 -- the words that say this of ports
 abbrev pub words_of : List PortView → Words
@@ -24,7 +24,11 @@ words_of ports = record {
 }
 
 abbrev pub inside_of : List PortView → Inside
-inside_of ports = record { count = length ports; words = words_of ports }
+inside_of ports = record {
+  count = length ports;
+  words = words_of ports;
+  views = all_ports (words_of ports);
+}
 
 -- ---- a word and its bits
 
@@ -85,5 +89,7 @@ words-back count w f = rw (
   mask-ports (λ p. p.named) w count w.named f.named (λ k. refl),
 ) refl
 
-pub inside-back : (a : Inside) → FitsPorts a.count a.words → inside_of (ports_of a.count a.words) ≡ a
-inside-back a f = rw (length-map (range_with_len 0 a.count) (port_at a.words), length-range_with_len 0 a.count, words-back a.count a.words f) refl
+pub inside-back :
+    (a : Inside) → FitsPorts a.count a.words → a.views ≡ all_ports a.words →
+    inside_of (ports_of a.count a.words) ≡ a
+inside-back a f v = rw (length-map (range_with_len 0 a.count) (port_at a.words), length-range_with_len 0 a.count, words-back a.count a.words f, ← v) refl

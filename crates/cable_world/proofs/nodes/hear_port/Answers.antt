@@ -28,7 +28,7 @@ pub loop-entry-preserved : goal.loop-entry-preserved
 loop-entry-preserved g c =
     let m = c.loop-entry.machine in
     let n = g.M.PortMachine.record_of m in
-    let next = g.M.PortMachine.record_of c.on_signal.new.self in
+    let next = g.M.PortMachine.record_of c.on_signal_into.new.self in
     let port = c.args.port in
     let i = c.loop-entry.entry-index in
     let inside : i < length c.args.arriving.now = omega arith in
@@ -38,14 +38,14 @@ loop-entry-preserved g c =
     record {
       row = c.in_ok-send.ensures.row ∙ c.loop-entry.invariant.row;
       ports =
-          ap (λ z. z.state.ports) c.on_signal.ensures.node
+          ap (λ z. z.state.ports) c.on_signal_into.ensures.node
           ∙ (sound-on_signal port e.signal n.state (g.met.M.PortMachine.valid m)).ports ∙ c.loop-entry.invariant.ports;
       node =
-          hear-more port e.signal rest n next c.on_signal.ensures.node
+          hear-more port e.signal rest n next c.on_signal_into.ensures.node
           ∙ ap (λ (ss : List Signal). (node_hears (on_one port ss) n).node) one ∙ c.loop-entry.invariant.node;
       sent =
-          hear-more-sent port e.signal rest n next c.on_signal.new.out c.loop-entry.wires c.send.new.wires
-          c.on_signal.ensures.node c.on_signal.ensures.sends c.in_ok-send.ensures.sent
+          hear-more-sent port e.signal rest n next c.on_signal_into.new.out c.loop-entry.wires c.send.new.wires
+          c.on_signal_into.ensures.node c.on_signal_into.ensures.sends c.in_ok-send.ensures.sent
           ∙ ap (λ (ss : List Signal). wires_after_sends 0 (node_hears (on_one port ss) n).sends c.loop-entry.wires) one
           ∙ c.loop-entry.invariant.sent;
     }

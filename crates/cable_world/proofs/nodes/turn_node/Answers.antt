@@ -12,7 +12,7 @@ returns-clause-sent g c =
     let heard = node_hears (inbox_of c.args.arrivals.now 0 (ports_of c.args.cabling.now c.args.node)) n in
     let first = c.hear.new.wires in
     c.in_ok-send.ensures.sent
-    ∙ ap (λ o. wires_after_sends 0 o first) c.tick.ensures.sends
+    ∙ ap (λ o. wires_after_sends 0 o first) c.tick_into.ensures.sends
     ∙ ap (λ m. wires_after_sends 0 (node_tick m).sends first) c.in_ok-hear.ensures.node
     ∙ ap (λ ws. wires_after_sends 0 (node_tick heard.node).sends ws) c.in_ok-hear.ensures.sent
     ∙ sym (sends-then 0 heard.sends (node_tick heard.node).sends c.args.wires.now)

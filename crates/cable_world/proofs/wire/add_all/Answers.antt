@@ -1,6 +1,6 @@
 use Rattle.std.proofs.Common.{◌≡◌, ◌∙◌, ℕ, List, [], ◌++◌, map, length, drop, sym, ap, arith}
 use Rattle.std.proofs.lemmas.List.{append-nil, nil_from_length, length-drop}
-use Rattle.port_state.specs.declared.sends.Sent.{Sent}
+use Rattle.port_state.specs.declared.outbox.Sent.{Sent}
 use Rattle.port_state.specs.PortSet.{all_sent}
 use Rattle.port_state.specs.Sends.{sent_on}
 use Rattle.cable_world.specs.Wire.{new_signal}

@@ -10,5 +10,5 @@ returns-in-Some-clause-valid c =
 
 pub returns-in-None-clause-valid : goal.returns-in-None-clause-valid
 returns-in-None-clause-valid c =
-    let e : c.ident_signal.new.s ≡ (on_signal c.args.port c.args.signal c.args.s.now).state = search rules in
+    let e : c.ident_signal_into.new.s ≡ (on_signal c.args.port c.args.signal c.args.s.now).state = search rules in
     rw e (sound-on_signal c.args.port c.args.signal c.args.s.now c.requires.valid).valid

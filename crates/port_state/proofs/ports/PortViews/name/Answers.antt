@@ -1,5 +1,5 @@
 use Rattle.std.proofs.Common.{true, arith}
-use Rattle.port_state.proofs.PortLists.{ports-counted, change-ports}
+use Rattle.port_state.proofs.PortLists.{no_view, ports-counted, change-ports, all-changed}
 use Rattle.port_state.proofs.ports.PortViews.name.Goals as goal
 
 pub name-requires : goal.name-requires
@@ -7,10 +7,18 @@ name-requires c =
     let count = ports-counted c.self.inside.count c.self.inside.words c.args.self.now c.self.view_is in
     omega (arith, c.self.invariant.0)
 
+pub bounds-self-inside-from : goal.bounds-self-inside-from
+bounds-self-inside-from c =
+    let count = ports-counted c.self.inside.count c.self.inside.words c.args.self.now c.self.view_is in
+    omega (arith, c.self.invariant.0)
+
 pub invariant_of-self : goal.invariant_of-self
 invariant_of-self c =
-    let count = ports-counted c.self.inside.count c.self.inside.words c.args.self.now c.self.view_is in
-    (c.self.invariant.0, c.name.ensures.fits c.self.inside.count (omega arith) c.self.invariant.1)
+    let count = ports-counted c.self.inside.count c.self.inside.words c.args.self.now c.self.view_is in (
+      c.self.invariant.0,
+      c.name.ensures.fits c.self.inside.count (omega arith) c.self.invariant.1,
+      all-changed (λ p. record p { named = true }) c.self.inside.words c.name.new.self c.self.inside.views c.args.port c.from.result no_view c.from.ensures (omega (arith, c.self.invariant.0)) c.self.invariant.2 c.name.ensures.ports,
+    )
 
 pub returns : goal.returns
 returns c =

@@ -2,7 +2,7 @@ use Rattle.std.proofs.Common.{◌≡◌, ◌++◌, ◌<◌, length, take, arith,
 use Rattle.std.proofs.lemmas.List.{take_more_set}
 use Rattle.port_state.specs.PortSet.{on_ports, all_sent}
 use Rattle.port_state.proofs.OnPorts.{one-sent, all_sent-one_more, fits-one_more}
-use Rattle.port_state.proofs.sends.Sends.push.Goals as goal
+use Rattle.port_state.proofs.outbox.Outbox.push.Goals as goal
 
 pub invariant_of-self : goal.invariant_of-self
 invariant_of-self c =

@@ -3,7 +3,7 @@ use Rattle.std.proofs.lemmas.Bool.{both_ways}
 use Rattle.std.proofs.lemmas.List.{append-nil, take_more_set}
 use Rattle.port_state.specs.PortSet.{on_ports, all_sent}
 use Rattle.port_state.proofs.OnPorts.{none-sent, some-sent, all_sent-one_more, fits-one_more}
-use Rattle.port_state.proofs.sends.Sends.push_on.Goals as goal
+use Rattle.port_state.proofs.outbox.Outbox.push_on.Goals as goal
 
 pub listed : goal.listed
 listed c =

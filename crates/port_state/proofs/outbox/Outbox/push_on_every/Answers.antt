@@ -3,7 +3,7 @@ use Rattle.port_state.specs.PortSet.{on_ports}
 use Rattle.port_state.specs.Sends.{on_every}
 use Rattle.port_state.proofs.OnPorts.{every-sent}
 use Rattle.port_state.proofs.Outgoing.{few-sends_from}
-use Rattle.port_state.proofs.sends.Sends.push_on_every.Goals as goal
+use Rattle.port_state.proofs.outbox.Outbox.push_on_every.Goals as goal
 
 pub push_on-requires : goal.push_on-requires
 push_on-requires c =
