@@ -5,6 +5,7 @@ use Rattle.std.specs.Io.KnownBytes.{Appends}
 use Rattle.io_edges.specs.Told.{AreLeft}
 use Rattle.bus_json.specs.Lines.{AreJsonLines, none}
 use Rattle.bus_json.proofs.Lemmas.{one_line, all_lines}
+use Rattle.self_id.specs.declared.standard.Standard.{Standard}
 use Rattle.settle.specs.declared.report.Report.{Report}
 use Rattle.report_views.specs.ReportJson.{report_value}
 use Rattle.script_lines.specs.declared.command.Command.{Command}
@@ -14,7 +15,7 @@ use Rattle.script_told.specs.Run.{Entry}
 use Rattle.script_bus.specs.Viewed.{IsReadLineOf}
 use Rattle.script_run.specs.Viewed.{AllWritten, IsReadAfter, AreReadBack, prints_report}
 use Rattle.bus_view.specs.declared.form.ViewForm.{ViewForm}
-use Rattle.bus_view.specs.ReadBack.{AreReports, ReadsBack}
+use Rattle.bus_view.specs.ReadBack.{AreReports, IsDotOf, ReadsBack}
 
 -- ---- the reports of a script
 
@@ -65,6 +66,14 @@ pub read_reports : (left old new : Option (List ℕ)) (status : ℕ) (bytes text
 read_reports None old new status bytes text all are zero wrote = tt
 read_reports (Some told) old new status bytes text all are zero wrote =
     (text, subst (λ (b : List ℕ). AreReadBack b text) all (are.reports zero), wrote)
+
+-- the graph of the bytes that were told
+pub read_dot : (left old new : Option (List ℕ)) (standard : Standard) (bytes text : List ℕ) → AreLeft left bytes →
+    IsDotOf standard bytes text → Appends old new text →
+    IfSome left (λ told. (text : List ℕ) × IsDotOf standard told text × Appends old new text)
+read_dot None old new standard bytes text all is wrote = tt
+read_dot (Some told) old new standard bytes text all is wrote =
+    (text, subst (λ (b : List ℕ). IsDotOf standard b text) all is, wrote)
 
 pub shown_so : {A E : Type 0} (r : Result A E) (P : Type 0) → OnOk r P → IfOk r (λ x. P)
 shown_so (Ok x) P h = h

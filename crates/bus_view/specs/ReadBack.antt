@@ -2,10 +2,13 @@
 use Rattle.std.specs.Prelude.{◌≡◌, ◌⊎◌, ℕ, List, String}
 use Rattle.std.specs.Global.{Global}
 use Rattle.self_id.specs.declared.standard.Standard.{Standard}
+use Rattle.topology_stack.specs.Tree.{Tree}
+use Rattle.capture_reading.specs.Capture.{Spells}
+use Rattle.view_text.specs.GraphDot.{IsTreeDot}
 use Rattle.bus_json.specs.Lines.{IsJsonLine, AreJsonLines}
 use Rattle.script_run.specs.Viewed.{AreReadBack}
 use Rattle.reset_list.specs.declared.form.LogForm.TheVariants.{Json as Lines}
-use Rattle.bus_view.specs.declared.form.CaptureView.TheVariants.{Json}
+use Rattle.bus_view.specs.declared.form.CaptureView.TheVariants.{Dot, Json}
 use Rattle.bus_view.specs.declared.form.ViewForm.{ViewForm}
 use Rattle.bus_view.specs.declared.form.ViewForm.TheVariants.{Capture, JsonRun, Resets, Nosy}
 use Rattle.bus_view.specs.Form.{Asks}
@@ -15,8 +18,15 @@ pub record AreReports (bytes : List ℕ) (status : ℕ) (text : List ℕ) : Type
   pub lines : AreJsonLines text
   pub reports : status ≡ 0 → AreReadBack bytes text
 
+-- a graph in DOT of the tree that a capture spells, with an edge for each of its cables and no other
+pub record IsDotOf (standard : Standard) (bytes text : List ℕ) : Type 0 where
+  pub tree : Tree
+  pub spelt : Spells standard bytes tree
+  pub is : IsTreeDot tree text
+
 -- what else is promised of the view of bytes in a form
 abbrev pub ReadsBack : ViewForm → List ℕ → ℕ → List ℕ → Type 0
+ReadsBack (Capture Dot standard) bytes status text = status ≡ 0 → IsDotOf standard bytes text
 ReadsBack (Capture Json standard) bytes status text = IsJsonLine text
 ReadsBack JsonRun bytes status text = AreReports bytes status text
 ReadsBack form bytes status text = Unit {0}

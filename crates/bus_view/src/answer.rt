@@ -10,7 +10,7 @@ ghost use Rattle.script_words.specs.Before.{feed_lines};
 ghost use Rattle.bus_view.specs.codings.Reading.{IsReadWhole};
 ghost use Rattle.capture_reading.specs.Line.{fault_line};
 ghost use Rattle.bus_json.specs.Lines.{IsJsonLine};
-ghost use Rattle.bus_view.specs.ReadBack.{AreReports, ReadsBack};
+ghost use Rattle.bus_view.specs.ReadBack.{AreReports, IsDotOf, ReadsBack};
 
 use crate::form::{CaptureView, ViewForm};
 use crate::help::VIEW_HELP;
@@ -129,8 +129,10 @@ fn view_tree(alloc: Global, standard: Standard, bytes: &[u8]) -> Result<View, Ou
 
 /// The same as a graph.
 fn view_dot(alloc: Global, standard: Standard, bytes: &[u8]) -> Result<View, OutOfMemory>
-    ensures { IfOk result (λ view.
+    ensures view { IfOk result (λ view.
         IsCaptureView CaptureView.Dot standard bytes.now view.status view.text.items) }
+    ensures dot { IfOk result (λ view. view.status ≡ 0 →
+        IsDotOf standard bytes.now view.text.items) }
 {
     match read_capture(alloc, standard, bytes) {
         Ok(tree) => Ok(View {

@@ -16,7 +16,7 @@ ghost use Rattle.bus_view.specs.Answer.{Answers, IsViewOfItself};
 ghost use Rattle.bus_view.specs.Log.{IsLogView, IsDumpView, IsLogBegun, ShowsAsItComes};
 ghost use Rattle.bus_view.specs.Captured.{AnswersCapture};
 ghost use Rattle.bus_view.specs.Summed.{IsSummedScript};
-ghost use Rattle.bus_view.specs.ReadBack.{AsksJson};
+ghost use Rattle.bus_view.specs.ReadBack.{AsksJson, IsDotOf};
 ghost use Rattle.bus_json.specs.Lines.{WritesJsonLines};
 ghost use Rattle.script_run.specs.Viewed.{AreReadBack};
 
@@ -52,6 +52,10 @@ fn view_asked<S: Source, K: Sink>(
         WritesJsonLines (K.written sink.old) (K.written sink.new) }
     ensures reports { Asks words.now ViewForm.JsonRun → result ≡ 0 →
         IfSome (S.left source.old) (λ bytes. (text : List ℕ) × AreReadBack bytes text
+        × Appends (K.written sink.old) (K.written sink.new) text) }
+    ensures dot_graph { (standard : Standard) →
+        Asks words.now (ViewForm.Capture CaptureView.Dot standard) → result ≡ 0 →
+        IfSome (S.left source.old) (λ bytes. (text : List ℕ) × IsDotOf standard bytes text
         × Appends (K.written sink.old) (K.written sink.new) text) }
     ensures unfailing { AsksNoInput words.now → (result ≢ 1) × (result ≢ 3) × (result ≢ 6) }
     ensures script { (nodes seed : ℕ) → Asks words.now (ViewForm.Script nodes seed) → result ≡ 0 →
@@ -157,6 +161,13 @@ pub fn view_main<S: Source, K: Sink>(
         WritesJsonLines (K.written sink.old) (K.written sink.new) }
     ensures reports { Asks words.now ViewForm.JsonRun → result ≡ 0 →
         IfSome (S.left source.old) (λ bytes. (text : List ℕ) × AreReadBack bytes text
+        × Appends (K.written sink.old) (K.written sink.new) text) }
+
+    // With `dot` it is, at status 0, a graph by the grammar of DOT, which Graphviz reads, of the tree that
+    // the capture spells: with a node for each node and an edge for each cable, and no others.
+    ensures dot_graph { (standard : Standard) →
+        Asks words.now (ViewForm.Capture CaptureView.Dot standard) → result ≡ 0 →
+        IfSome (S.left source.old) (λ bytes. (text : List ℕ) × IsDotOf standard bytes text
         × Appends (K.written sink.old) (K.written sink.new) text) }
 
     // With `script` there is no fault, and what is written at status 0 is the script that is made for

@@ -7,4 +7,6 @@ pub mod Node
 pub mod Drawing
 pub mod Graph
 pub mod NamedGraph
+pub mod Dot
+pub mod GraphDot
 pub mod codings

@@ -2,6 +2,7 @@
 ghost use Rattle.std.specs.Prelude.{◌≡◌, ◌++◌, ◌-◌, length, IfOk, OnOk};
 ghost use Rattle.topology_stack.specs.Tree.{walk};
 ghost use Rattle.view_text.specs.Graph.{graph_head, root_box, irm_box, graph_label, graph_node, graph_nodes, edge_ends, edge_ports, graph_edge, graph_edges, graph};
+ghost use Rattle.view_text.specs.GraphDot.{IsTreeDot};
 
 use crate::cable::{Cable, cables};
 use crate::node::{put_gap_words, put_link_words, put_title, speed_word};
@@ -138,8 +139,10 @@ pub fn put_graph_head(out: &mut Vec<u8>) -> Result<(), OutOfMemory>
 /// The graph of a bus tree, which Graphviz draws: a node for each node of the bus, and an edge for
 /// each cable with its speed and its ports, the parent's at its tail. The root is at the left, and an
 /// edge is wider at a higher speed. The root's box has two lines, and that of the isochronous resource manager a bold one.
+/// It is a graph by the grammar of that language, with these nodes and edges and no others.
 pub fn tree_graph(alloc: Global, tree: &BusTree) -> Result<Vec<u8>, OutOfMemory>
-    ensures { IfOk result (λ text. text.items ≡ graph tree.now) }
+    ensures text { IfOk result (λ text. text.items ≡ graph tree.now) }
+    ensures dot { IfOk result (λ text. IsTreeDot tree.now text.items) }
 {
     let mut out = Vec::new(alloc);
     let list = cables(alloc, tree)?;

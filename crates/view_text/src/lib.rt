@@ -17,7 +17,7 @@ mod words;
 pub use cable::{Cable, cables};
 pub use drawing::tree_drawing;
 pub use graph::{put_graph_head, tree_graph};
-pub use laws::{cables_are_of_the_tree, each_node_hangs_on_one_cable};
+pub use laws::{cables_are_of_the_tree, each_node_hangs_on_one_cable, graphs_are_dot};
 pub use named::put_named_tree;
 pub use packet::put_packet;
 pub use pairs::{Note, packets_of, pairs_text};

@@ -8,8 +8,8 @@ use Rattle.top_call.proofs.Lemmas.{unread_written}
 use Rattle.bus_view.specs.declared.form.ViewForm.TheVariants.{Capture, JsonRun, Script, Resets, Nosy, OfItself}
 use Rattle.bus_view.specs.Log.{IsLogView, IsDumpView, IsLogBegun, ShowsAsItComes}
 use Rattle.bus_view.proofs.Ends.{of_form}
-use Rattle.bus_view.specs.declared.form.CaptureView.TheVariants.{Json}
-use Rattle.bus_view.proofs.ReadBack.{read_reports}
+use Rattle.bus_view.specs.declared.form.CaptureView.TheVariants.{Dot, Json}
+use Rattle.bus_view.proofs.ReadBack.{read_reports, read_dot}
 use Rattle.bus_view.proofs.Forms.{log_apart, input_apart, is_held, one_resets, one_nosy, no_dump}
 use Rattle.bus_view.proofs.top.view_asked.Goals as goal
 
@@ -191,3 +191,21 @@ pub returns-clause-reports : goal.returns-clause-reports
 returns-clause-reports g c = λ run zero.
     let told = c.answer.ensures.tells (inl zero) JsonRun run in
     read_reports (g.S.Source.left c.args.source.now) _ _ _ told.0 told.2 told.1 told.3 zero told.4
+
+-- ---- a graph
+
+pub returns-in-Some-clause-dot_graph : goal.returns-in-Some-clause-dot_graph
+returns-in-Some-clause-dot_graph g c = λ standard dot zero.
+    let asks = (c.in-Some.ensures c.in-Some.form).0 refl in
+    absurd (log_apart c.args.words.now (Capture Dot standard) tt dot (c.in-Some.form, inl asks))
+
+pub returns-in-Some-dump_form-clause-dot_graph : goal.returns-in-Some-dump_form-clause-dot_graph
+returns-in-Some-dump_form-clause-dot_graph g c = λ standard dot zero.
+    let asks = (c.in-Some-dump_form.ensures c.in-Some-dump_form.form).0 refl in
+    absurd (log_apart c.args.words.now (Capture Dot standard) tt dot
+    (c.in-Some-dump_form.form, inr asks))
+
+pub returns-clause-dot_graph : goal.returns-clause-dot_graph
+returns-clause-dot_graph g c = λ standard dot zero.
+    let told = c.answer.ensures.tells (inl zero) (Capture Dot standard) dot in
+    read_dot (g.S.Source.left c.args.source.now) _ _ standard told.0 told.2 told.1 (told.3 zero) told.4
