@@ -1,0 +1,2 @@
+pub mod SlotCabling
+pub mod SlotTrees
