@@ -9,3 +9,4 @@ pub mod OneText
 pub mod Fronts
 pub mod SomeText
 pub mod Shallow
+pub mod ToldInOrder

@@ -26,7 +26,7 @@ use Rattle.nosy_dump.specs.Noted.{Noted, nothing, after}
 use Rattle.nosy_dump.specs.Dump.{IsJudged, last_text, IsResetShown}
 use Rattle.nosy_dump.specs.OneText.{EachDumpHasAText}
 
-abbrev AreBytes : List ℕ → Type 0
+abbrev pub AreBytes : List ℕ → Type 0
 AreBytes bytes = All (λ b. b < 256) bytes
 
 small : (bytes : List ℕ) (i : ℕ) → AllByRecursion (λ b. b < 256) bytes → get_or bytes i 0 < 256
@@ -150,10 +150,10 @@ packets_fit (r ∷ rs) fit = go (record_of r) refl (packets_fit rs fit.1)
     go (SelfId quad) e more = (packet_fits r quad fit.0 e, more)
     go Other e more = more
 
-abbrev ListFits : DumpReset → Type 0
+abbrev pub ListFits : DumpReset → Type 0
 ListFits r = Fit r.list
 
-resets_fit : (byte : ℕ) (records : List (List ℕ)) → EachOfBytes records →
+pub resets_fit : (byte : ℕ) (records : List (List ℕ)) → EachOfBytes records →
     All ListFits (resets_from byte records)
 resets_fit byte [] fit = All-nil ListFits
 resets_fit byte (r ∷ rs) fit = go (record_of r) (resets_fit (byte + (4 + length r)) rs fit.1)

@@ -6,5 +6,6 @@ pub mod Notes
 pub mod Texts
 pub mod Json
 pub mod Dump
+pub mod Told
 pub mod OneText
 pub mod codings

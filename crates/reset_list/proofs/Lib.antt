@@ -11,4 +11,7 @@ pub mod Reading
 pub mod Answered
 pub mod Shallow
 pub mod Heard
+pub mod AsRead
+pub mod AsBefore
+pub mod Capped
 pub mod Lemmas

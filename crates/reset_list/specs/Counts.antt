@@ -1,11 +1,15 @@
 -- What is counted of resets: how many they are, how many lists are refused, and which nodes began them.
-use Rattle.std.specs.Prelude.{ℕ, ◌+◌, ◌==◌, ◌&&◌, nat_le, Bool, if◌then◌else◌, Option, Some, None, List, [], ◌∷◌}
+use Rattle.std.specs.Prelude.{ℕ, ◌+◌, ◌-◌, ◌^◌, ◌==◌, ◌&&◌, min, nat_le, Bool, if◌then◌else◌, Option, Some, None, List, [], ◌∷◌}
 use Rattle.io_edges.specs.Faults.{next_count}
 use Rattle.self_id.specs.Node.{Node}
 use Rattle.topology_stack.specs.Tree.{Tree, walk}
 use Rattle.reset_list.specs.declared.counts.Counts.{Counts}
 use Rattle.reset_list.specs.declared.counts.Tally.{Tally}
 use Rattle.reset_list.specs.Update.{updated}
+
+-- a count of 64 bits stays at its last value
+abbrev pub capped : ℕ → ℕ
+capped n = min n (2 ^ 64 - 1)
 
 -- it is one more, unless it is the last one by its other event, and one more that is refused
 abbrev pub counted : (second refused : Bool) → Counts → Counts

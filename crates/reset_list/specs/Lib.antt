@@ -7,6 +7,7 @@ pub mod Texts
 pub mod Json
 pub mod Sentence
 pub mod Shown
+pub mod Judged
 pub mod InOrder
 pub mod Answered
 pub mod Cause

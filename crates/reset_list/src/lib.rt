@@ -8,6 +8,7 @@
 mod counts;
 mod form;
 mod hear;
+mod laws;
 mod same;
 mod sentence;
 mod shown;
@@ -17,6 +18,7 @@ mod values;
 
 pub use counts::{Counts, Tallies, Tally, count_reset};
 pub use form::LogForm;
+pub use laws::lists_are_judged_as_read;
 pub use shown::{ListShown, show_list};
 pub use stop::{LogStop, MAX_LOG};
 pub use values::put_list;

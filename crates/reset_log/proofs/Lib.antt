@@ -10,3 +10,4 @@ pub mod Tokens
 pub mod Shallow
 pub mod InJson
 pub mod Ascii
+pub mod ToldInOrder

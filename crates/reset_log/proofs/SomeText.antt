@@ -27,22 +27,22 @@ use Rattle.log_line.proofs.Lemmas.{Fit, line_fits, line_packet_fits}
 
 -- ---- the list of a reset that waits
 
-fit_push : (quads : List ℕ) (q : ℕ) → Fit quads → q < 2 ^ 32 → Fit (quads ++ q ∷ [])
+pub fit_push : (quads : List ℕ) (q : ℕ) → Fit quads → q < 2 ^ 32 → Fit (quads ++ q ∷ [])
 fit_push [] q f lt = (lt, tt)
 fit_push (p ∷ quads) q f lt = (f.0, fit_push quads q f.1 lt)
 
-abbrev IsFinePending : Option Pending → Type 0
+abbrev pub IsFinePending : Option Pending → Type 0
 IsFinePending None = Unit {0}
 IsFinePending (Some p) = Fit p.reset.list
 
-abbrev AreFine : List (ℕ × Pending) → Type 0
+abbrev pub AreFine : List (ℕ × Pending) → Type 0
 AreFine [] = Unit {0}
 AreFine (e ∷ es) = Fit e.1.reset.list × AreFine es
 
-abbrev IsFine : Noted → Type 0
+abbrev pub IsFine : Noted → Type 0
 IsFine n = AreFine n.pending
 
-fine_found : (test : ℕ → Bool) (es : List (ℕ × Pending)) → AreFine es → IsFinePending (lookup test es)
+pub fine_found : (test : ℕ → Bool) (es : List (ℕ × Pending)) → AreFine es → IsFinePending (lookup test es)
 fine_found test [] fine = tt
 fine_found test (e ∷ es) fine = go (test e.0) (fine_found test es fine.1)
   where
@@ -50,7 +50,7 @@ fine_found test (e ∷ es) fine = go (test e.0) (fine_found test es fine.1)
     go true later = fine.0
     go false later = later
 
-fine_without : (test : ℕ → Bool) (es : List (ℕ × Pending)) → AreFine es → AreFine (remove_entry test es)
+pub fine_without : (test : ℕ → Bool) (es : List (ℕ × Pending)) → AreFine es → AreFine (remove_entry test es)
 fine_without test [] fine = tt
 fine_without test (e ∷ es) fine = go (test e.0) (fine_without test es fine.1)
   where
@@ -58,7 +58,7 @@ fine_without test (e ∷ es) fine = go (test e.0) (fine_without test es fine.1)
     go true later = fine.1
     go false later = (fine.0, later)
 
-fine_with : (card : ℕ) (p : Pending) (es : List (ℕ × Pending)) → Fit p.reset.list → AreFine es →
+pub fine_with : (card : ℕ) (p : Pending) (es : List (ℕ × Pending)) → Fit p.reset.list → AreFine es →
     AreFine (insert_entry nat_cmp es card p)
 fine_with card p [] fit fine = (fit, tt)
 fine_with card p (e ∷ es) fit fine = go (nat_cmp card e.0) (fine_with card p es fit fine.1)

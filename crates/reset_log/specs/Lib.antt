@@ -6,5 +6,7 @@ pub mod Texts
 pub mod Json
 pub mod Shown
 pub mod Log
+pub mod Entries
+pub mod Told
 pub mod OneText
 pub mod codings
