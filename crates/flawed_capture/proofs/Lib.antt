@@ -1,3 +1,4 @@
 mod Counted
 mod Changed
 mod Turned
+mod Tried

@@ -75,10 +75,23 @@ IsSpoilt list bytes BadInverse = HasOtherByte list bytes
 IsSpoilt list bytes flaw = IsOfSpoilt flaw list bytes
 
 -- a flaw of this kind comes of the change at any place of any bus
+abbrev pub ComesAtOnce : Flaw → Type 0
+ComesAtOnce BadLength = Unit {0}
+ComesAtOnce BadInverse = Unit {0}
+ComesAtOnce Empty = Unit {0}
+ComesAtOnce flaw = ⊥
+
+-- it comes of the change at the last place of any bus
+abbrev pub ComesAtEnd : Flaw → Type 0
+ComesAtEnd AfterRoot = Unit {0}
+ComesAtEnd flaw = ⊥
+
+-- it comes of any bus, wherever the first change is tried
 abbrev pub ComesAnywhere : Flaw → Type 0
 ComesAnywhere BadLength = Unit {0}
 ComesAnywhere BadInverse = Unit {0}
 ComesAnywhere Empty = Unit {0}
+ComesAnywhere AfterRoot = Unit {0}
 ComesAnywhere flaw = ⊥
 
 -- ---- buses

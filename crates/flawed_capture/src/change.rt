@@ -1,8 +1,9 @@
 //! Changes of a list that put a fault in.
-ghost use Rattle.std.specs.Prelude.{◌≡◌, ◌≢◌, ◌<◌, ◌≤◌, length, slice_set, IfOk};
+ghost use Rattle.std.specs.Prelude.{◌≡◌, ◌≢◌, ◌<◌, ◌≤◌, ◌+◌, ◌⊎◌, ◌∷◌, ◌++◌, [], ℕ, length, slice_set, IfOk};
 ghost use Rattle.self_id.specs.declared.standard.Standard.{Standard};
 ghost use Rattle.flawed_capture.specs.Flaw.{HasFlaw};
-ghost use Rattle.flawed_capture.specs.Spoilt.{EndsWithOther, IsFront, HasMore, HasOtherAndMore, IsSpoiltList, IsSpoilt, ComesAnywhere};
+ghost use Rattle.flawed_capture.specs.Spoilt.{EndsWithOther, IsFront, HasMore, HasOtherAndMore, HasOther, IsSpoiltList, IsSpoilt, ComesAtOnce, ComesAtEnd, IsListOfBus};
+ghost use Rattle.flawed_capture.specs.declared.flaw.Flaw.{Flaw};
 
 use crate::flaw::Flaw;
 use quad_lanes::{capture_is_read_back, capture_of};
@@ -88,7 +89,7 @@ fn front_of(alloc: Global, list: &[u32], end: usize) -> Result<Vec<u32>, OutOfMe
 
 /// The list with one quadlet more.
 fn with_more(alloc: Global, list: &[u32], more: u32) -> Result<Vec<u32>, OutOfMemory>
-    ensures { IfOk result (λ spoilt. HasMore list.now spoilt.items) }
+    ensures { IfOk result (λ spoilt. spoilt.items ≡ list.now ++ more ∷ []) }
 {
     let mut spoilt = Vec::from_slice(alloc, list)?;
     spoilt.push(more)?;
@@ -111,6 +112,27 @@ fn with_both(
     Ok(spoilt)
 }
 
+/// The list with one quadlet more, or before its end with another quadlet at a place.
+fn behind_root(
+    alloc: Global,
+    list: &[u32],
+    at: usize,
+    quad: u32,
+    more: u32,
+) -> Result<Vec<u32>, OutOfMemory>
+    requires { at < length list.now }
+    ensures spoilt { IfOk result (λ spoilt.
+        HasMore list.now spoilt.items ⊎ HasOther list.now spoilt.items) }
+    ensures behind { at + 1 ≡ length list.now →
+        IfOk result (λ spoilt. spoilt.items ≡ list.now ++ more ∷ []) }
+{
+    if at + 1 == list.len() {
+        with_more(alloc, list, more)
+    } else {
+        with_other(alloc, list, at, quad)
+    }
+}
+
 /// The list after the change at a place that may put in a fault of a kind.
 fn changed(
     alloc: Global,
@@ -121,7 +143,9 @@ fn changed(
     word: u32,
 ) -> Result<Vec<u32>, OutOfMemory>
     requires { at < length list.now }
-    ensures { IfOk result (λ spoilt. IsSpoiltList flaw list.now spoilt.items) }
+    ensures spoilt { IfOk result (λ spoilt. IsSpoiltList flaw list.now spoilt.items) }
+    ensures behind { flaw ≡ Flaw.AfterRoot → at + 1 ≡ length list.now →
+        IfOk result (λ spoilt. spoilt.items ≡ list.now ++ word ∷ []) }
 {
     let quad = other_quad(flaw, standard, list[at], word);
     let is_last = at + 1 == list.len();
@@ -129,7 +153,7 @@ fn changed(
         Flaw::Empty => Ok(Vec::new(alloc)),
         Flaw::Cut => ended(alloc, list, at, quad),
         Flaw::NoRoot if !is_last => front_of(alloc, list, at + 1),
-        Flaw::AfterRoot if is_last => with_more(alloc, list, word),
+        Flaw::AfterRoot => behind_root(alloc, list, at, quad, word),
         Flaw::TooMany => with_both(alloc, list, at, quad, word),
         _ => with_other(alloc, list, at, quad),
     }
@@ -184,7 +208,9 @@ pub(crate) fn spoilt_capture(
     requires few { length list.now ≤ 252 }
     ensures spoilt { IfOk result (λ bytes. IsSpoilt list.now bytes.items flaw) }
     ensures sure { IfOk result (λ bytes.
-        ComesAnywhere flaw → HasFlaw standard bytes.items flaw) }
+        ComesAtOnce flaw → HasFlaw standard bytes.items flaw) }
+    ensures last { IfOk result (λ bytes. ComesAtEnd flaw → at + 1 ≡ length list.now →
+        (nodes : ℕ) → IsListOfBus standard nodes list.now → HasFlaw standard bytes.items flaw) }
 {
     match flaw {
         Flaw::BadLength => cut_capture(alloc, list, at, word),
