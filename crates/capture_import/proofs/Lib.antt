@@ -1,5 +1,6 @@
 pub mod Front
 pub mod Layouts
 pub mod One
+pub mod Exact
 pub mod Parts
 pub mod Stopped

@@ -84,12 +84,17 @@ pub record Names (input : List ℕ) (taken : Taken) (list : List ℕ) : Type 0 w
   pub layout_is : taken.layout ≡ layout_of (quads_of bytes)
   pub list_is : NamesList taken.layout taken.order (quads_of bytes) list
 
+-- the bytes are whole quadlets, which are no list
+pub record AreNoList (bytes : List ℕ) (f : ImportFault) : Type 0 where
+  pub whole : are_quadlets bytes ≡ true
+  pub bad : IsBadList (layout_of (quads_of bytes)) (quads_of bytes) f
+
 -- it names bytes that are no quadlets, or quadlets that are no list
 pub record AreBadBytes (input : List ℕ) (f : ImportFault) : Type 0 where
   pub container : Container
   pub bytes : List ℕ
   pub names : NamesBytes container input bytes
-  pub bad : IsCut bytes f ⊎ IsBadList (layout_of (quads_of bytes)) (quads_of bytes) f
+  pub bad : IsCut bytes f ⊎ AreNoList bytes f
 
 -- why the input names no list
 abbrev pub IsRefused : List ℕ → ImportFault → Type 0

@@ -15,3 +15,8 @@ abbrev pub NoInputIsNamedAndRefused : Type 0
 NoInputIsNamedAndRefused =
     (input : List ℕ) (t : Taken) (list : List ℕ) (f : ImportFault) → Names input t list →
     IsRefused input f → ⊥
+
+-- no input is refused for two faults
+abbrev pub NoInputHasTwoFaults : Type 0
+NoInputHasTwoFaults =
+    (input : List ℕ) (f g : ImportFault) → IsRefused input f → IsRefused input g → f ≡ g

@@ -8,6 +8,7 @@ ghost use Rattle.capture_import.specs.declared.stop.StreamStop.{StreamStop};
 ghost use Rattle.capture_import.specs.Import.{IsImport};
 
 use crate::import::import_of;
+use crate::laws::one_import;
 use crate::outcome::Outcome;
 use crate::stop::StreamStop;
 use io_edges::{ReadStop, Sink, Source, read_all, write_whole};
@@ -46,12 +47,18 @@ pub fn show_import<S: Source, K: Sink>(
     ensures unwritten { (stop : StreamStop) → result ≡ Err stop → stop ≢ StreamStop.WriteFault →
         sink.new ≡ sink.old }
 
+    // An input has one outcome, which is answered, and one text, which is written.
+    ensures exact { IfSome (S.left source.old) (λ input. (text : List ℕ) (right : Outcome) →
+        IsImport input text right → IfOk result (λ outcome. (outcome ≡ right)
+        × Appends (K.written sink.old) (K.written sink.new) text)) }
+
     // An answer is given where no stream has a fault, there is memory, and the input isn't too long.
     ensures complete { ¬ Rose (S.faults source.old) (S.faults source.new) →
         ¬ Rose (K.faults sink.old) (K.faults sink.new) →
         IfSome (S.left source.old) (λ input. length input ≤ 1048576 →
         IsOkUnless result (StreamStop.Memory alloc_error)) }
 {
+    one_import();
     let input = match read_all(alloc, source, MOST) {
         Ok(bytes) => bytes,
         Err(ReadStop::ReadFault) => return Err(StreamStop::ReadFault),
