@@ -534,7 +534,7 @@ enum busconf_status busconf_rom_check(const uint8_t *bytes, size_t count, struct
 
 /* Tells the line of a ROM's fault as `busconf rom` writes it, in ASCII with its line feed and with no byte 0 behind it.
  * BUSCONF_OK: the first `*needed` bytes at `place` are the line. BUSCONF_TOO_SHORT: `*needed` is how many they are; no
- * line has more than 48. BUSCONF_REFUSED: there is no such kind. BUSCONF_NO_MEMORY. Takes memory. */
+ * line has more than 48. BUSCONF_REFUSED: there is no such kind. */
 enum busconf_status busconf_rom_fault_text(const struct busconf_rom_fault *fault, char *place, size_t room,
                                            size_t *needed);
 

@@ -9,6 +9,7 @@ use Rattle.topology_stack.specs.Text.{tree_text}
 use Rattle.config_rom.specs.declared.fault.RomFault.{RomFault}
 use Rattle.config_rom.specs.Rom.{Parts}
 use Rattle.config_rom.specs.Fault.{rom_fault}
+use Rattle.config_rom.specs.Line.{rom_line}
 use Rattle.config_rom.specs.Block.{BlocksRefused}
 use Rattle.config_rom.specs.OneReading.{EachInputIsARomOrRefused, NoInputIsTwoRoms, NoRomIsRefused, EachRomHasGoodBlocksOrAFault, NoGoodBlocksAreRefused, NoBlocksHaveTwoFaults, NoRomHasTwoTexts}
 use Rattle.config_rom.specs.SomeText.{RomsHaveTexts}
@@ -36,7 +37,6 @@ use Rattle.bus_cli.specs.declared.form.CaptureForm.TheVariants.{Read, Read95, Ma
 use Rattle.capture_reading.specs.declared.fault.CaptureFault.{CaptureFault}
 use Rattle.bus_cli.specs.Form.{Asks}
 use Rattle.capture_reading.specs.Line.{fault_line}
-use Rattle.bus_cli.specs.Line.{rom_line}
 use Rattle.script_run.specs.Line.{script_line}
 use Rattle.capture_reading.specs.OneReading.{EachCaptureHasATreeOrAFault, NoCaptureHasTwoTrees, NoCaptureHasATreeAndAFault, NoCaptureHasTwoFaults}
 use Rattle.bus_cli.specs.Answer.{AnswersMaps, TellsRom, HasRomFault, TextOfRom, AnswersRom, AnswersForm}

@@ -9,6 +9,7 @@ use Rattle.config_rom.specs.declared.fault.RomFault.{RomFault}
 use Rattle.config_rom.specs.declared.block.Block.{Block}
 use Rattle.config_rom.specs.Rom.{Parts}
 use Rattle.config_rom.specs.Fault.{rom_fault}
+use Rattle.config_rom.specs.Line.{rom_line}
 use Rattle.config_rom.specs.Block.{AreBlocks, BlocksRefused}
 use Rattle.config_rom.specs.Text.{IsRomText}
 use Rattle.config_rom.specs.OneReading.{IsRomOf, HasGoodBlocks}
@@ -20,7 +21,6 @@ use Rattle.top_call.specs.Asked.{AnswersAsked}
 use Rattle.bus_cli.specs.Form.{Asks}
 use Rattle.capture_reading.specs.Capture.{Spells}
 use Rattle.capture_reading.specs.Answer.{ValidOrRefused, IsCaptureLine, AnswersRead}
-use Rattle.bus_cli.specs.Line.{rom_line}
 use Rattle.script_run.specs.Answer.{AnswersRun, AnswersAdvice, AnswersMake}
 use Rattle.script_text.specs.Maps.{IsMapsText}
 

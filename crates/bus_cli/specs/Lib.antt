@@ -1,6 +1,6 @@
 pub mod Answer
 pub mod Cabled
+pub mod CabledBy
 pub mod Form
-pub mod Line
 pub mod OneAnswer
 pub mod codings

@@ -8,7 +8,6 @@ mod help;
 mod input;
 mod late;
 mod laws;
-mod line;
 mod reader;
 mod rom;
 mod script;
@@ -17,10 +16,10 @@ mod top;
 pub use capture_reading::{
     CaptureFault, CaptureStop, ShortText, fault_line, one_reading, read_capture,
 };
+pub use config_rom::rom_line;
 pub use form::{CaptureForm, Form, USAGE};
 pub use help::HELP;
 pub use laws::one_answer;
-pub use line::rom_line;
 pub use script_run::{kind_word, script_line};
 pub use top::bus_main;
 pub use top_call::{

@@ -6,8 +6,7 @@ ghost use Rattle.bus_cli.specs.Answer.{AnswersRom, HasRomFault, TellsRom, TextOf
 ghost use Rattle.bus_cli.specs.codings.Reading.{status_with, text_with};
 
 use crate::answer::Answer;
-use crate::line::rom_line;
-use config_rom::{RomStop, blocks, decode_rom, rom_text};
+use config_rom::{RomStop, blocks, decode_rom, rom_line, rom_text};
 use quad_lanes::OutOfMemory;
 use std::alloc::Global;
 

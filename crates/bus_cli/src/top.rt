@@ -14,11 +14,13 @@ ghost use Rattle.bus_cli.specs.Answer.{AnswersOfItself, Answers};
 ghost use Rattle.script_run.specs.Answer.{AnswersMake};
 ghost use Rattle.io_edges.specs.Streams.{IsWritten, KeepsStreams};
 ghost use Rattle.bus_cli.specs.Cabled.{AnswersCabling, AreEmitted};
+ghost use Rattle.bus_cli.specs.CabledBy.{AnswersCablingBy, AreEmittedBy};
 
 use crate::form::Form;
 use crate::laws::one_answer;
 use capture_reading::one_reading;
 use io_edges::{Sink, Source};
+use slot_cabling::cablings_show_the_bus_trees;
 use std::alloc::Global;
 use top_call::answer;
 use world_laws::{bus_trees_are_cabled, texts_tell_trees};
@@ -73,6 +75,13 @@ pub fn bus_main<S: Source, K: Sink>(
         result (S.left source.old) (K.written sink.old) (K.written sink.new) }
     ensures accepts { Asks words.now (Form.Capture CaptureForm.Read) →
         IfSome (S.left source.old) (λ bytes. AreEmitted bytes → (result ≡ 0) ⊎ (3 ≤ result)) }
+    // With `read95` it is the same by 1394-1995, for cablings whose nodes all belong to the tree.
+    ensures cabling95 { Asks words.now (Form.Capture CaptureForm.Read95) →
+        IsWritten (AnswersCablingBy Ieee1995) result
+        (S.left source.old) (K.written sink.old) (K.written sink.new) }
+    ensures accepts95 { Asks words.now (Form.Capture CaptureForm.Read95) →
+        IfSome (S.left source.old) (λ bytes. AreEmittedBy Ieee1995 bytes →
+        (result ≡ 0) ⊎ (3 ≤ result)) }
     // With `maps` it is the maps of that tree, and with `rom` what the ROM says.
     ensures maps { Asks words.now (Form.Capture CaptureForm.Maps) → IsWritten AnswersMaps
         result (S.left source.old) (K.written sink.old) (K.written sink.new) }
@@ -108,6 +117,7 @@ pub fn bus_main<S: Source, K: Sink>(
     one_answer();
     one_reading();
     bus_trees_are_cabled();
+    cablings_show_the_bus_trees();
     texts_tell_trees();
     answer::<Form, S, K>(alloc, words, source, sink)
 }

@@ -1,34 +1,24 @@
 //! Configuration ROMs.
 ghost use Rattle.std.specs.Prelude.{◌≡◌, map};
 ghost use Rattle.c_border.specs.Places.{IsCopied};
-ghost use Rattle.busconf_c.specs.Roms.{rom_fault_with, rom_record, block_with, block_record, TellsBlocks, TellsRom};
+ghost use Rattle.busconf_c.specs.Roms.{rom_record, block_with, block_record, TellsBlocks, TellsRom};
 
 use crate::records::{BlockRecord, RomFaultRecord};
 use c_border::{NO_MEMORY, OK, REFUSED, TOO_SHORT};
-use config_rom::{Block, BlockKind, CrcState, Rom, RomFault, RomStop, blocks, decode_rom};
+use config_rom::{
+    Block, BlockKind, CrcState, Rom, RomFault, RomStop, blocks, decode_rom, rom_refusal,
+};
 use std::alloc::Global;
-
-/// The record of a kind at a place, with what was found.
-fn rom_fault_with(kind: u8, at: usize, found: u32) -> RomFaultRecord
-    ensures { result ≡ rom_fault_with kind at found }
-{
-    RomFaultRecord { at, found, kind }
-}
 
 /// The record of a fault.
 fn rom_record(fault: RomFault) -> RomFaultRecord
     ensures { result ≡ rom_record fault }
 {
-    match fault {
-        RomFault::RomLength { at } => rom_fault_with(1, at, 0),
-        RomFault::RomTooLong { at } => rom_fault_with(2, at, 0),
-        RomFault::RomEmpty { at } => rom_fault_with(3, at, 0),
-        RomFault::NoInfo { at } => rom_fault_with(4, at, 0),
-        RomFault::Minimal { at } => rom_fault_with(5, at, 0),
-        RomFault::RomCut { at } => rom_fault_with(6, at, 0),
-        RomFault::BusName { at, found } => rom_fault_with(7, at, found),
-        RomFault::Outside { at } => rom_fault_with(8, at, 0),
-        RomFault::SelfTarget { at } => rom_fault_with(9, at, 0),
+    let refusal = rom_refusal(fault);
+    RomFaultRecord {
+        at: refusal.at,
+        found: refusal.found,
+        kind: refusal.number,
     }
 }
 

@@ -1,6 +1,7 @@
 pub mod Layout
 pub mod Rom
 pub mod Fault
+pub mod Line
 pub mod Refused
 pub mod Crc
 pub mod Block

@@ -4,7 +4,9 @@ use Rattle.std.proofs.Common.{[], refl}
 use Rattle.top_call.proofs.Lemmas.{unread_written}
 use Rattle.bus_cli.proofs.Forms.{few_nodes}
 use Rattle.bus_cli.proofs.Ends.{form_written, of_form}
+use Rattle.self_id.specs.declared.standard.Standard.TheVariants.{Ieee1995}
 use Rattle.bus_cli.proofs.Cables.{cabled, accepted}
+use Rattle.bus_cli.proofs.CablesBy.{cabled_by, accepted_by}
 use Rattle.bus_cli.proofs.top.bus_main.Goals as goal
 
 pub answer-requires-clause-held : goal.answer-requires-clause-held
@@ -32,6 +34,17 @@ returns-clause-cabling g c = λ asks.
 pub returns-clause-accepts : goal.returns-clause-accepts
 returns-clause-accepts g c = λ asks.
     accepted c.bus_trees_are_cabled.ensures.only c.args.words.now asks c.answer.result (g.S.Source.left c.args.source.now)
+    c.answer.ensures.streams.exact
+
+pub returns-clause-cabling95 : goal.returns-clause-cabling95
+returns-clause-cabling95 g c = λ asks.
+    cabled_by c.cablings_show_the_bus_trees.ensures c.one_reading.ensures.tree c.texts_tell_trees.ensures.trees
+    Ieee1995 c.answer.result (g.S.Source.left c.args.source.now) _ _
+    (form_written c.args.words.now (Capture Read95) asks _ _ _ _ c.answer.ensures.streams.answer)
+
+pub returns-clause-accepts95 : goal.returns-clause-accepts95
+returns-clause-accepts95 g c = λ asks.
+    accepted_by c.cablings_show_the_bus_trees.ensures c.args.words.now asks c.answer.result (g.S.Source.left c.args.source.now)
     c.answer.ensures.streams.exact
 
 pub returns-clause-maps : goal.returns-clause-maps
