@@ -8,7 +8,7 @@ mod import;
 mod say;
 mod words;
 
-use bus_cli::NO_FORM;
+use bus_cli::{NO_FORM, NO_MEMORY};
 use bus_view::{CaptureView, VIEW_HELP, VIEW_USAGE, ViewForm, view_main};
 use capture_import::asks_import;
 use diff::diff;
@@ -18,8 +18,9 @@ use flawed_form::FlawedForm;
 use import::import;
 use io_edges::{ReadSource, WriteSink};
 use program_edges::{
-    Call, FileCount, FrontSink, FrontSource, PipeWriter, Program, WordsFault, run,
+    Call, FileCount, FileLines, FrontSink, FrontSource, PipeWriter, Program, WordsFault, run,
 };
+use reset_list::LogForm;
 use say::{explain, say_hints};
 use std::io::{Read, Write};
 use std::process::ExitCode;
@@ -55,16 +56,44 @@ fn view_into<R: Read + Drop, W: Write>(
     status
 }
 
-/// Answers a form of the top call over one input, which messages call by this name.
+/// Answers a form of the top call over one of several inputs with lines of JSON, each of which names this file.
+fn view_lines<R: Read + Drop, W: Write>(
+    rt: &HostRuntime,
+    words: &[String],
+    form: &ViewForm,
+    file: &str,
+    input: R,
+    output: &mut W,
+) -> u8 {
+    match FileLines::new(rt.alloc(), file, output) {
+        Ok(mut lines) => view_into(rt, words, form, input, &mut lines),
+        Err(_) => NO_MEMORY,
+    }
+}
+
+/// Whether a form answers with lines of JSON over files of which there may be several.
+fn has_json_lines(form: &ViewForm) -> bool {
+    matches!(
+        form,
+        ViewForm::Resets(LogForm::Json(_)) | ViewForm::Nosy(LogForm::Json(_))
+    )
+}
+
+/// Answers a form of the top call over one input, which messages call by this name. It is one of so many files.
 fn view<R: Read + Drop>(
     rt: &HostRuntime,
     words: &[String],
     form: &ViewForm,
+    files: usize,
     name: &str,
     input: R,
 ) -> u8 {
     let mut output = PipeWriter::new(rt.stdout());
-    let status = view_into(rt, words, form, input, &mut output);
+    let status = if files > 1 && has_json_lines(form) {
+        view_lines(rt, words, form, name, input, &mut output)
+    } else {
+        view_into(rt, words, form, input, &mut output)
+    };
     if !output.is_broken() {
         explain(rt, form, status, name);
     }
@@ -130,6 +159,13 @@ impl Program for Busview {
         )
     }
 
+    fn names_files(form: &Form) -> bool {
+        match form {
+            Form::View(form) => has_json_lines(form),
+            _ => false,
+        }
+    }
+
     fn fault_of(words: &[String]) -> WordsFault<'_> {
         words::fault_of(words)
     }
@@ -144,7 +180,7 @@ impl Program for Busview {
 
     fn answer<R: Read + Drop>(rt: &HostRuntime, call: &Call<'_, Form>, name: &str, input: R) -> u8 {
         match &call.form {
-            Form::View(form) => view(rt, call.words, form, name, input),
+            Form::View(form) => view(rt, call.words, form, call.files.len(), name, input),
             Form::Flawed(form) => flawed(rt, *form),
             Form::Import => import(rt, name, input),
             // A call with other than two files isn't answered.

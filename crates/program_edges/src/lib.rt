@@ -4,6 +4,7 @@
 
 mod call;
 mod commands;
+mod file_lines;
 mod files;
 mod front;
 mod pipe;
@@ -13,6 +14,7 @@ mod words;
 
 pub use call::Call;
 pub use commands::{BUSCONF, BUSVIEW, nearest};
+pub use file_lines::FileLines;
 pub use files::FileCount;
 pub use front::{FrontSink, FrontSource};
 pub use pipe::PipeWriter;

@@ -50,6 +50,12 @@ pub trait Program {
     /// Whether a form writes bytes that are no text.
     fn writes_bytes(form: &Self::Form) -> bool;
 
+    /// Whether what a form answers over several files names its file in each line. Then no line with the
+    /// name stands before it.
+    fn names_files(_form: &Self::Form) -> bool {
+        false
+    }
+
     /// Why these words, which are no options, are no form.
     fn fault_of(words: &[String]) -> WordsFault<'_>;
 
@@ -159,14 +165,16 @@ fn answer_files<P: Program>(rt: &HostRuntime, call: &Call<'_, P::Form>, files: (
     }
 }
 
-/// Answers a call over each of its files. Of several each answer stands below a line with the file's name, and
-/// the status is the greatest of theirs. Nothing is read any more once standard output can't be written.
+/// Answers a call over each of its files. Of several each answer stands below a line with the file's name, unless
+/// its lines have the name, and the status is the greatest of theirs. Nothing is read any more once standard output
+/// can't be written.
 fn answer_each<P: Program>(rt: &HostRuntime, call: &Call<'_, P::Form>) -> u8 {
+    let has_heads = call.files.len() > 1 && !P::names_files(&call.form);
     let mut greatest = VALID;
     for file in call.files {
         let name = file.as_str();
         let shown = Shown::new(name);
-        if call.files.len() > 1 && println!(rt; "{shown}:").is_err() {
+        if has_heads && println!(rt; "{shown}:").is_err() {
             return WRITE_FAULT;
         }
         let status = answer_file::<P>(rt, call, name);
