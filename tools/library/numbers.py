@@ -36,7 +36,7 @@ def want(prefix, path, pattern):
 
 want("FAULT_", f"{records}/specs/Faults.antt", r"_record \(?(\w+).*?\)? =\s+fault_with (\d+)")
 want("PACKET_", f"{heapless}/specs/Packets.antt", r"packet_record \((\w+)[^)]*\) =\s+record \(blank (\d+)\)")
-want("ROM_", f"{crate}/specs/Roms.antt", r"rom_record \((?:Rom)?(\w+).*?\) =\s+rom_fault_with (\d+)")
+want("ROM_", "crates/config_rom/specs/Line.antt", r"rom_refusal \((?:Rom)?(\w+).*?\) =\s+refusal_with (\d+)")
 want("BLOCK_", f"{crate}/specs/Roms.antt", r"kind_number (\w+) = (\d+)")
 want("CRC_", f"{crate}/specs/Roms.antt", r"block_of b \(?(\w+).*? = block_with b (\d+)")
 want("GRANT_", f"{heapless}/specs/Registers.antt", r"grant_record \(?(\w+).* kind = (\d+) }")
