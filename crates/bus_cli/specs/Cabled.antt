@@ -3,7 +3,8 @@ use Rattle.std.specs.Prelude.{◌≡◌, ℕ, List, []}
 use Rattle.self_id.specs.declared.standard.Standard.TheVariants.{Ieee2000}
 use Rattle.topology_stack.specs.Tree.{Tree, IsBusTreeOf, emits}
 use Rattle.topology_stack.specs.Text.{tree_text}
-use Rattle.world_laws.specs.SlotCabling.{CablesTree, IsEmitted}
+use Rattle.slot_cabling.specs.SlotCabling.{CablesTree}
+use Rattle.world_laws.specs.SlotCabling.{IsEmitted}
 use Rattle.world_laws.specs.TreeText.{AreAlikeButHidden}
 use Rattle.capture_reading.specs.Capture.{IsCaptureOf}
 
@@ -12,7 +13,7 @@ use Rattle.capture_reading.specs.Capture.{IsCaptureOf}
 -- tree with the same text is alike but for delays and the bits that further packets carry unread.
 pub record TellsCabling (bytes text : List ℕ) : Type 0 where
   pub tree : Tree
-  pub cabled : CablesTree tree
+  pub cabled : CablesTree Ieee2000 tree
   pub captured : IsCaptureOf (emits tree) bytes
   pub text_is : text ≡ tree_text tree []
   pub only : (list : List ℕ) (e : IsEmitted list) → IsCaptureOf list bytes → e.tree ≡ tree

@@ -1,2 +1,3 @@
 pub mod SlotCabling
 pub mod SlotTrees
+pub mod Lemmas

@@ -13,7 +13,7 @@ end_at node port = record { node = node; port = port }
 
 module _ (standard : Standard) (c : SlotWiring) (is : IsSlotCabling standard c) where
   module _ (label : ℕ → Label) where
-    row-length : (come : Option ℕ) (p : ℕ) (row : List Place) (s : Slots) → SeesRow c label come p row s → length (statuses s) ≡ length row
+    pub row-length : (come : Option ℕ) (p : ℕ) (row : List Place) (s : Slots) → SeesRow c label come p row s → length (statuses s) ≡ length row
     row-length come p [] no_more h = refl
     row-length come p (no_port ∷ row) (absent s) h = ap suc (row-length come (p + 1) row s h)
     row-length come p (no_cable ∷ row) (unplugged s) h = ap suc (row-length come (p + 1) row s h)
@@ -95,7 +95,7 @@ module _ (standard : Standard) (c : SlotWiring) (is : IsSlotCabling standard c) 
       both-of (m ∷ ms) ns h g = (h.0, both-of ms ns h.1 g)
 
       mutual
-        all-of : (t : Tree) (x : ℕ) (come : Option ℕ) → SeesSlots c label x come t → AreOf standard (walk t)
+        pub all-of : (t : Tree) (x : ℕ) (come : Option ℕ) → SeesSlots c label x come t → AreOf standard (walk t)
         all-of (branch a s) x come h =
             both-of (walk_below s) (node_of a s ∷ []) (below-of h.1 s 0 come h.3)
             (subst (λ (n : ℕ). IsTrue (is_width_of standard n)) (sym (row-length come 0 h.1 s h.3)) (is.widths x h.1 h.2), tt)
@@ -108,7 +108,7 @@ module _ (standard : Standard) (c : SlotWiring) (is : IsSlotCabling standard c) 
         below-of (cable_to f ∷ row) (down t s) p come h = both-of (walk t) (walk_below s) (all-of t f.node (Some f.port) h.1) (below-of row s (p + 1) come h.2)
         below-of row s p come h = absurd h
 
-      whole-seen : (t : Tree) (root : ℕ) → SeesSlots c label root None t → IsWhole t
+      pub whole-seen : (t : Tree) (root : ℕ) → SeesSlots c label root None t → IsWhole t
       whole-seen (branch a s) root h =
           let none : ups (statuses s) ≡ 0 = none-up h.1 s 0 None (λ q le same. no-number q same) h.3 in (
             is-node a root h.1 s None h.0 h.2 h.3 (omega (arith, none)),

@@ -16,7 +16,6 @@
 --   OnePair       one pair of rivals at most (`rivals_are_alone`)
 --   ReadyPrefix   nodes get ready in the order of the walk (`ready_nodes_are_first`)
 --   SeenTrees     whatever tree a cabling shows is a bus tree (`seen_trees_are_bus_trees`)
---   SlotCabling   each bus tree is what some cabling shows
 --   SlotTrees     and what a cabling shows is a bus tree (`bus_trees_are_cabled`)
 --   WiringSlots   a wiring and its slots are one cabling, and show the same trees
 --                 (`wirings_are_slots`)
@@ -39,7 +38,6 @@ pub mod RestMilestone
 pub mod OnePair
 pub mod ReadyPrefix
 pub mod SeenTrees
-pub mod SlotCabling
 pub mod SlotTrees
 pub mod WiringSlots
 pub mod LineText

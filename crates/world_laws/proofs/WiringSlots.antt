@@ -22,7 +22,7 @@ use Rattle.port_state.specs.Machine.{PortNode}
 use Rattle.cable_world.specs.Lawful.{IsWellFormed}
 use Rattle.cable_world.specs.Outcome.{attrs_now}
 use Rattle.cable_world.proofs.Lemmas.{reached-lawful, some-of, attrs-fit}
-use Rattle.world_laws.specs.SlotCabling.{Place, no_port, cable_to, Leads, AreLabels, SeesSlots, SeesRow}
+use Rattle.slot_cabling.specs.SlotCabling.{Place, no_port, cable_to, Leads, AreLabels, SeesSlots, SeesRow}
 use Rattle.world_laws.specs.SeenTrees.{IsSeenTree}
 use Rattle.world_laws.specs.WiringSlots.{place_of, row_of, slots_of, IsEmittedBySlots, PortsAreSlots, SlotsShowTheSame, SeenListsAreEmitted, SettledListsAreEmitted}
 

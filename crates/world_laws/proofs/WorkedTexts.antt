@@ -2,7 +2,7 @@
 use Rattle.std.proofs.Common.{◌≡◌, ◌≢◌, ℕ, true, false, Some, None, [], ◌∷◌, refl, arith}
 use Rattle.topology_stack.specs.Tree.{Label, Tree, branch, no_more, absent, unplugged, up, down}
 use Rattle.world_laws.specs.TreeText.{told_tree, AreAlikeButHidden}
-use Rattle.world_laws.specs.SlotCabling.{no_port, no_cable, cable_to}
+use Rattle.slot_cabling.specs.SlotCabling.{no_port, no_cable, cable_to}
 use Rattle.world_laws.specs.WiringSlots.{slots_of}
 use Rattle.cabling.specs.declared.cable.End.{End}
 use Rattle.cabling.specs.Wiring.{Wiring}

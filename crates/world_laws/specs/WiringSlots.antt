@@ -11,7 +11,9 @@ use Rattle.cabling.specs.Sees.{Sees}
 use Rattle.cable_world.specs.World.{CableWorld}
 use Rattle.cable_world.specs.Run.{IsReached}
 use Rattle.cable_world.specs.Outcome.{AtNode, IsTree}
-use Rattle.world_laws.specs.SlotCabling.{Place, no_port, no_cable, cable_to, SlotWiring, IsSlotCabling, SeesSlots, IsEmitted}
+use Rattle.self_id.specs.declared.standard.Standard.TheVariants.{Ieee2000}
+use Rattle.slot_cabling.specs.SlotCabling.{Place, no_port, no_cable, cable_to, SlotWiring, IsSlotCabling, SeesSlots}
+use Rattle.world_laws.specs.SlotCabling.{IsEmitted}
 use Rattle.world_laws.specs.SeenTrees.{IsSeenTree}
 
 -- a port without a cable, or with the cable to this far end
@@ -45,7 +47,7 @@ ListsAreEmitted w =
 
 -- a cabling of ports is one of slots
 abbrev pub PortsAreSlots : Type 0
-PortsAreSlots = (c : Wiring) → IsCabling c → IsSlotCabling (slots_of c)
+PortsAreSlots = (c : Wiring) → IsCabling c → IsSlotCabling Ieee2000 (slots_of c)
 
 -- and both show the same trees: from each node, come to by whichever port or by none
 abbrev pub SlotsShowTheSame : Type 0
