@@ -4,9 +4,10 @@ use Rattle.std.specs.Prelude.{codes, decimal}
 use Rattle.self_id.specs.declared.node.PortStatus.{PortStatus}
 use Rattle.self_id.specs.declared.node.PortStatus.TheVariants.{Absent, Unplugged, Up, Down}
 use Rattle.self_id.specs.Node.{Node}
-use Rattle.topology_stack.specs.Tree.{Tree, branch, Slots, no_more, absent, unplugged, up, down, statuses, node_of, walk, walk_below}
+use Rattle.topology_stack.specs.Tree.{Tree, branch, Slots, no_more, absent, unplugged, up, down, node_of, walk, walk_below}
 use Rattle.topology_stack.specs.Far.{slot_ends, ends_from, ends_below, ends}
 use Rattle.topology_stack.specs.Elect.{elected}
+use Rattle.topology_stack.proofs.Lemmas.{length-slot_ends}
 use Rattle.topology_stack.specs.Text.{field, rest_of_attrs, attrs_text, sign, signs, node_line, lines_from, irm, last_line}
 use Rattle.json.specs.Json.{Json, array, object, Items, no_items, item, no_members, member}
 use Rattle.bus_json.specs.Text.{numeral}
@@ -27,18 +28,11 @@ rows-append (m ∷ ms) ns (e ∷ es) fs a b = (a.0, rows-append ms ns es fs a.1 
 rows-append [] ns (e ∷ es) fs a b = absurd a
 rows-append (m ∷ ms) ns [] fs a b = absurd a
 
-row-long : (from parent : ℕ) (s : Slots) → length (slot_ends from parent s) ≡ length (statuses s)
-row-long from parent no_more = refl
-row-long from parent (absent s) = omega (arith, row-long from parent s)
-row-long from parent (unplugged s) = omega (arith, row-long from parent s)
-row-long from parent (up s) = omega (arith, row-long from parent s)
-row-long from parent (down t s) = omega (arith, row-long (from + length (walk t)) parent s)
-
 mutual
   tree-rows : (from parent : ℕ) (t : Tree) → Rows (walk t) (ends_from from parent t)
   tree-rows from parent (branch a s) =
       rows-append (walk_below s) (node_of a s ∷ []) (ends_below from (from + length (walk_below s)) s) (slot_ends from parent s ∷ [])
-      (below-rows from (from + length (walk_below s)) s) (row-long from parent s, tt)
+      (below-rows from (from + length (walk_below s)) s) (length-slot_ends from parent s, tt)
 
   below-rows : (from id : ℕ) (s : Slots) → Rows (walk_below s) (ends_below from id s)
   below-rows from id no_more = tt

@@ -4,11 +4,11 @@ use Rattle.std.proofs.Common.{◌≡◌, ℕ, ◌+◌, ◌-◌, ◌<◌, ◌≤�
 use Rattle.std.specs.Prelude.{slice_get}
 use Rattle.std.proofs.lemmas.Bool.{cases_lt}
 use Rattle.self_id.specs.Node.{Node}
-use Rattle.topology_stack.specs.Tree.{Tree, branch, Slots, no_more, absent, unplugged, up, down, statuses, walk, walk_below, node_of}
+use Rattle.topology_stack.specs.Tree.{Tree, branch, Slots, no_more, absent, unplugged, up, down, walk, walk_below, node_of}
 use Rattle.topology_stack.specs.Far.{slot_ends, ends_from, ends_below}
 use Rattle.speed_map.specs.codings.Sweep.{firsts_from, firsts_below}
 use Rattle.quad_lanes.proofs.Lemmas.{slice_get-left, slice_get-right}
-use Rattle.topology_stack.proofs.Lemmas.{length-walk}
+use Rattle.topology_stack.proofs.Lemmas.{length-slot_ends, length-walk}
 
 abbrev pub Ends : Type 0
 Ends = List (Option ℕ)
@@ -90,14 +90,6 @@ mutual
   length-firsts_below from (down t s) =
       length-append (firsts_from from t) (firsts_below (from + length (walk t)) s)
       ∙ (omega (arith, length-firsts_from from t, length-firsts_below (from + length (walk t)) s, length-append (walk t) (walk_below s)))
-
-length-slot_ends : (from parent : ℕ) (s : Slots) →
-    length (slot_ends from parent s) ≡ length (statuses s)
-length-slot_ends from parent no_more = refl
-length-slot_ends from parent (absent s) = omega (arith, length-slot_ends from parent s)
-length-slot_ends from parent (unplugged s) = omega (arith, length-slot_ends from parent s)
-length-slot_ends from parent (up s) = omega (arith, length-slot_ends from parent s)
-length-slot_ends from parent (down t s) = omega (arith, length-slot_ends (from + length (walk t)) parent s)
 
 pub record Told (ns : List Node) (es : List Ends) (fs : List ℕ) (i : ℕ) (e : Ends) (f : ℕ) : Type 0 where
   pub node : Node

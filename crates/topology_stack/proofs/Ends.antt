@@ -20,6 +20,13 @@ slot_ends_are (unplugged s) from parent = ap (λ (x : List (Option ℕ)). None �
 slot_ends_are (up s) from parent = ap (λ (x : List (Option ℕ)). Some parent ∷ x) (slot_ends_are s from parent)
 slot_ends_are (down t s) from parent = ap (λ (x : List (Option ℕ)). Some (from + length (walk t) - 1) ∷ x) (slot_ends_are s (from + length (walk t)) parent)
 
+pub length-slot_ends : (from parent : ℕ) (s : Slots) → length (slot_ends from parent s) ≡ length (statuses s)
+length-slot_ends from parent no_more = refl
+length-slot_ends from parent (absent s) = ap suc (length-slot_ends from parent s)
+length-slot_ends from parent (unplugged s) = ap suc (length-slot_ends from parent s)
+length-slot_ends from parent (up s) = ap suc (length-slot_ends from parent s)
+length-slot_ends from parent (down t s) = ap suc (length-slot_ends (from + length (walk t)) parent s)
+
 -- what stands at the end of a slot
 abbrev pub end_with : PortStatus → ℕ → Option ℕ → Option ℕ
 end_with Absent parent child = None

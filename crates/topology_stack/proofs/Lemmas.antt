@@ -22,7 +22,7 @@ pub use Rattle.topology_stack.proofs.Stack.{groups-append, groups-snoc, AreOf-pa
 pub use Rattle.topology_stack.proofs.Joining.{Joining, kept_is, keeps, count_is, links_one_more}
 pub use Rattle.topology_stack.proofs.Linking.{stored}
 pub use Rattle.topology_stack.proofs.Cutting.{later, has_room, has_end, pushed}
-pub use Rattle.topology_stack.proofs.Ends.{end_at, far_is, fewer_before, kids_enough, length-children, length-parents, one_end, status_at}
+pub use Rattle.topology_stack.proofs.Ends.{end_at, far_is, fewer_before, kids_enough, length-children, length-parents, length-slot_ends, one_end, status_at}
 -- What stands at a place of a list.
 pub use Rattle.quad_lanes.proofs.Lemmas.{item_at}
 
