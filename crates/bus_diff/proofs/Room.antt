@@ -1,7 +1,8 @@
 -- No more nodes are reached than a bus has.
-use Rattle.std.proofs.Common.{◌≡◌, ◌∙◌, ℕ, zero, suc, ◌+◌, ◌<◌, ◌≤◌, min, ⊎_elim, Bool, true, false, Option, Some, None, List, [], ◌∷◌, ◌++◌, length, refl, subst, arith, eq-eqb, eqb-true, length-append}
+use Rattle.std.proofs.Common.{◌≡◌, ◌∙◌, ℕ, zero, suc, ◌+◌, ◌<◌, ◌≤◌, min, ⊎_elim, Bool, true, false, Option, Some, None, List, [], ◌∷◌, ◌++◌, length, refl, sym, subst, arith, eq-eqb, eqb-true, length-append}
 use Rattle.std.specs.Prelude.{slice_get, not, ◌==◌, ◌||◌, ◌&&◌, if◌then◌else◌}
 use Rattle.std.specs.List.{list_any}
+use Rattle.std.proofs.Math.Bool.{or_assoc, or-false}
 use Rattle.std.proofs.lemmas.Bool.{cases_lt, and_parts}
 use Rattle.std.proofs.lemmas.Option.{slice_get_within}
 use Rattle.self_id.specs.Node.{Node}
@@ -13,19 +14,11 @@ use Rattle.bus_diff.specs.Along.{ports_of, is_same_count, may_be_one, with_pair,
 use Rattle.bus_diff.proofs.Matched.{not_false}
 use Rattle.bus_diff.proofs.Reached.{walked_keeps}
 
-or_nothing : (a : Bool) → (a || false) ≡ a
-or_nothing true = refl
-or_nothing false = refl
-
-or_assoc : (a b c : Bool) → (a || (b || c)) ≡ ((a || b) || c)
-or_assoc true b c = refl
-or_assoc false b c = refl
-
 pub any_push : (of : Pair → ℕ) (ps : List Pair) (x : Pair) (k : ℕ) →
     list_any (λ p. of p == k) (ps ++ x ∷ []) ≡ (list_any (λ p. of p == k) ps || (of x == k))
-any_push of [] x k = or_nothing (of x == k)
+any_push of [] x k = or-false (of x == k)
 any_push of (p ∷ ps) x k =
-    rw (any_push of ps x k) (or_assoc (of p == k) (list_any (λ p. of p == k) ps) (of x == k))
+    rw (any_push of ps x k) (sym (or_assoc (of p == k) (list_any (λ p. of p == k) ps) (of x == k)))
 
 any_other : (of : Pair → ℕ) (ps : List Pair) (x : Pair) (k : ℕ) → (of x ≡ k → ⊥) →
     list_any (λ p. of p == k) (ps ++ x ∷ []) ≡ list_any (λ p. of p == k) ps
@@ -33,7 +26,7 @@ any_other of ps x k other = any_push of ps x k ∙ go (of x == k) refl
   where
     go : (b : Bool) → (of x == k) ≡ b → (list_any (λ p. of p == k) ps || b) ≡ list_any (λ p. of p == k) ps
     go true e = absurd (other (eqb-true _ _ e))
-    go false e = or_nothing (list_any (λ p. of p == k) ps)
+    go false e = or-false (list_any (λ p. of p == k) ps)
 
 -- how many of the IDs below this one are in no pair
 abbrev pub left : (Pair → ℕ) → List Pair → ℕ → ℕ

@@ -1,6 +1,6 @@
 -- A dump is told reset by reset, in order.
 use Rattle.std.proofs.Common.{◌≡◌, ◌∙◌, ℕ, suc, ◌+◌, ◌-◌, ◌^◌, ◌<◌, ◌≤◌, Bool, true, false, cond, ◌||◌, is_none, Option, Some, None, List, [], ◌∷◌, ◌++◌, length, refl, ap, subst, arith}
-use Rattle.std.specs.Prelude.{is_some}
+use Rattle.std.specs.Prelude.{is_some, fold}
 use Rattle.std.specs.Int.{w32, to_le_bytes}
 use Rattle.std.specs.List.{All, AllByRecursion}
 use Rattle.std.proofs.lemmas.List.Elements.{All-cons, All-nil, All-head, All-tail, recursion_from_All}
@@ -19,7 +19,7 @@ use Rattle.reset_list.specs.InOrder.{AreTold}
 use Rattle.reset_list.specs.Json.{IsListTold, told_refused, told_heard}
 use Rattle.reset_list.specs.Judged.{ListsAreHeardAsRead, ListsAreRefusedAsRead}
 use Rattle.reset_list.specs.Shown.{is_refused, is_heard}
-use Rattle.reset_list.proofs.Lemmas.{Fit, all_fit, capped_more, still_capped, how_many, how_many_count}
+use Rattle.reset_list.proofs.Lemmas.{Fit, all_fit, counted_in, how_many, how_many_count}
 use Rattle.nosy_dump.specs.declared.record.DumpReset.{DumpReset}
 use Rattle.nosy_dump.specs.Record.{record_bytes, dump_of}
 use Rattle.nosy_dump.specs.Resets.{resets_from}
@@ -82,9 +82,11 @@ step_of form number n r text bad next heard h t is said e f g fault tree cs tall
       tallies_are = ap (λ (k : Noted). k.tallies) behind ∙ tallies;
     }
 
+abbrev counts_behind : Counts → Telling → Counts
+counts_behind c t = counted false (refuses t) c
+
 abbrev counts_after : Counts → List Telling → Counts
-counts_after c [] = c
-counts_after c (t ∷ ts) = counts_after (counted false (refuses t) c) ts
+counts_after = fold counts_behind
 
 -- the same of resets one after the other
 record AreSteps (form : LogForm) (number : ℕ) (n : Noted) (rs : List DumpReset) (text : List ℕ) (bad : Bool) (next : Noted) : Type 0 where
@@ -151,30 +153,13 @@ module _ (heard : ListsAreHeardAsRead) (unheard : ListsAreRefusedAsRead) where
 
 -- ---- totals
 
-resets_in : (c : Counts) (ts : List Telling) → c.resets ≤ 2 ^ 64 - 1 →
-    (counts_after c ts).resets ≡ capped (c.resets + length ts)
-resets_in c [] few = omega (arith, few)
-resets_in c (t ∷ ts) few =
-    let next = counted false (refuses t) c in
-    resets_in next ts (still_capped true c.resets next.resets few refl)
-    ∙ capped_more true c.resets next.resets (length ts) few refl
-    ∙ ap (λ (k : ℕ). capped (c.resets + k)) (one_more (length ts))
+refused_by : (c : Counts) (t : Telling) →
+    (counts_behind c t).refused ≡ cond (refuses t) (next_count c.refused) c.refused
+refused_by c t = go (refuses t)
   where
-    one_more : (k : ℕ) → 1 + k ≡ suc k
-    one_more k = omega arith
-
-refused_by : (b : Bool) (c : Counts) → (counted false b c).refused ≡ cond b (next_count c.refused) c.refused
-refused_by true c = refl
-refused_by false c = refl
-
-refused_in : (c : Counts) (ts : List Telling) → c.refused ≤ 2 ^ 64 - 1 →
-    (counts_after c ts).refused ≡ capped (c.refused + how_many refuses ts)
-refused_in c [] few = omega (arith, few)
-refused_in c (t ∷ ts) few =
-    let next = counted false (refuses t) c in
-    let e = refused_by (refuses t) c in
-    refused_in next ts (still_capped (refuses t) c.refused next.refused few e)
-    ∙ capped_more (refuses t) c.refused next.refused (how_many refuses ts) few e
+    go : (b : Bool) → (counted false b c).refused ≡ cond b (next_count c.refused) c.refused
+    go true = refl
+    go false = refl
 
 pub in_order : ListsAreHeardAsRead → ListsAreRefusedAsRead → DumpsAreToldInOrder
 in_order heard unheard form dump text bad fit x =
@@ -193,10 +178,14 @@ in_order heard unheard form dump text bad fit x =
       each = s.each;
       text_is = x.text_is ∙ ap (λ (l : List ℕ). l ++ last_text form (length (dump_of x.records)) x.fault x.known) s.text_is;
       bad_is = x.bad_is ∙ ap (λ (b : Bool). b || is_some x.fault) s.bad_is;
-      resets_are = ap (λ (c : Counts). c.resets) s.counts_are ∙ resets_in nothing.counts s.tellings (omega arith) ∙ ap capped (none_more (length s.tellings));
-      refused_are = ap (λ (c : Counts). c.refused) s.counts_are ∙ refused_in nothing.counts s.tellings (omega arith) ∙ ap capped (how_many_count refuses s.tellings);
+      resets_are = ap (λ (c : Counts). c.resets) s.counts_are ∙ counted_in counts_behind (λ c. c.resets) (λ t. true) (λ c t. refl) nothing.counts s.tellings (omega arith) ∙ ap capped (all_more s.tellings);
+      refused_are = ap (λ (c : Counts). c.refused) s.counts_are ∙ counted_in counts_behind (λ c. c.refused) refuses refused_by nothing.counts s.tellings (omega arith) ∙ ap capped (how_many_count refuses s.tellings);
       tallies_are = s.tallies_are;
     }
   where
-    none_more : (k : ℕ) → 0 + k ≡ k
-    none_more k = omega arith
+    all_pass : (ts : List Telling) → how_many (λ t. true) ts ≡ length ts
+    all_pass [] = refl
+    all_pass (t ∷ ts) = omega (arith, all_pass ts)
+
+    all_more : (ts : List Telling) → 0 + how_many (λ t. true) ts ≡ length ts
+    all_more ts = omega (arith, all_pass ts)

@@ -20,6 +20,6 @@ pub use Rattle.reset_list.proofs.Update.{first_nowhere, first_there, get_push, g
 pub use Rattle.reset_list.proofs.Places.{places_none, places_push, places_same, places_set}
 pub use Rattle.reset_list.proofs.Begun.{eq_number}
 -- What a count that stays at its last value comes to.
-pub use Rattle.reset_list.proofs.Capped.{capped_more, still_capped, how_many, how_many_count}
+pub use Rattle.reset_list.proofs.Capped.{counted_in, how_many, how_many_count}
 -- That each quadlet of a list has 32 bits.
 pub use Rattle.reset_list.proofs.AsRead.{all_fit}

@@ -1,6 +1,7 @@
 -- A log is told entry by entry, in order.
 use Rattle.std.proofs.Common.{◌≡◌, ◌∙◌, ◌⊎◌, inl, inr, ℕ, ◌+◌, ◌-◌, ◌^◌, ◌<◌, ◌≤◌, ◌==◌, Bool, true, false, cond, ◌||◌, is_none, Option, Some, None, List, [], ◌∷◌, ◌++◌, refl, sym, ap, subst, append_assoc, append-nil, arith}
-use Rattle.std.specs.Prelude.{◌&&◌, not}
+use Rattle.std.specs.Prelude.{◌&&◌, not, fold}
+use Rattle.std.proofs.Math.Bool.{or_assoc}
 use Rattle.std.specs.BTreeMap.{is_at}
 use Rattle.std.specs.Ordering.{nat_cmp}
 use Rattle.bus_json.specs.Text.{json_line}
@@ -26,7 +27,7 @@ use Rattle.reset_list.specs.InOrder.{AreTold}
 use Rattle.reset_list.specs.Json.{IsListTold, told_refused, told_heard}
 use Rattle.reset_list.specs.Judged.{capture_by, ListsAreHeardAsRead, ListsAreRefusedAsRead}
 use Rattle.reset_list.specs.Shown.{is_refused, is_heard}
-use Rattle.reset_list.proofs.Lemmas.{all_fit, capped_more, still_capped, how_many, how_many_count}
+use Rattle.reset_list.proofs.Lemmas.{all_fit, counted_in, how_many, how_many_count}
 use Rattle.reset_log.specs.declared.cards.Known.{Known}
 use Rattle.reset_log.specs.declared.notes.Pending.{Pending}
 use Rattle.reset_log.specs.Json.{reset_value}
@@ -43,8 +44,7 @@ abbrev counts_behind : Counts → Telling → Counts
 counts_behind c t = cond (is_shown t.verdict) (counted t.second (has_fault t.verdict) c) c
 
 abbrev counts_after : Counts → List Telling → Counts
-counts_after c [] = c
-counts_after c (t ∷ ts) = counts_after (counts_behind c t) ts
+counts_after = fold counts_behind
 
 -- ---- tellings in two parts
 
@@ -52,15 +52,11 @@ texts-append : (ts us : List Telling) → texts (ts ++ us) ≡ texts ts ++ texts
 texts-append [] us = refl
 texts-append (t ∷ ts) us = ap (λ (l : List ℕ). t.text ++ l) (texts-append ts us) ∙ sym (append_assoc t.text (texts ts) (texts us))
 
-or_assoc : (a b c : Bool) → (a || (b || c)) ≡ ((a || b) || c)
-or_assoc true b c = refl
-or_assoc false b c = refl
-
 bad-append : (ts us : List Telling) → some_bad (ts ++ us) ≡ (some_bad ts || some_bad us)
 bad-append [] us = refl
 bad-append (t ∷ ts) us =
     ap (λ (b : Bool). (has_fault t.verdict || is_garbled t.verdict) || b) (bad-append ts us)
-    ∙ or_assoc (has_fault t.verdict || is_garbled t.verdict) (some_bad ts) (some_bad us)
+    ∙ sym (or_assoc (has_fault t.verdict || is_garbled t.verdict) (some_bad ts) (some_bad us))
 
 counts-append : (c : Counts) (ts us : List Telling) → counts_after c (ts ++ us) ≡ counts_after (counts_after c ts) us
 counts-append c [] us = refl
@@ -351,20 +347,6 @@ refused_by (refused f) s c = refl
 refused_by garbled s c = refl
 refused_by no_reset s c = refl
 
-resets_in : (c : Counts) (ts : List Telling) → c.resets ≤ 2 ^ 64 - 1 →
-    (counts_after c ts).resets ≡ capped (c.resets + how_many counts ts)
-resets_in c [] few = omega (arith, few)
-resets_in c (t ∷ ts) few =
-    let e = resets_by t.verdict t.second c in
-    resets_in (counts_behind c t) ts (still_capped (counts t) c.resets _ few e) ∙ capped_more (counts t) c.resets _ (how_many counts ts) few e
-
-refused_in : (c : Counts) (ts : List Telling) → c.refused ≤ 2 ^ 64 - 1 →
-    (counts_after c ts).refused ≡ capped (c.refused + how_many refuses ts)
-refused_in c [] few = omega (arith, few)
-refused_in c (t ∷ ts) few =
-    let e = refused_by t.verdict t.second c in
-    refused_in (counts_behind c t) ts (still_capped (refuses t) c.refused _ few e) ∙ capped_more (refuses t) c.refused _ (how_many refuses ts) few e
-
 pub in_order : ListsAreHeardAsRead → ListsAreRefusedAsRead → LogsAreToldInOrder
 in_order heard unheard form log text bad x =
     let s = steps heard unheard form 1 nothing (lines_of log) x.told bad x.known tt x.shown in
@@ -374,8 +356,8 @@ in_order heard unheard form log text bad x =
       each = s.each;
       text_is = x.text_is ∙ ap (λ (l : List ℕ). l ++ totals_text form x.known) s.text_is;
       bad_is = s.bad_is;
-      resets_are = ap (λ (c : Counts). c.resets) s.counts_are ∙ resets_in nothing.counts s.tellings (omega arith) ∙ ap capped (how_many_count counts s.tellings);
-      refused_are = ap (λ (c : Counts). c.refused) s.counts_are ∙ refused_in nothing.counts s.tellings (omega arith) ∙ ap capped (how_many_count refuses s.tellings);
+      resets_are = ap (λ (c : Counts). c.resets) s.counts_are ∙ counted_in counts_behind (λ c. c.resets) counts (λ c t. resets_by t.verdict t.second c) nothing.counts s.tellings (omega arith) ∙ ap capped (how_many_count counts s.tellings);
+      refused_are = ap (λ (c : Counts). c.refused) s.counts_are ∙ counted_in counts_behind (λ c. c.refused) refuses (λ c t. refused_by t.verdict t.second c) nothing.counts s.tellings (omega arith) ∙ ap capped (how_many_count refuses s.tellings);
       cards_are = s.cards_are;
       tallies_are = s.tallies_are;
       cut_off = s.held_is;
