@@ -12,6 +12,7 @@ _busconf() {
   busview:packets* | busview:tree* | busview:dot | busview:dot\ * | busview:json | busview:json\ *)
     words="--1995" files=yes
     ;;
+  busview:explain | busview:explain\ *) words="--json" files=yes ;;
   busview:resets* | busview:nosy* | busview:diff*) words="--1995 --json" files=yes ;;
   *) files=yes ;;
   esac

@@ -14,6 +14,8 @@ function __busview_words
             switch "$before[2..]"
                 case 'packets*' 'tree*' dot 'dot *' json 'json *'
                     set options --1995
+                case explain 'explain *'
+                    set options --json
                 case 'resets*' 'nosy*' 'diff*'
                     set options --1995 --json
             end

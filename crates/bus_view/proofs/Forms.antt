@@ -11,6 +11,7 @@ use Rattle.reset_list.specs.Form.{options}
 use Rattle.self_id.specs.declared.standard.Standard.TheVariants.{Ieee1995, Ieee2000}
 use Rattle.bus_view.specs.declared.form.CaptureView.{CaptureView}
 use Rattle.bus_view.specs.declared.form.CaptureView.TheVariants.{Packets, Tree, Dot, Json}
+use Rattle.bus_view.specs.declared.form.ExplainForm.TheVariants as explain
 use Rattle.bus_view.specs.declared.form.ViewForm.{ViewForm}
 use Rattle.bus_view.specs.declared.form.ViewForm.TheVariants.{Capture, Trace, Waves, DotRun, JsonRun, Script, ListOf, Explain, Resets, Nosy, OfItself}
 use Rattle.script_lines.specs.Name.{is_name}
@@ -57,6 +58,10 @@ log_of word form rest =
     cond (bytes_eq word (codes "resets")) (Some (Resets form))
     (cond (bytes_eq word (codes "nosy")) (Some (Nosy form)) rest)
 
+-- the faults of a script as lines of JSON
+abbrev explained_of : List ℕ → Option ViewForm
+explained_of word = cond (bytes_eq word (codes "explain")) (Some (Explain explain.Json)) None
+
 form_of : List (List ℕ) → Option ViewForm
 form_of [] = None
 form_of (word ∷ []) =
@@ -64,7 +69,7 @@ form_of (word ∷ []) =
     (cond (bytes_eq word (codes "waves")) (Some Waves)
     (cond (bytes_eq word (codes "dot-run")) (Some DotRun)
     (cond (bytes_eq word (codes "json-run")) (Some JsonRun)
-    (cond (bytes_eq word (codes "explain")) (Some Explain)
+    (cond (bytes_eq word (codes "explain")) (Some (Explain explain.Text))
     (cond (bytes_eq word (codes "--help")) (Some (OfItself Help))
     (cond (bytes_eq word (codes "-h")) (Some (OfItself Help))
     (cond (bytes_eq word (codes "--version")) (Some (OfItself Version))
@@ -73,7 +78,7 @@ form_of (word ∷ next ∷ []) =
     cond (bytes_eq word (codes "capture")) (named (is_name next) next)
     (cond (bytes_eq next (codes "--1995"))
     (log_of word (Text Ieee1995) (capture_of (view_of word) Ieee1995))
-    (cond (bytes_eq next (codes "--json")) (log_of word (Lines Ieee2000) None) None))
+    (cond (bytes_eq next (codes "--json")) (log_of word (Lines Ieee2000) (explained_of word)) None))
 form_of (word ∷ a ∷ b ∷ []) =
     cond (bytes_eq word (codes "script")) (of_numbers (number_of a) (number_of b))
     (cond (bytes_eq a (codes "--1995"))
@@ -110,7 +115,8 @@ is_found Trace words e = ap (λ (ws : List (List ℕ)). form_of ws) e
 is_found Waves words e = ap (λ (ws : List (List ℕ)). form_of ws) e
 is_found DotRun words e = ap (λ (ws : List (List ℕ)). form_of ws) e
 is_found JsonRun words e = ap (λ (ws : List (List ℕ)). form_of ws) e
-is_found Explain words e = ap (λ (ws : List (List ℕ)). form_of ws) e
+is_found (Explain explain.Text) words e = ap (λ (ws : List (List ℕ)). form_of ws) e
+is_found (Explain explain.Json) words e = ap (λ (ws : List (List ℕ)). form_of ws) e
 is_found (Resets (Text Ieee1995)) words e = ap (λ (ws : List (List ℕ)). form_of ws) e
 is_found (Resets (Text Ieee2000)) words e = ap (λ (ws : List (List ℕ)). form_of ws) e
 is_found (Resets (Lines Ieee1995)) words e = ap (λ (ws : List (List ℕ)). form_of ws) e
@@ -193,12 +199,18 @@ log_words word log form rest go =
 no_form : (form : ViewForm) (P : Type 0) → None ≡ Some form → P
 no_form form P e = absurd cc
 
+explained_words : (word : List ℕ) (form : ViewForm) → explained_of word ≡ Some form →
+    AreWordsOf form (word ∷ codes "--json" ∷ [])
+explained_words word form =
+    or_rest (bytes_eq word (codes "explain")) (word ∷ codes "--json" ∷ []) (Explain explain.Json) form None
+    (λ e. ap (λ (w : List ℕ). w ∷ codes "--json" ∷ []) ((bytes_eq-Decides word (codes "explain")).0 e)) (no_form form _)
+
 one_word : (word : List ℕ) (form : ViewForm) →
     cond (bytes_eq word (codes "trace")) (Some Trace)
     (cond (bytes_eq word (codes "waves")) (Some Waves)
     (cond (bytes_eq word (codes "dot-run")) (Some DotRun)
     (cond (bytes_eq word (codes "json-run")) (Some JsonRun)
-    (cond (bytes_eq word (codes "explain")) (Some Explain)
+    (cond (bytes_eq word (codes "explain")) (Some (Explain explain.Text))
     (cond (bytes_eq word (codes "--help")) (Some (OfItself Help))
     (cond (bytes_eq word (codes "-h")) (Some (OfItself Help))
     (cond (bytes_eq word (codes "--version")) (Some (OfItself Version))
@@ -209,7 +221,7 @@ one_word word form =
     (or_rest _ (word ∷ []) Waves form _ (with_standard Ieee2000 word (codes "waves"))
     (or_rest _ (word ∷ []) DotRun form _ (with_standard Ieee2000 word (codes "dot-run"))
     (or_rest _ (word ∷ []) JsonRun form _ (with_standard Ieee2000 word (codes "json-run"))
-    (or_rest _ (word ∷ []) Explain form _ (with_standard Ieee2000 word (codes "explain"))
+    (or_rest _ (word ∷ []) (Explain explain.Text) form _ (with_standard Ieee2000 word (codes "explain"))
     (or_rest _ (word ∷ []) (OfItself Help) form _ (λ e. inl (with_standard Ieee2000 word (codes "--help") e))
     (or_rest _ (word ∷ []) (OfItself Help) form _ (λ e. inr (with_standard Ieee2000 word (codes "-h") e))
     (or_rest _ (word ∷ []) (OfItself Version) form _ (with_standard Ieee2000 word (codes "--version"))
@@ -224,13 +236,13 @@ by_name false word next form is w e = absurd cc
 
 two_words : (first test lines : Bool) (word next : List ℕ) (form : ViewForm) → (first ≡ true → word ≡ codes "capture") →
     (test ≡ true → next ≡ codes "--1995") → (lines ≡ true → next ≡ codes "--json") →
-    cond first (named (is_name next) next) (cond test (log_of word (Text Ieee1995) (capture_of (view_of word) Ieee1995)) (cond lines (log_of word (Lines Ieee2000) None) None)) ≡ Some form →
+    cond first (named (is_name next) next) (cond test (log_of word (Text Ieee1995) (capture_of (view_of word) Ieee1995)) (cond lines (log_of word (Lines Ieee2000) (explained_of word)) None)) ≡ Some form →
     AreWordsOf form (word ∷ next ∷ [])
 two_words true test lines word next form w is js e = by_name (is_name next) word next form refl (w refl) e
 two_words false true lines word next form w is js e =
     rw (is refl) (log_words word (Text Ieee1995) form _ (of_capture (view_of word) Ieee1995 word form (view_is word)) e)
 two_words false false true word next form w is js e =
-    rw (js refl) (log_words word (Lines Ieee2000) form None (no_form form _) e)
+    rw (js refl) (log_words word (Lines Ieee2000) form (explained_of word) (explained_words word form) e)
 two_words false false false word next form w is js e = absurd cc
 
 -- 1 to 63 nodes and a seed that are found stand there
@@ -328,7 +340,7 @@ is_held words Trace asks no_log = tt
 is_held words Waves asks no_log = tt
 is_held words DotRun asks no_log = tt
 is_held words JsonRun asks no_log = tt
-is_held words Explain asks no_log = tt
+is_held words (Explain form) asks no_log = tt
 is_held words (Script nodes seed) asks no_log = (asks.some_nodes, asks.few_nodes)
 is_held words (ListOf name) asks no_log = tt
 is_held words (Resets form) asks no_log = absurd (no_log (form, inl asks))

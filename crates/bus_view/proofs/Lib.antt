@@ -11,3 +11,4 @@ pub mod Printed
 pub mod Captured
 pub mod TheLine
 pub mod ReadBack
+pub mod Told

@@ -27,6 +27,7 @@ use Rattle.view_text.specs.Pairs.{ArePacketsOf, pairs_text}
 use Rattle.view_text.proofs.Lemmas.{same_drawing}
 use Rattle.bus_view.specs.declared.form.CaptureView.{CaptureView}
 use Rattle.bus_view.specs.declared.form.CaptureView.TheVariants.{Packets, Tree as Drawn, Dot, Json}
+use Rattle.bus_view.specs.declared.form.ExplainForm.{ExplainForm}
 use Rattle.bus_view.specs.declared.form.ViewForm.{ViewForm}
 use Rattle.bus_view.specs.declared.form.ViewForm.TheVariants.{Capture, Trace, Waves, DotRun, JsonRun, Script, ListOf, Explain, Resets, Nosy, OfItself}
 use Rattle.bus_view.specs.Answer.{Reading, spelt, refused, IsReading, status_of, ShowsPackets, HasText, IsCaptureView, IsShown, shown, at_fault, json_refusal, IsListView, has_list, has_none, IsView, IsExplainView, has_text, has_fault}
@@ -145,16 +146,16 @@ listed-apart : (list : List ℕ) (fault : ScriptFault) → ◌≡◌ {A = Script
     (Err fault) → ⊥
 listed-apart list fault e = cc
 
-same_explanation : HasOneReading → (bytes : List ℕ) (s r : ℕ) (a b : List ℕ) → IsExplainView bytes s a →
-    IsExplainView bytes r b → (s ≡ r) × (a ≡ b)
-same_explanation one bytes s r a b (has_text p e x t) (has_text q f y u) = (e ∙ sym f, t ∙ sym u)
-same_explanation one bytes s r a b (has_text p e x t) (has_fault g f y u) =
+same_explanation : HasOneReading → (form : ExplainForm) (bytes : List ℕ) (s r : ℕ) (a b : List ℕ) → IsExplainView form bytes s a →
+    IsExplainView form bytes r b → (s ≡ r) × (a ≡ b)
+same_explanation one form bytes s r a b (has_text p e x t) (has_text q f y u) = (e ∙ sym f, t ∙ sym u)
+same_explanation one form bytes s r a b (has_text p e x t) (has_fault g f y u) =
     absurd (listed-apart p g (one.told bytes (Ok p) (Err g) x y))
-same_explanation one bytes s r a b (has_fault g e x t) (has_text p f y u) =
+same_explanation one form bytes s r a b (has_fault g e x t) (has_text p f y u) =
     absurd (listed-apart p g (one.told bytes (Ok p) (Err g) y x))
-same_explanation one bytes s r a b (has_fault g e x t) (has_fault h f y u) =
+same_explanation one form bytes s r a b (has_fault g e x t) (has_fault h f y u) =
     let same : g ≡ h = same-fault g h (one.told bytes (Err g) (Err h) x y) in
-    (e ∙ sym f, one_explained (feed_lines bytes) h a b (subst (λ (k : ScriptFault). IsExplained (feed_lines bytes) k a) same t) u)
+    (e ∙ sym f, one_explained form (feed_lines bytes) h a b (subst (λ (k : ScriptFault). IsExplained form (feed_lines bytes) k a) same t) u)
 
 -- ---- a script lists one thing of a node
 
@@ -190,7 +191,7 @@ same_view one DotRun bytes s r a b x y =
     same_told one IsPictured (explanation bytes) one.pictures one.pictured_texts bytes s r a b x y
 same_view one JsonRun bytes s r a b x y =
     same_told one AreReported json_refusal one.reports one.reported_texts bytes s r a b x y
-same_view one Explain bytes s r a b x y = same_explanation one bytes s r a b x y
+same_view one (Explain form) bytes s r a b x y = same_explanation one form bytes s r a b x y
 same_view one (Capture view standard) bytes s r a b x y =
     same_capture one view standard bytes s r a b x y
 same_view one (Script nodes seed) bytes s r a b x y = (x.0 ∙ sym y.0, x.1 ∙ sym y.1)

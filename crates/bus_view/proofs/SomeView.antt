@@ -26,6 +26,7 @@ use Rattle.bus_json.specs.Bus.{bus_value}
 use Rattle.bus_json.specs.Refusal.{fault_value}
 use Rattle.bus_view.specs.declared.form.CaptureView.{CaptureView}
 use Rattle.bus_view.specs.declared.form.CaptureView.TheVariants.{Packets, Tree as Drawn, Dot, Json}
+use Rattle.bus_view.specs.declared.form.ExplainForm.{ExplainForm}
 use Rattle.bus_view.specs.declared.form.ViewForm.{ViewForm}
 use Rattle.bus_view.specs.declared.form.ViewForm.TheVariants.{Capture, Trace, Waves, DotRun, JsonRun, Script, ListOf, Explain, Resets, Nosy, OfItself}
 use Rattle.about.specs.Told.{about_text}
@@ -37,7 +38,7 @@ use Rattle.bus_view.specs.Log.{status_if}
 use Rattle.bus_view.specs.Sentence.{place, note}
 use Rattle.bus_view.specs.Answer.{Reading, spelt, refused, IsReading, status_of, HasText, IsCaptureView, IsShown, shown, at_fault, json_refusal, IsListView, has_list, has_none, IsView, IsExplainView, has_text, has_fault}
 use Rattle.script_words.specs.Before.{feed_lines}
-use Rattle.bus_view.specs.Explained.{explanation}
+use Rattle.bus_view.specs.Explained.{explanation, no_fault}
 use Rattle.bus_view.specs.OneAnswer.{EachInputHasAView}
 use Rattle.bus_view.proofs.Said.{some_explained}
 use Rattle.top_call.proofs.Lemmas.{each_answered}
@@ -106,16 +107,16 @@ module _ (have : HasSomeReading) where
       go run is (Err f) tells =
           (1, said f, at_fault f refl (run, is, sym (ap (unless_stopped (printed run.entries)) (fails run f tells))) refl)
 
-  some-explanation : (bytes : List ℕ) → HasSome (IsExplainView bytes)
-  some-explanation bytes =
+  some-explanation : (form : ExplainForm) (bytes : List ℕ) → HasSome (IsExplainView form bytes)
+  some-explanation form bytes =
       let r = have.run bytes in
       go r.run r.is (result_of r.run) refl
     where
       go : (run : ScriptRun) → IsRun bytes run → (told : ScriptResult) → told ≡ result_of run →
-          HasSome (IsExplainView bytes)
-      go run is (Ok text) e = (0, codes "no fault\n", has_text text refl (run, is, e) refl)
+          HasSome (IsExplainView form bytes)
+      go run is (Ok text) e = (0, no_fault form, has_text text refl (run, is, e) refl)
       go run is (Err f) e =
-          let x = some_explained (feed_lines bytes) f in (1, x.0, has_fault f refl (run, is, e) x.1)
+          let x = some_explained form (feed_lines bytes) f in (1, x.0, has_fault f refl (run, is, e) x.1)
 
   some-list : (name bytes : List ℕ) → HasSome (IsListView name bytes)
   some-list name bytes =
@@ -139,7 +140,7 @@ module _ (have : HasSomeReading) where
       some-told IsPictureOf (explanation bytes) (λ b run is. let t = have.pictures b run is in (t.told, t.is)) (λ run fault e. e) bytes
   some-view JsonRun bytes fit =
       some-told AreLinesOf json_refusal (λ b run is. let t = have.reportings b run is in (t.told, t.is)) (λ run fault e. e) bytes
-  some-view Explain bytes fit = some-explanation bytes
+  some-view (Explain form) bytes fit = some-explanation form bytes
   some-view (Script nodes seed) bytes fit = (0, made_script nodes seed, (refl, refl))
   some-view (ListOf name) bytes fit = some-list name bytes
   some-view (Resets form) bytes fit =

@@ -35,7 +35,8 @@ use Rattle.bus_view.specs.declared.help.TheConstants.{VIEW_HELP}
 use Rattle.top_call.specs.Asked.{AnswersAsked}
 use Rattle.bus_view.specs.Form.{Asks}
 use Rattle.bus_view.specs.Sentence.{place, note}
-use Rattle.bus_view.specs.Explained.{explanation, IsExplained}
+use Rattle.bus_view.specs.declared.form.ExplainForm.{ExplainForm}
+use Rattle.bus_view.specs.Explained.{explanation, no_fault, IsExplained}
 use Rattle.bus_view.specs.Log.{IsLogView, IsDumpView}
 
 -- what a capture is read as by a standard: the tree that it spells, or its fault, as `busconf read`
@@ -113,11 +114,12 @@ abbrev pub IsReportsView : List ℕ → ℕ → List ℕ → Type 0
 IsReportsView = IsShown AreReported json_refusal
 
 -- a script has no fault, or the one for which `busconf run` refuses it and those that are told behind it
-pub data IsExplainView (bytes : List ℕ) (status : ℕ) (text : List ℕ) : Type 0 where
+pub data IsExplainView (form : ExplainForm) (bytes : List ℕ) (status : ℕ) (text : List ℕ) :
+    Type 0 where
   has_text : (printed : List ℕ) → status ≡ 0 → IsResult bytes (Ok printed) →
-      text ≡ codes "no fault\n" → IsExplainView bytes status text
+      text ≡ no_fault form → IsExplainView form bytes status text
   has_fault : (fault : ScriptFault) → status ≡ 1 → IsResult bytes (Err fault) →
-      IsExplained (feed_lines bytes) fault text → IsExplainView bytes status text
+      IsExplained form (feed_lines bytes) fault text → IsExplainView form bytes status text
 
 -- the script that is made, whatever the bytes
 abbrev pub IsScriptView : ℕ → ℕ → ℕ → List ℕ → Type 0
@@ -142,7 +144,7 @@ IsView Trace bytes status text = IsTraceView bytes status text
 IsView Waves bytes status text = IsWavesView bytes status text
 IsView DotRun bytes status text = IsGraphView bytes status text
 IsView JsonRun bytes status text = IsReportsView bytes status text
-IsView Explain bytes status text = IsExplainView bytes status text
+IsView (Explain form) bytes status text = IsExplainView form bytes status text
 IsView (Script nodes seed) bytes status text = IsScriptView nodes seed status text
 IsView (ListOf name) bytes status text = IsListView name bytes status text
 IsView (Resets form) bytes status text = IsLogView form bytes status text

@@ -11,6 +11,7 @@ use Rattle.reset_list.specs.declared.form.LogForm.{LogForm}
 use Rattle.reset_log.specs.Form.{AreWordsBy as AreResetsWords}
 use Rattle.nosy_dump.specs.Form.{AreWordsBy as AreNosyWords}
 use Rattle.bus_view.specs.declared.form.CaptureView.TheVariants.{Packets, Tree, Dot, Json}
+use Rattle.bus_view.specs.declared.form.ExplainForm.TheVariants as explain
 use Rattle.bus_view.specs.declared.form.ViewForm.{ViewForm}
 use Rattle.bus_view.specs.declared.form.ViewForm.TheVariants.{Capture, Trace, Waves, DotRun, JsonRun, Script, ListOf, Explain, Resets, Nosy, OfItself}
 
@@ -29,7 +30,8 @@ AreWordsOf Trace words = words ≡ codes "trace" ∷ []
 AreWordsOf Waves words = words ≡ codes "waves" ∷ []
 AreWordsOf DotRun words = words ≡ codes "dot-run" ∷ []
 AreWordsOf JsonRun words = words ≡ codes "json-run" ∷ []
-AreWordsOf Explain words = words ≡ codes "explain" ∷ []
+AreWordsOf (Explain explain.Text) words = words ≡ codes "explain" ∷ []
+AreWordsOf (Explain explain.Json) words = words ≡ codes "explain" ∷ codes "--json" ∷ []
 AreWordsOf (Script nodes seed) words = AreMadeWords (codes "script") nodes seed words
 AreWordsOf (ListOf name) words = (words ≡ codes "capture" ∷ name ∷ []) × IsTrue (is_name name)
 AreWordsOf (Resets form) words = AreResetsWords form words

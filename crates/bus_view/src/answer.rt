@@ -4,14 +4,14 @@ ghost use Rattle.std.specs.Io.KnownBytes.{IsAtEnd};
 ghost use Rattle.io_edges.specs.Faults.{Rose};
 ghost use Rattle.io_edges.specs.Told.{AreLeft, IfTold, TookOver};
 ghost use Rattle.bus_view.specs.declared.form.CaptureView.{CaptureView};
-ghost use Rattle.bus_view.specs.Answer.{IsFault, IsCaptureView, IsTraceView, IsWavesView, IsGraphView, IsReportsView, IsScriptView, IsListView, IsView, IsExplainView, IsViewOfItself};
-ghost use Rattle.bus_view.specs.Explained.{explanation_in, explanation, line_said, AreSaid, IsBehind, IsExplained};
-ghost use Rattle.script_words.specs.Before.{feed_lines};
+ghost use Rattle.bus_view.specs.Answer.{IsFault, IsCaptureView, IsTraceView, IsWavesView, IsGraphView, IsReportsView, IsScriptView, IsListView, IsView, IsViewOfItself};
+ghost use Rattle.bus_view.specs.Explained.{explanation};
 ghost use Rattle.bus_view.specs.codings.Reading.{IsReadWhole};
 ghost use Rattle.capture_reading.specs.Line.{fault_line};
 ghost use Rattle.bus_json.specs.Lines.{IsJsonLine};
 ghost use Rattle.bus_view.specs.ReadBack.{AreReports, IsDotOf, ReadsBack};
 
+use crate::explain::view_explain;
 use crate::form::{CaptureView, ViewForm};
 use crate::help::VIEW_HELP;
 use crate::refusal::fault_json;
@@ -24,9 +24,9 @@ use quad_lanes::{capture_of, quads_of};
 use script_made::make_script;
 use script_run::{
     ScriptFault, ScriptStop, dump_script, graph_script, json_script, kind_word, list_script,
-    run_script, script_line, trace_script,
+    script_line, trace_script,
 };
-use script_words::{CutScript, Kind, put_sentence};
+use script_words::put_sentence;
 use self_id::Standard;
 use std::alloc::Global;
 use top_call::{MAX_INPUT, REFUSED, Told, VALID};
@@ -194,99 +194,6 @@ fn view_trace(alloc: Global, bytes: &[u8]) -> Result<View, OutOfMemory>
     }
 }
 
-/// Appends the line of a script's fault, and what stands there and was wanted.
-fn put_explanation(
-    alloc: Global,
-    out: &mut Vec<u8>,
-    script: &CutScript,
-    fault: ScriptFault,
-) -> Result<(), OutOfMemory>
-    ensures { OnOk result (out.new.items ≡ out.old.items ++ explanation_in script.now fault) }
-{
-    out.extend_from_slice(script_line(fault).as_bytes())?;
-    script.put_sentence(alloc, out, fault)
-}
-
-/// Appends what is said of the line of this number, from 1, where it is at fault.
-fn put_line_said(
-    alloc: Global,
-    out: &mut Vec<u8>,
-    script: &CutScript,
-    number: u32,
-    fault: Option<Kind>,
-) -> Result<(), OutOfMemory>
-    ensures { OnOk result (out.new.items ≡ out.old.items ++ line_said script.now number fault) }
-{
-    if let Some(kind) = fault {
-        let line = number;
-        put_explanation(alloc, out, script, ScriptFault { line, kind })?;
-    }
-    Ok(())
-}
-
-/// What is said of the lines from this number on, from 0, that are at fault by their own words.
-fn lines_said(alloc: Global, script: &CutScript, first: usize) -> Result<Vec<u8>, OutOfMemory>
-    requires { length script.now < 2 ^ 32 }
-    ensures { IfOk result (λ text.
-        AreSaid script.now (first + 1) (drop first script.now) text.items) }
-{
-    let mut text = Vec::new(alloc);
-    for number in first..script.len() {
-        let fault = script.line_fault(alloc, number)?;
-        put_line_said(alloc, &mut text, script, number as u32 + 1, fault)?;
-    }
-    Ok(text)
-}
-
-/// What is said behind the line of this number, from 1, which has this fault by its own words, or
-/// none.
-fn said_behind(
-    alloc: Global,
-    script: &CutScript,
-    line: u32,
-    own: Option<Kind>,
-) -> Result<Vec<u8>, OutOfMemory>
-    requires { length script.now < 2 ^ 32 }
-    ensures { IfOk result (λ text. IsBehind script.now line own text.items) }
-{
-    match own {
-        None => Ok(Vec::new(alloc)),
-        Some(_) => lines_said(alloc, script, line as usize),
-    }
-}
-
-/// What is said of a script's fault, and of the lines behind it.
-fn all_explained(alloc: Global, bytes: &[u8], fault: ScriptFault) -> Result<Vec<u8>, OutOfMemory>
-    requires { length bytes.now ≤ 1048576 }
-    ensures { IfOk result (λ text. IsExplained (feed_lines bytes.now) fault text.items) }
-{
-    let script = CutScript::new(alloc, bytes)?;
-    let mut text = Vec::new(alloc);
-    put_explanation(alloc, &mut text, &script, fault)?;
-    let own = script.line_fault(alloc, fault.line.saturating_sub(1) as usize)?;
-    let behind = said_behind(alloc, &script, fault.line, own)?;
-    text.extend_from_slice(&behind)?;
-    Ok(text)
-}
-
-/// What is said of a script's faults, or that it has none.
-fn view_explain(alloc: Global, bytes: &[u8]) -> Result<View, OutOfMemory>
-    requires { length bytes.now ≤ 1048576 }
-    ensures { IfOk result (λ view. IsExplainView bytes.now view.status view.text.items) }
-{
-    match run_script(alloc, bytes) {
-        Ok(_text) => Ok(View {
-            status: VALID,
-            text: Vec::from_slice(alloc, b"no fault\n")?,
-        }),
-        Err(ScriptStop::Fault(fault)) => Ok(View {
-            status: REFUSED,
-            text: all_explained(alloc, bytes, fault)?,
-        }),
-        Err(ScriptStop::Memory(error)) => Err(error),
-    }
-}
-
 /// The dump of a script.
 fn view_waves(alloc: Global, bytes: &[u8]) -> Result<View, OutOfMemory>
     requires { length bytes.now ≤ 1048576 }
@@ -398,7 +305,7 @@ fn view_of(alloc: Global, form: ViewForm, bytes: &[u8]) -> Result<View, OutOfMem
         ViewForm::Waves => view_waves(alloc, bytes),
         ViewForm::DotRun => view_graph(alloc, bytes),
         ViewForm::JsonRun => view_reports(alloc, bytes),
-        ViewForm::Explain => view_explain(alloc, bytes),
+        ViewForm::Explain(form) => view_explain(alloc, form, bytes),
         ViewForm::ListOf(name) => view_list(alloc, &name, bytes),
         ViewForm::Script { .. } | ViewForm::Resets(_) | ViewForm::Nosy(_) | ViewForm::OfItself(_) =>
             unreachable!(),

@@ -22,6 +22,15 @@ pub enum CaptureView {
     Json,
 }
 
+/// How the faults of a script are explained.
+#[derive(Clone, Copy, Debug, PartialEq, Eq)]
+pub enum ExplainForm {
+    /// `explain`: the line of each fault as `busconf run` writes it, and a sentence.
+    Text,
+    /// `explain --json`: a line of JSON for each fault.
+    Json,
+}
+
 /// What the program can be asked for.
 #[derive(Clone, Debug, Drop, PartialEq, Eq)]
 pub enum ViewForm {
@@ -36,8 +45,9 @@ pub enum ViewForm {
     DotRun,
     /// `json-run`: the reports of a script as JSON, a line for each.
     JsonRun,
-    /// `explain`: what stands at the fault of a script and what was wanted there.
-    Explain,
+    /// `explain`: what stands at the faults of a script and what was wanted there; with `--json` behind it
+    /// as lines of JSON.
+    Explain(ExplainForm),
     /// `script N SEED`: the script that `busconf make N SEED` runs, for 1 to 63 nodes and a seed. The
     /// numbers are written as in a script. Nothing is read.
     Script { nodes: u8, seed: u32 },
@@ -68,7 +78,7 @@ impl ViewForm {
             "waves" => Some(ViewForm::Waves),
             "dot-run" => Some(ViewForm::DotRun),
             "json-run" => Some(ViewForm::JsonRun),
-            "explain" => Some(ViewForm::Explain),
+            "explain" => Some(ViewForm::Explain(ExplainForm::Text)),
             "resets" => Some(ViewForm::Resets(LogForm::Text(Standard::Ieee2000))),
             "nosy" => Some(ViewForm::Nosy(LogForm::Text(Standard::Ieee2000))),
             "--help" | "-h" => Some(ViewForm::OfItself(About::Help)),
@@ -102,6 +112,7 @@ impl ViewForm {
             ("nosy", "--1995") => Some(ViewForm::Nosy(LogForm::Text(Standard::Ieee1995))),
             ("resets", "--json") => Some(ViewForm::Resets(LogForm::Json(Standard::Ieee2000))),
             ("nosy", "--json") => Some(ViewForm::Nosy(LogForm::Json(Standard::Ieee2000))),
+            ("explain", "--json") => Some(ViewForm::Explain(ExplainForm::Json)),
             ("capture", name) => ViewForm::of_capture(name.as_bytes()),
             _ => None,
         }
@@ -158,7 +169,7 @@ pub const VIEW_USAGE: &str = "usage: busview packets [--1995] [CAPTURE ..]\n    
     busview json [--1995] [CAPTURE]\n       \
     busview trace [SCRIPT]\n       busview waves [SCRIPT]\n       \
     busview dot-run [SCRIPT]\n       busview json-run [SCRIPT]\n       \
-    busview explain [SCRIPT]\n       busview capture NAME [SCRIPT]\n       \
+    busview explain [--json] [SCRIPT]\n       busview capture NAME [SCRIPT]\n       \
     busview script N SEED\n       busview flawed KIND N SEED [--1995]\n       \
     busview resets [--1995] [--json] [LOG ..]\n       \
     busview nosy [--1995] [--json] [DUMP ..]\n       \

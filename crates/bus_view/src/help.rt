@@ -31,8 +31,8 @@ OLD and NEW are captures, of which one may be -.
 
 With --1995, which packets, tree, dot, json, resets, nosy, diff and flawed take,
 self-ID packets are read by IEEE Std 1394-1995: up to 27 ports a node. With
---json, which resets, nosy and diff take, the answer is lines of JSON. Options
-may come anywhere after the command; -- ends them.
+--json, which explain, resets, nosy and diff take, the answer is lines of JSON.
+Options may come anywhere after the command; -- ends them.
 
 A capture is the self-ID packets of one bus reset, each as a big-endian quadlet
 and its bitwise inverse. Input is at most 1,048,576 bytes; a log or a dump may

@@ -3,6 +3,7 @@
 
 mod answer;
 mod asked;
+mod explain;
 mod form;
 mod help;
 mod laws;
@@ -11,7 +12,7 @@ mod refusal;
 mod sentence;
 mod top;
 
-pub use form::{CaptureView, VIEW_USAGE, ViewForm};
+pub use form::{CaptureView, ExplainForm, VIEW_USAGE, ViewForm};
 pub use help::VIEW_HELP;
 pub use laws::{
     captures_are_of_reports, faults_tell_their_lines, make_sums_up_the_script, one_view,

@@ -8,6 +8,7 @@ ghost use Rattle.reset_list.specs.declared.form.LogForm.{LogForm};
 ghost use Rattle.nosy_dump.specs.Dump.{IsBegun};
 ghost use Rattle.io_edges.specs.Streams.{IsWritten, KeepsStreams};
 ghost use Rattle.bus_view.specs.declared.form.CaptureView.{CaptureView};
+ghost use Rattle.bus_view.specs.declared.form.ExplainForm.{ExplainForm};
 ghost use Rattle.bus_view.specs.declared.form.ViewForm.{ViewForm};
 ghost use Rattle.bus_view.specs.Form.{Asks, AsksLog, AsksNoInput, IsForm};
 ghost use Rattle.bus_view.specs.Answer.{IsCaptureView, IsTraceView, IsWavesView, IsExplainView};
@@ -80,7 +81,7 @@ fn view_asked<S: Source, K: Sink>(
 /// | status | comes |
 /// |---|---|
 /// | 0 | the capture was read to its end and spells a tree, or the script has no fault, and the whole view was written; or, with `script`, the whole script that is made; or all resets of a log or a dump without fault; or the whole help or version |
-/// | 1 | the capture was read to its end and is refused, as `busconf read` refuses it; with `packets` all its pairs were written, with the line of the fault and a sentence on it below the pair at fault, with the other forms the line alone, which `json` writes as JSON. Or the script is refused, as `busconf run` refuses it, and the line of its fault was written, which `json-run` writes as JSON. Or something in a log or a dump is at fault, and all that is shown of it was written |
+/// | 1 | the capture was read to its end and is refused, as `busconf read` refuses it; with `packets` all its pairs were written, with the line of the fault and a sentence on it below the pair at fault, with the other forms the line alone, which `json` writes as JSON. Or the script is refused, as `busconf run` refuses it, and the line of its fault was written, which `json-run` and `explain --json` write as JSON. Or something in a log or a dump is at fault, and all that is shown of it was written |
 /// | 2 | the words are none of the forms; nothing was read or written |
 /// | 3 | the source failed; nothing was written, but of a log or a dump what came before |
 /// | 4 | the sink failed; the first bytes of the text were written, or none |
@@ -134,7 +135,8 @@ pub fn view_main<S: Source, K: Sink>(
         result (S.left source.old) (K.written sink.old) (K.written sink.new) }
     ensures json_run { Asks words.now ViewForm.JsonRun → IsWritten IsReportsView
         result (S.left source.old) (K.written sink.old) (K.written sink.new) }
-    ensures explain { Asks words.now ViewForm.Explain → IsWritten IsExplainView
+    ensures explain { (form : ExplainForm) → Asks words.now (ViewForm.Explain form) →
+        IsWritten (IsExplainView form)
         result (S.left source.old) (K.written sink.old) (K.written sink.new) }
 
     // With `capture` it is the capture of the list of a script's node, which `busconf read` reads as
@@ -155,8 +157,8 @@ pub fn view_main<S: Source, K: Sink>(
         (result ≡ 0) (IsDumpView form) (IsBegun form)
         result source.old source.new sink.old sink.new }
 
-    // With `json`, `json-run`, `resets --json` and `nosy --json` it is lines of JSON (RFC 8259), each of
-    // which is read back as a value: those of `json-run` as the values of the script's reports.
+    // With `json`, `json-run`, `explain --json`, `resets --json` and `nosy --json` it is lines of JSON
+    // (RFC 8259), each of which is read back as a value: those of `json-run` as the values of the script's reports.
     ensures json_lines { AsksJson words.now → (result ≡ 0) ⊎ (result ≡ 1) →
         WritesJsonLines (K.written sink.old) (K.written sink.new) }
     ensures reports { Asks words.now ViewForm.JsonRun → result ≡ 0 →

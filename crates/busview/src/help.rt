@@ -17,11 +17,17 @@ const OF_RESETS: &str = "\
 --json  writes a line of JSON for each reset
 ";
 
+/// The option of `explain`.
+const OF_EXPLAIN: &str = "\
+--json  writes a line of JSON for each fault
+";
+
 /// The options of a command.
 pub(crate) fn options_of(command: &str) -> &'static str {
     match command {
         "packets" | "tree" | "dot" | "json" | "flawed" => BY_1995,
         "diff" => OF_DIFF,
+        "explain" => OF_EXPLAIN,
         "resets" | "nosy" => OF_RESETS,
         _ => "",
     }

@@ -107,7 +107,7 @@ fn hint_of(form: &ViewForm, front: &[u8]) -> &'static [u8] {
         | ViewForm::Waves
         | ViewForm::DotRun
         | ViewForm::JsonRun
-        | ViewForm::Explain
+        | ViewForm::Explain(_)
         | ViewForm::ListOf(_) => other_hint(front),
         ViewForm::Nosy(_) if begins_capture(front) => other_hint(front),
         _ => b"",

@@ -5,7 +5,8 @@ use Rattle.reset_list.specs.declared.form.LogForm.{LogForm}
 use Rattle.reset_list.specs.declared.form.LogForm.TheVariants.{Json as Lines}
 use Rattle.nosy_dump.specs.Dump.{IsBegun}
 use Rattle.top_call.proofs.Lemmas.{unread_written}
-use Rattle.bus_view.specs.declared.form.ViewForm.TheVariants.{Capture, JsonRun, Script, Resets, Nosy, OfItself}
+use Rattle.bus_view.specs.declared.form.ExplainForm.TheVariants.{Json as Each}
+use Rattle.bus_view.specs.declared.form.ViewForm.TheVariants.{Capture, JsonRun, Explain, Script, Resets, Nosy, OfItself}
 use Rattle.bus_view.specs.Log.{IsLogView, IsDumpView, IsLogBegun, ShowsAsItComes}
 use Rattle.bus_view.proofs.Ends.{of_form}
 use Rattle.bus_view.specs.declared.form.CaptureView.TheVariants.{Dot, Json}
@@ -146,9 +147,11 @@ returns-in-Some-clause-json_lines g c = λ json which.
           (c.in-Some.form, inl asks))
       | inr (inl run) ↦ absurd (log_apart c.args.words.now JsonRun tt run
           (c.in-Some.form, inl asks))
-      | inr (inr (inl log)) ↦ c.show_resets.ensures.json log.0
+      | inr (inr (inl faults)) ↦ absurd (log_apart c.args.words.now (Explain Each) tt faults
+          (c.in-Some.form, inl asks))
+      | inr (inr (inr (inl log))) ↦ c.show_resets.ensures.json log.0
           (one_resets c.args.words.now c.in-Some.form (Lines log.0) asks log.1) which
-      | inr (inr (inr dump)) ↦ absurd
+      | inr (inr (inr (inr dump))) ↦ absurd
           (no_dump c.args.words.now c.in-Some.form (Lines dump.0) asks dump.1)
     ]
 
@@ -165,9 +168,11 @@ returns-in-Some-dump_form-clause-json_lines g c = λ json which.
           (c.in-Some-dump_form.form, inr asks))
       | inr (inl run) ↦ absurd (log_apart c.args.words.now JsonRun tt run
           (c.in-Some-dump_form.form, inr asks))
-      | inr (inr (inl log)) ↦ absurd
+      | inr (inr (inl faults)) ↦ absurd (log_apart c.args.words.now (Explain Each) tt faults
+          (c.in-Some-dump_form.form, inr asks))
+      | inr (inr (inr (inl log))) ↦ absurd
           (no_dump c.args.words.now (Lines log.0) c.in-Some-dump_form.form log.1 asks)
-      | inr (inr (inr dump)) ↦ c.show_nosy.ensures.json dump.0
+      | inr (inr (inr (inr dump))) ↦ c.show_nosy.ensures.json dump.0
           (one_nosy c.args.words.now c.in-Some-dump_form.form (Lines dump.0) asks dump.1) which
     ]
 
@@ -182,8 +187,10 @@ returns-clause-json_lines g c = λ json which. elim json [
       record { text = told.2; lines = one_line told.2 told.3; wrote = told.4 }
   | inr (inl run) ↦ let told = c.answer.ensures.tells which JsonRun run in
       record { text = told.2; lines = told.3.lines; wrote = told.4 }
-  | inr (inr (inl log)) ↦ absurd (let e = (c.in_default.ensures (Lines log.0)).1 log.1 in cc)
-  | inr (inr (inr dump)) ↦ absurd
+  | inr (inr (inl faults)) ↦ let told = c.answer.ensures.tells which (Explain Each) faults in
+      record { text = told.2; lines = told.3 refl; wrote = told.4 }
+  | inr (inr (inr (inl log))) ↦ absurd (let e = (c.in_default.ensures (Lines log.0)).1 log.1 in cc)
+  | inr (inr (inr (inr dump))) ↦ absurd
       (let e = (c.in_default-dump_form.ensures (Lines dump.0)).1 dump.1 in cc)
 ]
 

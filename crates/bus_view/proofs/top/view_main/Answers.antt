@@ -30,7 +30,7 @@ pub returns-clause-json_run : goal.returns-clause-json_run
 returns-clause-json_run g c = λ asks. form_written c.args.words.now JsonRun asks _ _ _ _ (c.view_asked.ensures.streams (log_apart c.args.words.now JsonRun tt asks)).answer
 
 pub returns-clause-explain : goal.returns-clause-explain
-returns-clause-explain g c = λ asks. form_written c.args.words.now Explain asks _ _ _ _ (c.view_asked.ensures.streams (log_apart c.args.words.now Explain tt asks)).answer
+returns-clause-explain g c = λ form asks. form_written c.args.words.now (Explain form) asks _ _ _ _ (c.view_asked.ensures.streams (log_apart c.args.words.now (Explain form) tt asks)).answer
 
 pub returns-clause-capture : goal.returns-clause-capture
 returns-clause-capture g c = λ name asks.
