@@ -472,13 +472,13 @@ enum busconf_status busconf_capture(const char *script, size_t count, const char
 
 /* Tells the line of a script's fault as `busconf run` writes it, in ASCII with its line feed and with no byte 0 behind
  * it. BUSCONF_OK: the first `*needed` bytes at `place` are the line. BUSCONF_TOO_SHORT: `*needed` is how many they are;
- * no line has more than 48. BUSCONF_REFUSED: there is no such kind. BUSCONF_NO_MEMORY. Takes memory. */
+ * no line has more than 48. BUSCONF_REFUSED: there is no such kind. */
 enum busconf_status busconf_script_fault_text(const struct busconf_script_fault *fault, char *place, size_t room,
                                               size_t *needed);
 
 /* Tells the sentence of a script's fault as `busview trace` and `busview explain` write it: which word is at fault,
  * where it stands, and what may stand there. `script` is the one that has the fault. As busconf_script_fault_text, but
- * of any length, and BUSCONF_TOO_LONG. Takes memory. */
+ * of any length, and BUSCONF_TOO_LONG and BUSCONF_NO_MEMORY. Takes memory. */
 enum busconf_status busconf_script_sentence(const char *script, size_t count, const struct busconf_script_fault *fault,
                                             char *place, size_t room, size_t *needed);
 

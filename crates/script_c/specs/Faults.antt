@@ -1,6 +1,6 @@
 -- The records of the faults of scripts: the line, and the number of the kind.
 -- Statuses: 1 refused, 2 no memory.
-use Rattle.std.specs.Prelude.{◌≡◌, ℕ, ◌==◌, if◌then◌else◌, List, ◌++◌, codes, decimal}
+use Rattle.std.specs.Prelude.{◌≡◌, ℕ, ◌==◌, if◌then◌else◌}
 use Rattle.script_lines.specs.declared.kind.Kind.{Kind}
 use Rattle.script_lines.specs.declared.kind.Kind.TheVariants.{Word, Number, Name, Twice, Late, TooManyNodes, NoNode, NoPort, InUse, SameNode, NotPlugged, Range, NotSettled, NoManager, NotManager, TooManyTurns, TooManyMaps}
 use Rattle.script_lines.specs.declared.kind.ScriptFault.{ScriptFault}
@@ -64,27 +64,3 @@ fault_in r = record { line = r.line; kind = kind_in r.kind }
 -- the fault of a fault's record is that fault
 abbrev pub ScriptFaultsAreReadBack : Type 0
 ScriptFaultsAreReadBack = (f : ScriptFault) → fault_in (fault_record f) ≡ f
-
--- ---- the line of a fault: `refused line L KIND`
-
-abbrev pub kind_word : Kind → List ℕ
-kind_word Word = codes "Word"
-kind_word Number = codes "Number"
-kind_word Name = codes "Name"
-kind_word Twice = codes "Twice"
-kind_word Late = codes "Late"
-kind_word TooManyNodes = codes "TooManyNodes"
-kind_word NoNode = codes "NoNode"
-kind_word NoPort = codes "NoPort"
-kind_word InUse = codes "InUse"
-kind_word SameNode = codes "SameNode"
-kind_word NotPlugged = codes "NotPlugged"
-kind_word Range = codes "Range"
-kind_word NotSettled = codes "NotSettled"
-kind_word NoManager = codes "NoManager"
-kind_word NotManager = codes "NotManager"
-kind_word TooManyTurns = codes "TooManyTurns"
-kind_word TooManyMaps = codes "TooManyMaps"
-
-abbrev pub line_of : ScriptFault → List ℕ → List ℕ
-line_of f word = codes "refused line " ++ (decimal f.line ++ (codes " " ++ (word ++ codes "\n")))

@@ -1,6 +1,0 @@
-use Rattle.std.proofs.Common.{◌∙◌}
-use Rattle.c_border.specs.Places.{some}
-use Rattle.script_c.proofs.text.tell_line.Goals as goal
-
-pub returns-in-Ok : goal.returns-in-Ok
-returns-in-Ok c = some c.as_slice.result.now (c.as_slice.ensures.value ∙ c.in-Ok.ensures) c.tell_bytes.ensures
