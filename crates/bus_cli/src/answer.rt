@@ -13,7 +13,7 @@ use capture_reading::{CaptureStop, ShortText, fault_line};
 use quad_lanes::OutOfMemory;
 use script_text::maps_text;
 use std::alloc::Global;
-use top_call::{REFUSED, Told, VALID};
+use top_call::{REFUSED, Reply, VALID};
 use topology_stack::{BusTree, NameList, tree_text};
 
 /// What is written, and so the status.
@@ -25,7 +25,7 @@ pub enum Answer {
     Refused(ShortText),
 }
 
-impl Told for Answer {
+impl Reply for Answer {
     ghost status_of = { status_with };
 
     ghost text_of = { text_with };

@@ -29,7 +29,7 @@ use script_run::{
 use script_words::put_sentence;
 use self_id::Standard;
 use std::alloc::Global;
-use top_call::{MAX_INPUT, REFUSED, Told, VALID};
+use top_call::{MAX_INPUT, REFUSED, Reply, VALID};
 use topology_stack::{BusTree, Name, OutOfMemory};
 use view_text::{Note, packets_of, pairs_text, tree_drawing, tree_graph};
 
@@ -40,7 +40,7 @@ pub struct View {
     pub(crate) text: Vec<u8>,
 }
 
-impl Told for View {
+impl Reply for View {
     ghost status_of = { λ view. view.status };
 
     ghost text_of = { λ view. view.text.items };

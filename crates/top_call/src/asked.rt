@@ -9,7 +9,7 @@ use io_edges::{ReadStop, Source};
 use std::alloc::Global;
 
 /// An answer: a status and a text.
-pub trait Told: Drop {
+pub trait Reply: Drop {
     // its status
     ghost status_of: { Self → ℕ };
 
@@ -28,7 +28,7 @@ pub trait Told: Drop {
 /// Something that can be asked for by words, and is answered by a status and a text. The status is 0,
 /// or 1 where the bytes that are read are refused.
 pub trait Asked: Drop {
-    type Answer: Told;
+    type Answer: Reply;
 
     // these words ask for it
     ghost asks: { List (String GlobalValue) → Self → Type 0 };

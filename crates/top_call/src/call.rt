@@ -7,7 +7,7 @@ ghost use Rattle.io_edges.specs.Streams.{IsWritten, KeepsStreams, Writes};
 ghost use Rattle.top_call.specs.Asked.{AnswersAsked, AsksSome, AsksUnread};
 ghost use Rattle.top_call.specs.Asked.{EachHasAnAnswer, NoneHasTwoAnswers};
 
-use crate::asked::{Asked, Told};
+use crate::asked::{Asked, Reply};
 use crate::status::{NO_FORM, NO_MEMORY, READ_FAULT, TOO_LONG, WRITE_FAULT};
 use io_edges::{ReadStop, Sink, Source, write_whole};
 use std::alloc::Global;

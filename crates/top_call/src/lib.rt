@@ -9,7 +9,7 @@ mod asked;
 mod call;
 mod status;
 
-pub use asked::{Asked, Told};
+pub use asked::{Asked, Reply};
 pub use call::answer;
 pub use status::{
     MAX_INPUT, NO_FORM, NO_MEMORY, READ_FAULT, REFUSED, TOO_LONG, VALID, WRITE_FAULT,
