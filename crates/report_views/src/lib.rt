@@ -8,6 +8,6 @@ mod line;
 mod plain;
 mod report;
 
-pub use laws::{reports_have_one_view, reports_have_views};
+pub use laws::{report_graphs_are_dot, reports_have_one_view, reports_have_views};
 pub use line::report_line;
 pub use report::report_graph;
