@@ -1,17 +1,19 @@
 -- What comes of a list that is changed, or of its capture.
-use Rattle.std.proofs.Common.{◌≡◌, ◌≢◌, ◌⊎◌, inl, inr, ◌%◌, ◌/◌, ◌^◌, ◌+◌, ◌*◌, ◌<◌, ℕ, List, [], ◌∷◌, ◌++◌, length, take, refl, arith, ap, subst, sym, ◌∙◌}
-use Rattle.std.specs.List.{All}
+use Rattle.std.proofs.Common.{◌≡◌, ◌≢◌, ◌-◌, ◌%◌, ◌/◌, ◌+◌, ◌*◌, ◌<◌, ℕ, List, [], ◌∷◌, ◌++◌, length, take, slice_set, get_or, refl, arith, ap, subst, sym, ◌∙◌}
 use Rattle.std.proofs.lemmas.List.{length-take-le}
-use Rattle.std.proofs.lemmas.List.Elements.{All-append, All-cons, All-nil}
 use Rattle.quad_lanes.specs.Capture.{capture}
 use Rattle.self_id.specs.declared.standard.Standard.{Standard}
 use Rattle.topology_stack.specs.declared.fault.TreeFault.TheVariants.{Empty as NoPackets, AfterRoot as Behind}
 use Rattle.topology_stack.specs.Tree.{emits}
 use Rattle.capture_reading.specs.declared.fault.CaptureFault.TheVariants.{BadLength as BrokenPair, Tree as TreeRefused}
+use Rattle.capture_reading.specs.Capture.{IsCaptureOf}
 use Rattle.flawed_capture.specs.declared.flaw.Flaw.{Flaw}
 use Rattle.flawed_capture.specs.declared.flaw.Flaw.TheVariants.{BadLength, BadInverse, NotSelfId, WrongId, BadOrder, Cut, TwoParents, Empty, TooFewChildren, TreesLeft, AfterRoot, NoRoot, TooMany}
-use Rattle.flawed_capture.specs.Flaw.{HasFlaw}
-use Rattle.flawed_capture.specs.Spoilt.{IsSpoiltList, IsSpoilt, ComesAtOnce, ComesAtEnd, ComesAnywhere, IsListOfBus}
+use Rattle.flawed_capture.specs.Flaw.{HasFlaw, HasListFlaw}
+use Rattle.flawed_capture.specs.Other.{IsOther}
+use Rattle.flawed_capture.specs.Spoilt.{IsSpoiltList, IsSpoilt, ComesAt, ComesAnywhere, IsListOfBus}
+use Rattle.flawed_capture.proofs.First.{to_other_packet, to_other_node, to_other_order, to_cut}
+use Rattle.flawed_capture.proofs.Slots.{to_two_parents, to_too_few}
 
 -- bytes that end within a pair are refused for it
 broken : (standard : Standard) (bytes : List ℕ) → length bytes % 8 ≢ 0 → HasFlaw standard bytes BadLength
@@ -28,13 +30,10 @@ cut standard whole bytes at more count few inside pairs is =
     let long : length bytes ≡ 8 * at + 1 + more = ap length is ∙ length-take-le (8 * at + 1 + more) whole (omega (arith, few, inside, pairs)) in
     broken standard bytes (λ e. omega (arith, e, long, few))
 
--- no bytes are refused for having no packets
-no_bytes : (standard : Standard) (bytes : List ℕ) → bytes ≡ [] → HasFlaw standard bytes Empty
-no_bytes standard bytes none = record {
-  fault = TreeRefused NoPackets;
-  refused = ([], record { fit = All-nil (λ (q : ℕ). q < 2 ^ 32); bytes_are = none }, refl);
-  kind = refl;
-}
+-- a list without packets is refused for that
+pub no_packets : (standard : Standard) (flaw : Flaw) (list : List ℕ) → flaw ≡ Empty → list ≡ [] →
+    HasListFlaw standard list flaw
+no_packets standard flaw list is none = record { fault = NoPackets; refused = none; kind = is }
 
 -- the capture of a list that is changed as for a flaw of a kind
 pub of_spoilt : (flaw : Flaw) (list spoilt bytes : List ℕ) → flaw ≢ BadLength → flaw ≢ BadInverse →
@@ -53,39 +52,88 @@ of_spoilt AfterRoot list spoilt bytes a b is e = record { spoilt = spoilt; is_sp
 of_spoilt NoRoot list spoilt bytes a b is e = record { spoilt = spoilt; is_spoilt = is; parts = e }
 of_spoilt TooMany list spoilt bytes a b is e = record { spoilt = spoilt; is_spoilt = is; parts = e }
 
--- and that has the flaw, if it comes anywhere
-pub surely : (standard : Standard) (flaw : Flaw) (list spoilt bytes : List ℕ) → flaw ≢ BadLength →
-    flaw ≢ BadInverse → IsSpoiltList flaw list spoilt → bytes ≡ capture spoilt → ComesAtOnce flaw → HasFlaw standard bytes flaw
-surely standard Empty list spoilt bytes a b is e anywhere = no_bytes standard bytes (e ∙ ap capture is)
-surely standard BadLength list spoilt bytes a b is e anywhere = absurd (a refl)
-surely standard BadInverse list spoilt bytes a b is e anywhere = absurd (b refl)
-surely standard _ list spoilt bytes a b is e anywhere = absurd anywhere
+-- a capture has the flaw that its list has
+pub of_list : (standard : Standard) (flaw : Flaw) (list bytes : List ℕ) → IsCaptureOf list bytes →
+    HasListFlaw standard list flaw → HasFlaw standard bytes flaw
+of_list standard flaw list bytes said h = record {
+  fault = TreeRefused h.fault;
+  refused = (list, said, h.refused);
+  kind = h.kind;
+}
 
 -- a list that goes on behind the root is refused for it
-pub goes_on : (standard : Standard) (flaw : Flaw) (nodes more : ℕ) (list spoilt bytes : List ℕ) →
-    All (λ q. q < 2 ^ 32) list → more < 2 ^ 32 → ComesAtEnd flaw → IsListOfBus standard nodes list →
-    (flaw ≡ AfterRoot → spoilt ≡ list ++ more ∷ []) → bytes ≡ capture spoilt → HasFlaw standard bytes flaw
-goes_on standard AfterRoot nodes more list spoilt bytes fit small end bus is said =
-    let one = All-cons (λ q. q < 2 ^ 32) more [] small (All-nil (λ q. q < 2 ^ 32)) in
-    let parts : spoilt ≡ emits bus.t ++ more ∷ [] = is refl ∙ ap (λ (l : List ℕ). l ++ more ∷ []) (sym bus.emitted) in
+pub goes_on : (standard : Standard) (flaw : Flaw) (nodes at more : ℕ) (list spoilt : List ℕ) → flaw ≡ AfterRoot →
+    IsListOfBus standard nodes list → (at + 1 ≡ length list → spoilt ≡ list ++ more ∷ []) → ComesAt flaw list at →
+    HasListFlaw standard spoilt flaw
+goes_on standard flaw nodes at more list spoilt is bus behind comes =
+    let last : at + 1 ≡ length list = subst (λ (f : Flaw). ComesAt f list at) is comes in
     record {
-      fault = TreeRefused (Behind (length (emits bus.t)));
+      fault = Behind (length (emits bus.t));
       refused = (
-        spoilt,
-        record {
-          fit = subst (λ (l : List ℕ). All (λ q. q < 2 ^ 32) l) (sym (is refl)) (All-append (λ q. q < 2 ^ 32) list (more ∷ []) fit one);
-          bytes_are = said;
-        },
-        (bus.t, more ∷ [], bus.bus, parts, omega arith, refl),
+        bus.t,
+        more ∷ [],
+        bus.bus,
+        behind last ∙ ap (λ (l : List ℕ). l ++ more ∷ []) (sym bus.emitted),
+        omega arith,
+        refl,
       );
-      kind = refl;
+      kind = is;
     }
-goes_on standard _ nodes more list spoilt bytes fit small end bus is said = absurd end
 
--- a flaw that comes of any bus comes at once, or at the end
-pub either_way : (flaw : Flaw) → ComesAnywhere flaw → ComesAtOnce flaw ⊎ ComesAtEnd flaw
-either_way BadLength comes = inl tt
-either_way BadInverse comes = inl tt
-either_way Empty comes = inl tt
-either_way AfterRoot comes = inr tt
-either_way _ comes = absurd comes
+-- a flaw for which one quadlet is another
+pub other_one : (standard : Standard) (flaw : Flaw) (nodes at quad : ℕ) (list spoilt : List ℕ) →
+    flaw ≢ BadLength → flaw ≢ BadInverse → flaw ≢ Empty → flaw ≢ Cut → flaw ≢ AfterRoot →
+    IsListOfBus standard nodes list → IsOther flaw (get_or list at 0) quad → spoilt ≡ slice_set list at quad →
+    ComesAt flaw list at → HasListFlaw standard spoilt flaw
+other_one standard BadLength nodes at quad list spoilt a b c d e bus other is comes = absurd (a refl)
+other_one standard BadInverse nodes at quad list spoilt a b c d e bus other is comes = absurd (b refl)
+other_one standard Empty nodes at quad list spoilt a b c d e bus other is comes = absurd (c refl)
+other_one standard Cut nodes at quad list spoilt a b c d e bus other is comes = absurd (d refl)
+other_one standard AfterRoot nodes at quad list spoilt a b c d e bus other is comes = absurd (e refl)
+other_one standard NotSelfId nodes at quad list spoilt a b c d e bus other is comes =
+    to_other_packet standard nodes list spoilt quad bus (is ∙ ap (λ (k : ℕ). slice_set list k quad) comes)
+    (subst (λ (k : ℕ). IsOther NotSelfId (get_or list k 0) quad) comes other)
+other_one standard WrongId nodes at quad list spoilt a b c d e bus other is comes =
+    to_other_node standard nodes list spoilt quad bus (is ∙ ap (λ (k : ℕ). slice_set list k quad) comes)
+    (subst (λ (k : ℕ). IsOther WrongId (get_or list k 0) quad) comes other)
+other_one standard BadOrder nodes at quad list spoilt a b c d e bus other is comes =
+    to_other_order standard nodes list spoilt quad bus (is ∙ ap (λ (k : ℕ). slice_set list k quad) comes)
+    (subst (λ (k : ℕ). IsOther BadOrder (get_or list k 0) quad) comes other)
+other_one standard TwoParents nodes at quad list spoilt a b c d e bus other is comes =
+    to_two_parents standard nodes list spoilt quad bus (is ∙ ap (λ (k : ℕ). slice_set list k quad) comes)
+    (subst (λ (k : ℕ). IsOther TwoParents (get_or list k 0) quad) comes other)
+other_one standard TooFewChildren nodes at quad list spoilt a b c d e bus other is comes =
+    to_too_few standard nodes list spoilt quad bus (is ∙ ap (λ (k : ℕ). slice_set list k quad) comes)
+    (subst (λ (k : ℕ). IsOther TooFewChildren (get_or list k 0) quad) comes other)
+other_one standard _ nodes at quad list spoilt a b c d e bus other is comes = absurd comes
+
+-- one quadlet is another, and the list ends after it
+ends : (standard : Standard) (nodes at quad : ℕ) (list spoilt : List ℕ) →
+    IsListOfBus standard nodes list → spoilt ≡ take (at + 1) (slice_set list at quad) →
+    IsOther Cut (get_or list at 0) quad → ComesAt Cut list at → HasListFlaw standard spoilt Cut
+ends standard nodes at quad list spoilt bus is other comes =
+    to_cut standard nodes list (slice_set list 0 quad) quad bus refl spoilt
+    (is ∙ ap (λ (k : ℕ). take (k + 1) (slice_set list k quad)) comes)
+    (subst (λ (k : ℕ). IsOther Cut (get_or list k 0) quad) comes other)
+
+pub other_end : (standard : Standard) (flaw : Flaw) (nodes at quad : ℕ) (list spoilt : List ℕ) → flaw ≡ Cut →
+    IsListOfBus standard nodes list → spoilt ≡ take (at + 1) (slice_set list at quad) →
+    IsOther flaw (get_or list at 0) quad → ComesAt flaw list at → HasListFlaw standard spoilt flaw
+other_end standard flaw nodes at quad list spoilt is bus parts =
+    subst (λ (f : Flaw). IsOther f (get_or list at 0) quad → ComesAt f list at → HasListFlaw standard spoilt f) (sym is)
+    (ends standard nodes at quad list spoilt bus parts)
+
+-- a bus has a place at which a flaw comes that comes anywhere
+pub some_place : (standard : Standard) (flaw : Flaw) (list : List ℕ) → 0 < length list → ComesAnywhere flaw →
+    (at : ℕ) × (at < length list) × ComesAt flaw list at
+some_place standard BadLength list some comes = (0, some, tt)
+some_place standard BadInverse list some comes = (0, some, tt)
+some_place standard NotSelfId list some comes = (0, some, refl)
+some_place standard WrongId list some comes = (0, some, refl)
+some_place standard BadOrder list some comes = (0, some, refl)
+some_place standard Cut list some comes = (0, some, refl)
+some_place standard TwoParents list some comes = (0, some, refl)
+some_place standard TooFewChildren list some comes = (0, some, refl)
+some_place standard Empty list some comes = (0, some, tt)
+some_place standard AfterRoot list some comes = (length list - 1, omega (arith, some), omega (arith, some))
+some_place standard _ list some comes = absurd comes

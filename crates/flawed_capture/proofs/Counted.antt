@@ -14,7 +14,7 @@ use Rattle.topology_stack.proofs.Lemmas.{some_node}
 use Rattle.flawed_capture.specs.Flaw.{of_tree, least_nodes}
 
 -- each of these is a node that packets can show
-abbrev AreShown : List Node → Type 0
+abbrev pub AreShown : List Node → Type 0
 AreShown [] = Unit {0}
 AreShown (n ∷ ns) = IsNode n × AreShown ns
 
@@ -50,7 +50,7 @@ some_quad : (l : List ℕ) → 0 < node_count l → 0 < length l
 some_quad [] some = omega (arith, some)
 some_quad (q ∷ l) some = omega arith
 
-whole_shown : (t : Tree) → IsWhole t → AreShown (walk t)
+pub whole_shown : (t : Tree) → IsWhole t → AreShown (walk t)
 whole_shown (branch a s) h = shown-append (walk_below s) (node_of a s ∷ []) (parts_shown s h.2) (h.0, tt)
 
 -- so that of a bus tree has one

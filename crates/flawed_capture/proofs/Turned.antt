@@ -1,14 +1,11 @@
 -- A capture with another byte has a bad pair.
-use Rattle.std.proofs.Common.{◌≡◌, ◌≢◌, ℕ, zero, suc, ◌+◌, ◌*◌, ◌%◌, ◌^◌, ◌<◌, Bool, true, false, cond, Some, List, [], ◌∷◌, ◌++◌, length, get_or, set, refl, sym, ◌∙◌, ap, subst, arith, w32, eqb-true}
+use Rattle.std.proofs.Common.{◌≡◌, ◌≢◌, ℕ, zero, suc, ◌+◌, ◌*◌, ◌^◌, ◌<◌, Bool, true, false, cond, Some, List, [], ◌∷◌, ◌++◌, length, get_or, set, refl, sym, ◌∙◌, ap, subst, arith, w32, eqb-true}
 use Rattle.std.specs.Prelude.{◌==◌, not, All}
 use Rattle.std.specs.Int.{to_be_bytes, byte_at}
-use Rattle.std.specs.Int.RustNames.{bit_xor}
 use Rattle.std.specs.List.{AllByRecursion, position_from}
 use Rattle.std.proofs.lemmas.Iterator.Adapters.{position_from-zero}
 use Rattle.std.proofs.lemmas.List.{length-set}
 use Rattle.std.proofs.lemmas.List.Elements.{recursion_from_All}
-use Rattle.std.proofs.lemmas.Nat.Bits.{bit_at_xor, bit_at-zero, bit_at-lt, same_from_bits}
-use Rattle.std.specs.Int.{bit_at}
 use Rattle.quad_lanes.specs.Capture.{capture, CapturesAreWhole}
 use Rattle.quad_lanes.specs.Pairs.{big_endian, first_bad_pair, inverse, is_bad, pairs, quads_of}
 use Rattle.quad_lanes.proofs.Lemmas.{big_endian-bytes}
@@ -16,21 +13,6 @@ use Rattle.self_id.specs.declared.standard.Standard.{Standard}
 use Rattle.capture_reading.specs.declared.fault.CaptureFault.TheVariants.{BadInverse as BadPair}
 use Rattle.flawed_capture.specs.declared.flaw.Flaw.TheVariants.{BadInverse}
 use Rattle.flawed_capture.specs.Flaw.{HasFlaw}
-
--- ---- bits
-
--- some bits turned make another number
-pub xor_moves : (a x : ℕ) → bit_xor a x ≡ a → x ≡ 0
-xor_moves a x e = same_from_bits x 0 each
-  where
-    each : (i : ℕ) → bit_at x i ≡ bit_at 0 i
-    each i =
-        let moved = bit_at_xor a x i in
-        let here : bit_at (bit_xor a x) i ≡ bit_at a i = ap (λ (n : ℕ). bit_at n i) e in
-        small (bit_at a i) (bit_at x i) (bit_at-lt a i) (bit_at-lt x i) (sym moved ∙ here) ∙ sym (bit_at-zero i)
-      where
-        small : (p q : ℕ) → p < 2 → q < 2 → (p + q) % 2 ≡ p → q ≡ 0
-        small p q low few f = omega (arith, low, few, f)
 
 -- ---- a pair
 

@@ -5,6 +5,7 @@ use Rattle.self_id.specs.declared.fault.GroupFault.{GroupFault}
 use Rattle.self_id.specs.declared.standard.Standard.{Standard}
 use Rattle.topology_stack.specs.declared.fault.TreeFault as tree
 use Rattle.topology_stack.specs.declared.fault.TreeFault.{TreeFault}
+use Rattle.topology_stack.specs.Refused.{Refused}
 use Rattle.topology_stack.specs.Tree.{Tree}
 use Rattle.capture_reading.specs.declared.fault.CaptureFault as capture
 use Rattle.capture_reading.specs.declared.fault.CaptureFault.{CaptureFault}
@@ -36,6 +37,12 @@ abbrev pub of_capture : CaptureFault → Flaw
 of_capture (capture.TheVariants.BadLength pair) = BadLength
 of_capture (capture.TheVariants.BadInverse pair) = BadInverse
 of_capture (capture.TheVariants.Tree f) = of_tree f
+
+-- by a standard the list is refused by a fault of this kind
+pub record HasListFlaw (standard : Standard) (list : List ℕ) (flaw : Flaw) : Type 0 where
+  pub fault : TreeFault
+  pub refused : Refused standard list fault
+  pub kind : flaw ≡ of_tree fault
 
 -- by a standard the bytes are refused by a fault of this kind
 pub record HasFlaw (standard : Standard) (bytes : List ℕ) (flaw : Flaw) : Type 0 where

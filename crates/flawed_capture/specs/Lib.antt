@@ -1,3 +1,4 @@
 pub mod Flaw
 pub mod Spoilt
+pub mod Other
 pub mod Few

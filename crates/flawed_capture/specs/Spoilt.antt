@@ -4,7 +4,7 @@ use Rattle.quad_lanes.specs.Capture.{capture}
 use Rattle.self_id.specs.declared.standard.Standard.{Standard}
 use Rattle.topology_stack.specs.Tree.{Tree, IsBusTreeOf, emits, walk}
 use Rattle.flawed_capture.specs.declared.flaw.Flaw.{Flaw}
-use Rattle.flawed_capture.specs.declared.flaw.Flaw.TheVariants.{BadLength, BadInverse, Empty, Cut, AfterRoot, NoRoot, TooMany}
+use Rattle.flawed_capture.specs.declared.flaw.Flaw.TheVariants.{BadLength, BadInverse, NotSelfId, WrongId, BadOrder, Cut, TwoParents, Empty, TooFewChildren, AfterRoot, NoRoot, TooMany}
 
 -- ---- lists
 
@@ -74,22 +74,30 @@ IsSpoilt list bytes BadLength = IsShorter list bytes
 IsSpoilt list bytes BadInverse = HasOtherByte list bytes
 IsSpoilt list bytes flaw = IsOfSpoilt flaw list bytes
 
--- a flaw of this kind comes of the change at any place of any bus
-abbrev pub ComesAtOnce : Flaw → Type 0
-ComesAtOnce BadLength = Unit {0}
-ComesAtOnce BadInverse = Unit {0}
-ComesAtOnce Empty = Unit {0}
-ComesAtOnce flaw = ⊥
-
--- it comes of the change at the last place of any bus
-abbrev pub ComesAtEnd : Flaw → Type 0
-ComesAtEnd AfterRoot = Unit {0}
-ComesAtEnd flaw = ⊥
+-- a flaw of this kind comes of the change at this place of the list of any bus
+abbrev pub ComesAt : Flaw → List ℕ → ℕ → Type 0
+ComesAt BadLength list at = Unit {0}
+ComesAt BadInverse list at = Unit {0}
+ComesAt NotSelfId list at = at ≡ 0
+ComesAt WrongId list at = at ≡ 0
+ComesAt BadOrder list at = at ≡ 0
+ComesAt Cut list at = at ≡ 0
+ComesAt TwoParents list at = at ≡ 0
+ComesAt TooFewChildren list at = at ≡ 0
+ComesAt Empty list at = Unit {0}
+ComesAt AfterRoot list at = at + 1 ≡ length list
+ComesAt flaw list at = ⊥
 
 -- it comes of any bus, wherever the first change is tried
 abbrev pub ComesAnywhere : Flaw → Type 0
 ComesAnywhere BadLength = Unit {0}
 ComesAnywhere BadInverse = Unit {0}
+ComesAnywhere NotSelfId = Unit {0}
+ComesAnywhere WrongId = Unit {0}
+ComesAnywhere BadOrder = Unit {0}
+ComesAnywhere Cut = Unit {0}
+ComesAnywhere TwoParents = Unit {0}
+ComesAnywhere TooFewChildren = Unit {0}
 ComesAnywhere Empty = Unit {0}
 ComesAnywhere AfterRoot = Unit {0}
 ComesAnywhere flaw = ⊥

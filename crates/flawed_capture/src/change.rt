@@ -1,8 +1,10 @@
 //! Changes of a list that put a fault in.
-ghost use Rattle.std.specs.Prelude.{◌≡◌, ◌≢◌, ◌<◌, ◌≤◌, ◌+◌, ◌⊎◌, ◌∷◌, ◌++◌, [], ℕ, length, slice_set, IfOk};
+ghost use Rattle.std.specs.Prelude.{◌≡◌, ◌≢◌, ◌<◌, ◌≤◌, ◌+◌, ◌⊎◌, ◌/◌, ◌%◌, ◌^◌, ◌∷◌, ◌++◌, [], ℕ, length, take, slice_set, IfOk};
 ghost use Rattle.self_id.specs.declared.standard.Standard.{Standard};
-ghost use Rattle.flawed_capture.specs.Flaw.{HasFlaw};
-ghost use Rattle.flawed_capture.specs.Spoilt.{EndsWithOther, IsFront, HasMore, HasOtherAndMore, HasOther, IsSpoiltList, IsSpoilt, ComesAtOnce, ComesAtEnd, IsListOfBus};
+ghost use Rattle.capture_reading.specs.Capture.{IsCaptureOf};
+ghost use Rattle.flawed_capture.specs.Flaw.{HasFlaw, HasListFlaw};
+ghost use Rattle.flawed_capture.specs.Other.{IsOther};
+ghost use Rattle.flawed_capture.specs.Spoilt.{EndsWithOther, IsFront, HasMore, HasOtherAndMore, HasOther, IsSpoiltList, IsSpoilt, ComesAt, IsListOfBus};
 ghost use Rattle.flawed_capture.specs.declared.flaw.Flaw.{Flaw};
 
 use crate::flaw::Flaw;
@@ -19,10 +21,12 @@ const UP: u32 = 0xaaaa_aaaa;
 const FURTHER: u32 = 0x0080_0000;
 
 /// The bits of a self-ID packet's port fields. Of 1394a-2000's packet n = 1 five fields are ports.
-fn port_fields(standard: Standard, quad: u32) -> u32 {
-    if quad & FURTHER == 0 {
+fn port_fields(standard: Standard, quad: u32) -> u32
+    ensures { quad / 2 ^ 23 % 2 ≡ 0 → result ≡ 252 }
+{
+    if quad / FURTHER % 2 == 0 {
         0x0000_00fc
-    } else if matches!(standard, Standard::Ieee2000) && quad & 0x0070_0000 == 0x0010_0000 {
+    } else if matches!(standard, Standard::Ieee2000) && quad / 0x0010_0000 % 8 == 1 {
         0x0003_ff00
     } else {
         0x0003_fffc
@@ -42,7 +46,9 @@ fn without_parent(quad: u32, fields: u32) -> u32 {
 }
 
 /// The quadlet that takes the place of a packet's for a fault of a kind. The word says the rest.
-fn other_quad(flaw: Flaw, standard: Standard, quad: u32, word: u32) -> u32 {
+fn other_quad(flaw: Flaw, standard: Standard, quad: u32, word: u32) -> u32
+    ensures { IsOther flaw quad result }
+{
     let fields = port_fields(standard, quad);
     match flaw {
         Flaw::BadLength | Flaw::BadInverse | Flaw::Empty => quad,
@@ -71,7 +77,9 @@ fn with_other(alloc: Global, list: &[u32], at: usize, quad: u32) -> Result<Vec<u
 /// The same, and the list ends after it.
 fn ended(alloc: Global, list: &[u32], at: usize, quad: u32) -> Result<Vec<u32>, OutOfMemory>
     requires { at < length list.now }
-    ensures { IfOk result (λ spoilt. EndsWithOther list.now spoilt.items) }
+    ensures spoilt { IfOk result (λ spoilt. EndsWithOther list.now spoilt.items) }
+    ensures parts { IfOk result (λ spoilt.
+        spoilt.items ≡ take (at + 1) (slice_set list.now at quad)) }
 {
     let mut spoilt = with_other(alloc, list, at, quad)?;
     spoilt.truncate(at + 1);
@@ -123,8 +131,8 @@ fn behind_root(
     requires { at < length list.now }
     ensures spoilt { IfOk result (λ spoilt.
         HasMore list.now spoilt.items ⊎ HasOther list.now spoilt.items) }
-    ensures behind { at + 1 ≡ length list.now →
-        IfOk result (λ spoilt. spoilt.items ≡ list.now ++ more ∷ []) }
+    ensures behind { IfOk result (λ spoilt. at + 1 ≡ length list.now →
+        spoilt.items ≡ list.now ++ more ∷ []) }
 {
     if at + 1 == list.len() {
         with_more(alloc, list, more)
@@ -144,8 +152,9 @@ fn changed(
 ) -> Result<Vec<u32>, OutOfMemory>
     requires { at < length list.now }
     ensures spoilt { IfOk result (λ spoilt. IsSpoiltList flaw list.now spoilt.items) }
-    ensures behind { flaw ≡ Flaw.AfterRoot → at + 1 ≡ length list.now →
-        IfOk result (λ spoilt. spoilt.items ≡ list.now ++ word ∷ []) }
+    ensures sure { flaw ≢ Flaw.BadLength → flaw ≢ Flaw.BadInverse → IfOk result (λ spoilt.
+        (nodes : ℕ) → IsListOfBus standard nodes list.now → ComesAt flaw list.now at →
+        HasListFlaw standard spoilt.items flaw) }
 {
     let quad = other_quad(flaw, standard, list[at], word);
     let is_last = at + 1 == list.len();
@@ -157,6 +166,13 @@ fn changed(
         Flaw::TooMany => with_both(alloc, list, at, quad, word),
         _ => with_other(alloc, list, at, quad),
     }
+}
+
+/// The bytes of a list's capture.
+fn captured(alloc: Global, list: &[u32]) -> Result<Vec<u8>, OutOfMemory>
+    ensures { IfOk result (λ bytes. IsCaptureOf list.now bytes.items) }
+{
+    capture_of(alloc, list)
 }
 
 /// The bytes of a list's capture, cut off within the pair at a place.
@@ -207,17 +223,15 @@ pub(crate) fn spoilt_capture(
     requires at { at < length list.now }
     requires few { length list.now ≤ 252 }
     ensures spoilt { IfOk result (λ bytes. IsSpoilt list.now bytes.items flaw) }
-    ensures sure { IfOk result (λ bytes.
-        ComesAtOnce flaw → HasFlaw standard bytes.items flaw) }
-    ensures last { IfOk result (λ bytes. ComesAtEnd flaw → at + 1 ≡ length list.now →
-        (nodes : ℕ) → IsListOfBus standard nodes list.now → HasFlaw standard bytes.items flaw) }
+    ensures sure { IfOk result (λ bytes. (nodes : ℕ) → IsListOfBus standard nodes list.now →
+        ComesAt flaw list.now at → HasFlaw standard bytes.items flaw) }
 {
     match flaw {
         Flaw::BadLength => cut_capture(alloc, list, at, word),
         Flaw::BadInverse => turned_capture(alloc, list, at, word),
         _ => {
             let spoilt = changed(alloc, standard, flaw, list, at, word)?;
-            capture_of(alloc, &spoilt)
+            captured(alloc, &spoilt)
         }
     }
 }

@@ -1,5 +1,5 @@
 use Rattle.std.proofs.Common.{arith}
-use Rattle.flawed_capture.proofs.Turned.{xor_moves}
+use Rattle.flawed_capture.proofs.Bits.{xor_moves}
 use Rattle.flawed_capture.proofs.change.other_byte.Goals as goal
 
 pub returns : goal.returns
