@@ -1,17 +1,17 @@
 -- The line of an act or a hold is that of an event.
-use Rattle.std.proofs.Common.{◌≡◌, ℕ, ◌+◌, ◌<◌, ◌≤◌, List, [], ◌∷◌, ◌++◌, length, append-nil, append_assoc, length-append, Option, Some, None, refl, ap, sym, subst, ◌∙◌, arith, rules}
-use Rattle.std.specs.Prelude.{codes, decimal}
+use Rattle.std.proofs.Common.{◌≡◌, ℕ, ◌<◌, List, [], ◌++◌, append-nil, append_assoc, Option, Some, None, refl, ap, sym, subst, ◌∙◌, rules}
+use Rattle.std.specs.Prelude.{codes}
 use Rattle.topology_stack.specs.Name.{IsName}
 use Rattle.script_lines.specs.declared.command.Command.{Command}
 use Rattle.script_lines.specs.declared.command.Command.TheVariants as command
 use Rattle.script_text.specs.ReportText.{numbered}
-use Rattle.script_trace.specs.Trace.{choice, command_words, command_line}
+use Rattle.script_trace.specs.Trace.{choice, command_line}
 use Rattle.trace_event.specs.declared.event.Event.{Event}
 use Rattle.trace_event.specs.declared.event.Part.{Part}
 use Rattle.trace_event.specs.declared.event.What.{What}
 use Rattle.trace_event.specs.declared.event.What.TheVariants.{Plug, Pull, Reset, Hold, Config}
 use Rattle.trace_event.specs.Event as event
-use Rattle.trace_event.specs.Event.{end_words, what_words, event_line, HasNames, HasNumbers, IsShort, IsShownAt}
+use Rattle.trace_event.specs.Event.{end_words, what_words, HasNames, HasNumbers, IsShort}
 use Rattle.trace_event.specs.Stands.{bytes_of, IsNameIn}
 use Rattle.trace_laws.proofs.Lines.{IsLine, AreLines, one-line}
 use Rattle.trace_laws.proofs.EventLines.{part_behind, part-bytes, part-name, shown, one-name}

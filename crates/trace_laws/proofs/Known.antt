@@ -1,6 +1,6 @@
 -- Between two lines of a script each node has a name, and no more turns are done than a script may have.
-use Rattle.std.proofs.Common.{◌≡◌, ◌⊎◌, inl, inr, ℕ, zero, suc, ◌+◌, ◌<◌, ◌≤◌, ◌==◌, Bool, true, false, List, [], ◌∷◌, ◌++◌, Option, Some, None, length, refl, sym, subst, ◌∙◌, ap, arith}
-use Rattle.std.specs.Prelude.{All, Result, Ok, Err, IfSome, MatchBool, nat_lt, is_some, not, ◌&&◌, slice_get, slice_set, if◌then◌else◌}
+use Rattle.std.proofs.Common.{◌≡◌, ℕ, ◌+◌, ◌≤◌, ◌==◌, Bool, true, false, List, [], ◌∷◌, Option, Some, None, length, refl, sym, subst, ◌∙◌, ap, arith}
+use Rattle.std.specs.Prelude.{All, Result, Ok, Err, IfSome, MatchBool, nat_lt, slice_get, if◌then◌else◌}
 use Rattle.std.proofs.lemmas.Bool.Decides.{nat_tests}
 use Rattle.std.proofs.lemmas.List.Elements.{All-nil, All-cons, All-head, All-tail, All-push}
 use Rattle.topology_stack.specs.Name.{IsName}
@@ -28,12 +28,12 @@ use Rattle.script_lines.specs.declared.command.Command.TheVariants as command
 use Rattle.script_lines.specs.Name.{NamesAreTested}
 use Rattle.script_lines.specs.Line.{ReadsLine}
 use Rattle.script_lines.specs.Times.{standard_times}
-use Rattle.script_told.specs.Bus.{Bus, Notes, ReportedTree, node_named, tree_with, values_at, is_declared}
+use Rattle.script_told.specs.Bus.{Bus, ReportedTree, node_named, tree_with, values_at, is_declared}
 use Rattle.script_told.specs.Step.{LineAnswer, AtNamedNode, AtTree, AtManager, Settled, Within, Reports, DoesSettle, Plans, Does, id_of, config_of}
-use Rattle.script_told.specs.Script.{Draft, Stage, fresh, declaring, running, StageAnswer, bus_of, ranges_of, first_draft, draft_with, draft_of, with_node, with_times, with_clock, slows_node, slows_named, takes_times, Declares, Delays, SaysTimes, Slows, onwards, DoesOnBus, DoesAtStage, script_lines}
+use Rattle.script_told.specs.Script.{Draft, Stage, fresh, declaring, running, StageAnswer, bus_of, ranges_of, draft_with, draft_of, with_node, with_times, with_clock, slows_node, slows_named, takes_times, Declares, Delays, SaysTimes, Slows, onwards, DoesOnBus, script_lines}
 use Rattle.script_told.specs.Run.{Entry, ScriptRun, done, stopped, last_run, Proceeds, TakesLine, RunsFrom, IsRun}
 use Rattle.script_told.specs.ScriptEvents.{TakesNoTurn, RunsOn}
-use Rattle.script_told.proofs.Lemmas.{AfterTurns, after-turns, IsDone, each-done, IsSound, sound-bus, plan-act, plan-carried, runs-on, stage-in}
+use Rattle.script_told.proofs.Lemmas.{after-turns, IsDone, each-done, sound-bus, plan-act, plan-carried, runs-on, stage-in}
 use Rattle.trace_laws.proofs.Said.{IsSaid, said-line}
 
 -- what is known of a bus

@@ -15,7 +15,7 @@ use Rattle.script_lines.specs.Number.{number_of}
 use Rattle.script_lines.specs.Name.{is_name, NamesAreTested}
 use Rattle.script_lines.specs.Shape.{Shape, the, a_name, a_number, a_given, fits, fit, wrong, first_wrong, out_of}
 use Rattle.script_lines.specs.Form as form
-use Rattle.script_lines.specs.Form.{Form, shapes, word_at, number_at, command_of}
+use Rattle.script_lines.specs.Form.{Form, shapes, word_at, command_of}
 use Rattle.script_lines.specs.Words.{words_of}
 use Rattle.script_lines.specs.Node.{has_node_form, node_shapes, node_command, wrong_node, first_wrong_pair, are_pairs}
 use Rattle.script_lines.specs.Line.{LineForm, node, other, meaning, wrong_word, has_form, IsCommand, ReadsLine}

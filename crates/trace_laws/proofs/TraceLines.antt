@@ -1,6 +1,6 @@
 -- The trace of a script is lines of events.
-use Rattle.std.proofs.Common.{◌≡◌, ℕ, zero, suc, ◌+◌, ◌<◌, ◌≤◌, List, [], ◌∷◌, ◌++◌, ◌⊎◌, inl, inr, Option, Some, None, length, map, slice_get, refl, sym, subst, ◌∙◌, ap, arith}
-use Rattle.std.specs.Prelude.{All, Ok, Err, unwrap_or}
+use Rattle.std.proofs.Common.{◌≡◌, ℕ, zero, suc, ◌+◌, ◌<◌, ◌≤◌, List, [], ◌∷◌, inl, inr, Option, Some, None, length, map, slice_get, refl, sym, subst, ◌∙◌, ap, arith}
+use Rattle.std.specs.Prelude.{All, unwrap_or}
 use Rattle.std.specs.Option.{ForSome}
 use Rattle.std.proofs.lemmas.List.Elements.{All-head, All-tail, All-get_or}
 use Rattle.std.proofs.lemmas.Option.{slice_get-get_or, slice_get_within, slice_get_cases}
@@ -21,24 +21,23 @@ use Rattle.settle.proofs.Lemmas.{same-quiet}
 use Rattle.script_lines.specs.Name.{NamesAreTested}
 use Rattle.script_lines.specs.declared.command.Command.{Command}
 use Rattle.script_lines.specs.declared.command.Command.TheVariants.{Plug, Pull, Reset, Turn, Hold, Settle, Config, Plan}
-use Rattle.script_text.specs.ReportText.{Names, name_of}
+use Rattle.script_text.specs.ReportText.{Names}
 use Rattle.script_told.specs.Bus.{Bus}
-use Rattle.script_told.specs.Step.{Does, config_of}
+use Rattle.script_told.specs.Step.{config_of}
 use Rattle.script_told.specs.Script.{Stage, fresh, declaring, running, bus_of}
 use Rattle.script_told.specs.SomeAnswer.{IsReachedBus}
-use Rattle.script_told.specs.Run.{Entry, ScriptRun, done}
+use Rattle.script_told.specs.Run.{Entry, done}
 use Rattle.script_told.specs.ScriptEvents.{TakesNoTurn, RunsOn}
-use Rattle.script_told.proofs.Lemmas.{IsDone, sound-bus, plan-act, runs-on}
+use Rattle.script_told.proofs.Lemmas.{sound-bus, plan-act, runs-on}
 use Rattle.script_trace.specs.Event.{Seen}
 use Rattle.script_trace.specs.Step.{lines_since, seen_before_turn, seen_before_act, node_before_act}
 use Rattle.script_trace.specs.Voice.{Legend, legend_of, turns_told}
-use Rattle.script_trace.specs.Trace.{command_line, act_trace, quiet_trace, TracesPlan, Traces, TracesAt, AllTrace, trace_voice, IsTraceOf, IsTrace}
+use Rattle.script_trace.specs.Trace.{command_line, act_trace, quiet_trace, TracesPlan, Traces, TracesAt, AllTrace, trace_voice}
 use Rattle.trace_laws.specs.Traces.{TracesAreOfEvents}
 use Rattle.trace_laws.proofs.Lines.{AreLines, none, both-lines, of-events}
 use Rattle.trace_laws.proofs.CommandLines.{IsTold, told-lines}
 use Rattle.trace_laws.proofs.NodeLines.{HasShortNumbers, AreNamed, since-lines}
-use Rattle.trace_laws.proofs.Said.{IsSaid}
-use Rattle.trace_laws.proofs.Known.{IsKnown, IsKnownEntry, turn-within, settle-within, plan-turns, each-known}
+use Rattle.trace_laws.proofs.Known.{IsKnownEntry, turn-within, settle-within, plan-turns, each-known}
 use Rattle.trace_laws.proofs.Waits.{turn-waits, act-draws}
 
 -- ---- what nodes show

@@ -11,7 +11,7 @@ use Rattle.cabling.specs.Wiring.{ports_of}
 use Rattle.cable_world.specs.declared.act.Act.{Act}
 use Rattle.cable_world.specs.World.{CableWorld}
 use Rattle.cable_world.specs.Turn.{turn, turn_at, inbox, hear_all}
-use Rattle.cable_world.specs.Act.{Acted, change_in_set, note_changes}
+use Rattle.cable_world.specs.Act.{Acted, change_in_set}
 use Rattle.cable_world.specs.Lawful.{IsLawful, IsWellFormed}
 use Rattle.cable_world.proofs.Lemmas.{Acting, acting, each-kept, before, hears, turn-state, some-same}
 

@@ -1,5 +1,4 @@
-//! A law: the trace of a script is lines of events, one behind the other, so that a caller who reads an
-//! event at the beginning, and then always at the place behind it, comes to the end and misses none.
+//! A law: the trace of a script is the lines of events, one behind the other, as `trace_event` reads them.
 #![tactic(auto)]
 
 mod laws;
