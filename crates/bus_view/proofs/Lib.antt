@@ -12,3 +12,4 @@ pub mod Captured
 pub mod TheLine
 pub mod ReadBack
 pub mod Told
+pub mod Whole

@@ -8,6 +8,7 @@ ghost use Rattle.reset_list.specs.declared.form.LogForm.{LogForm};
 ghost use Rattle.nosy_dump.specs.Dump.{IsBegun};
 ghost use Rattle.io_edges.specs.Streams.{IsWritten, KeepsStreams};
 ghost use Rattle.bus_view.specs.declared.form.CaptureView.{CaptureView};
+ghost use Rattle.trace_laws.specs.Events.{IsOfEvents};
 ghost use Rattle.bus_view.specs.declared.form.ExplainForm.{ExplainForm};
 ghost use Rattle.bus_view.specs.declared.form.ViewForm.{ViewForm};
 ghost use Rattle.bus_view.specs.Form.{Asks, AsksLog, AsksNoInput, IsForm};
@@ -29,6 +30,7 @@ use nosy_dump::dump_form;
 use reset_log::resets_form;
 use std::alloc::Global;
 use top_call::answer;
+use trace_laws::traces_are_of_events;
 
 /// Answers the words, as `view_main` has it.
 fn view_asked<S: Source, K: Sink>(
@@ -172,6 +174,12 @@ pub fn view_main<S: Source, K: Sink>(
         IfSome (S.left source.old) (λ bytes. (text : List ℕ) × IsDotOf standard bytes text
         × Appends (K.written sink.old) (K.written sink.new) text) }
 
+    // With `trace` it is, at status 0, the lines of events, one behind the other: `trace_event::event_at`
+    // finds each of them, asked at the first byte and then always behind the event that it found.
+    ensures trace_events { Asks words.now ViewForm.Trace → result ≡ 0 →
+        IfSome (S.left source.old) (λ bytes. (text : List ℕ) × IsOfEvents text
+        × Appends (K.written sink.old) (K.written sink.new) text) }
+
     // With `script` there is no fault, and what is written at status 0 is the script that is made for
     // the nodes and the seed. What `busconf run` answers to it has no fault, and `busconf make` writes
     // its summary. With `--help` and `-h` it is the help, and with `--version` the version.
@@ -185,5 +193,6 @@ pub fn view_main<S: Source, K: Sink>(
 {
     make_sums_up_the_script();
     captures_are_of_reports();
+    traces_are_of_events();
     view_asked(alloc, words, source, sink)
 }

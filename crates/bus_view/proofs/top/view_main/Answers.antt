@@ -1,4 +1,8 @@
 use Rattle.script_made.specs.Made.{made_script}
+use Rattle.script_trace.specs.Trace.{IsTrace}
+use Rattle.trace_laws.specs.Events.{IsOfEvents}
+use Rattle.bus_view.specs.Explained.{explanation}
+use Rattle.bus_view.proofs.Whole.{written_whole}
 use Rattle.bus_view.specs.declared.form.CaptureView.TheVariants.{Packets, Tree, Dot, Json}
 use Rattle.bus_view.specs.declared.form.ViewForm.TheVariants.{Capture, Trace, Waves, DotRun, JsonRun, ListOf, Explain}
 use Rattle.bus_view.proofs.Forms.{log_apart}
@@ -40,3 +44,9 @@ returns-clause-capture g c = λ name asks.
 pub returns-clause-script : goal.returns-clause-script
 returns-clause-script g c = λ nodes seed asks zero.
     (made_script nodes seed, c.make_sums_up_the_script.ensures nodes seed asks.few_nodes, c.view_asked.ensures.script nodes seed asks zero)
+
+pub returns-clause-trace_events : goal.returns-clause-trace_events
+returns-clause-trace_events g c = λ asks zero.
+    written_whole IsTrace explanation (λ bytes text. IsOfEvents text) c.traces_are_of_events.ensures.events
+    (g.S.Source.left c.args.source.now) _ _ c.view_asked.result zero
+    (form_written c.args.words.now Trace asks _ _ _ _ (c.view_asked.ensures.streams (log_apart c.args.words.now Trace tt asks)).answer)
