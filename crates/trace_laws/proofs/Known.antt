@@ -1,6 +1,6 @@
 -- Between two lines of a script each node has a name, and no more turns are done than a script may have.
 use Rattle.std.proofs.Common.{◌≡◌, ℕ, ◌+◌, ◌≤◌, ◌==◌, Bool, true, false, List, [], ◌∷◌, Option, Some, None, length, refl, sym, subst, ◌∙◌, ap, arith}
-use Rattle.std.specs.Prelude.{All, Result, Ok, Err, IfSome, MatchBool, nat_lt, slice_get, if◌then◌else◌}
+use Rattle.std.specs.Prelude.{All, Result, Ok, Err, IfOk, IfSome, MatchBool, nat_lt, slice_get, if◌then◌else◌}
 use Rattle.std.proofs.lemmas.Bool.Decides.{nat_tests}
 use Rattle.std.proofs.lemmas.List.Elements.{All-nil, All-cons, All-head, All-tail, All-push}
 use Rattle.topology_stack.specs.Name.{IsName}
@@ -331,56 +331,65 @@ pub record IsKnownEntry (e : Entry) : Type 0 where
   pub before : IsKnown (bus_of e.before)
   pub after : IsKnown (bus_of e.after)
 
+-- what is known of a run: of each of its commands, and of the bus that is left at its end
+pub record IsKnownRun (run : ScriptRun) : Type 0 where
+  pub each : All IsKnownEntry run.entries
+  pub end : IfOk run.end IsKnown
+
 module _ (tested : NamesAreTested) where
   abbrev KnownFrom : (Stage → ScriptRun → Type 0) → Type 0
   KnownFrom Rest =
       (stage : Stage) (run : ScriptRun) → IsKnown (bus_of stage) → Rest stage run → All IsDone run.entries →
-      All IsKnownEntry run.entries
+      IsKnownRun run
 
-  none : (number : ℕ) (k : Kind) (run : ScriptRun) → run ≡ stopped number k → All IsKnownEntry run.entries
-  none number k run e = subst (λ (r : ScriptRun). All IsKnownEntry r.entries) (sym e) (All-nil IsKnownEntry)
+  none : (number : ℕ) (k : Kind) (run : ScriptRun) → run ≡ stopped number k → IsKnownRun run
+  none number k run e = subst IsKnownRun (sym e) (record { each = All-nil IsKnownEntry; end = tt })
 
   goes :
       (number : ℕ) (Rest : Stage → ScriptRun → Type 0) (stage : Stage) (command : Command) (r : StageAnswer) (run : ScriptRun) →
       KnownFrom Rest → IsKnown (bus_of stage) → IsSaid command → Proceeds number Rest stage command r run →
-      All IsDone run.entries → All IsKnownEntry run.entries
+      All IsDone run.entries → IsKnownRun run
   goes number Rest stage command (Ok (next, text)) run rest k s x d =
       let e : Entry = done number stage command next text in
       let all : All IsDone (e ∷ x.0.entries) = subst (λ (r : ScriptRun). All IsDone r.entries) x.2 d in
       let first : IsDone e = All-head IsDone e x.0.entries all in
       let left : IsKnown (bus_of next) = leaves number stage command next text first s k in
-      subst (λ (r : ScriptRun). All IsKnownEntry r.entries) (sym x.2)
-      (All-cons IsKnownEntry e x.0.entries (record { done = first; said = s; before = k; after = left })
-      (rest next x.0 left x.1 (All-tail IsDone e x.0.entries all)))
+      let more : IsKnownRun x.0 = rest next x.0 left x.1 (All-tail IsDone e x.0.entries all) in
+      subst IsKnownRun (sym x.2) (record {
+        each = All-cons IsKnownEntry e x.0.entries (record { done = first; said = s; before = k; after = left }) more.each;
+        end = more.end;
+      })
   goes number Rest stage command (Err fault) run rest k s x d = none number fault run x
 
   takes :
       (number : ℕ) (Rest : Stage → ScriptRun → Type 0) (stage : Stage) (line : List ℕ) (reading : Result (Option Command) Kind)
       (run : ScriptRun) → KnownFrom Rest → IsKnown (bus_of stage) → ReadsLine (ranges_of stage) line reading →
-      TakesLine number Rest stage reading run → All IsDone run.entries → All IsKnownEntry run.entries
+      TakesLine number Rest stage reading run → All IsDone run.entries → IsKnownRun run
   takes number Rest stage line (Ok None) run rest k reads x d = rest stage run k x d
   takes number Rest stage line (Ok (Some command)) run rest k reads x d =
       goes number Rest stage command x.0 run rest k (said-line tested (ranges_of stage) line command reads) x.2 d
   takes number Rest stage line (Err fault) run rest k reads x d = none number fault run x
 
   ends : (number : ℕ) (stage : Stage) (r : LineAnswer) → IsKnown (bus_of stage) →
-      All IsDone (last_run number stage r).entries → All IsKnownEntry (last_run number stage r).entries
+      All IsDone (last_run number stage r).entries → IsKnownRun (last_run number stage r)
   ends number stage (Ok (bus, text)) k d =
       let e : Entry = done number stage Settle (running bus) text in
       let first : IsDone e = All-head IsDone e [] d in
-      All-cons IsKnownEntry e []
-      (record { done = first; said = tt; before = k; after = leaves number stage Settle (running bus) text first tt k })
-      (All-nil IsKnownEntry)
-  ends number stage (Err fault) k d = All-nil IsKnownEntry
+      let left : IsKnown bus = leaves number stage Settle (running bus) text first tt k in
+      record {
+        each = All-cons IsKnownEntry e [] (record { done = first; said = tt; before = k; after = left }) (All-nil IsKnownEntry);
+        end = left;
+      }
+  ends number stage (Err fault) k d = record { each = All-nil IsKnownEntry; end = tt }
 
   from-each : (number : ℕ) (lines : List (List ℕ)) → KnownFrom (RunsFrom number lines)
   from-each number [] stage run k x d =
-      subst (λ (r : ScriptRun). All IsKnownEntry r.entries) (sym x.2)
+      subst IsKnownRun (sym x.2)
       (ends number stage x.0 k (subst (λ (r : ScriptRun). All IsDone r.entries) x.2 d))
   from-each number (line ∷ lines) stage run k x d =
       takes number (RunsFrom (number + 1) lines) stage line x.0 run (from-each (number + 1) lines) k x.1 x.2 d
 
-  pub each-known : NoListHasTwoTrees → ActKeepsNodes → (bytes : List ℕ) (run : ScriptRun) → IsRun bytes run →
-      All IsKnownEntry run.entries
-  each-known trees keeps bytes run x =
+  pub known-run : NoListHasTwoTrees → ActKeepsNodes → (bytes : List ℕ) (run : ScriptRun) → IsRun bytes run →
+      IsKnownRun run
+  known-run trees keeps bytes run x =
       from-each 1 (script_lines bytes) fresh run fresh-known x (each-done trees keeps bytes run x).each

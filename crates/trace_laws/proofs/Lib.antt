@@ -10,6 +10,7 @@
 --   TraceLines    the whole trace
 --   Feeds         a line ends at its one line feed
 --   ReadOn        a trace that is read event by event is read whole
+--   Lemmas        what crates above use
 pub mod Lines
 pub mod EventLines
 pub mod NodeLines
@@ -20,3 +21,4 @@ pub mod Known
 pub mod TraceLines
 pub mod Feeds
 pub mod ReadOn
+pub mod Lemmas

@@ -37,7 +37,7 @@ use Rattle.trace_laws.specs.Traces.{TracesAreOfEvents}
 use Rattle.trace_laws.proofs.Lines.{AreLines, none, both-lines, of-events}
 use Rattle.trace_laws.proofs.CommandLines.{IsTold, told-lines}
 use Rattle.trace_laws.proofs.NodeLines.{HasShortNumbers, AreNamed, since-lines}
-use Rattle.trace_laws.proofs.Known.{IsKnownEntry, turn-within, settle-within, plan-turns, each-known}
+use Rattle.trace_laws.proofs.Known.{IsKnownEntry, turn-within, settle-within, plan-turns, known-run}
 use Rattle.trace_laws.proofs.Waits.{turn-waits, act-draws}
 
 -- ---- what nodes show
@@ -288,4 +288,4 @@ all-lines (e ∷ entries) lines k x =
 
 pub traces-are-of-events : NamesAreTested → NoListHasTwoTrees → ActKeepsNodes → TracesAreOfEvents
 traces-are-of-events tested trees keeps bytes text (run, is, (last, end, traced)) =
-    of-events text (all-lines run.entries text (each-known tested trees keeps bytes run is) traced)
+    of-events text (all-lines run.entries text (known-run tested trees keeps bytes run is).each traced)

@@ -1,0 +1,2 @@
+pub mod NamedEnd
+pub mod Dots
