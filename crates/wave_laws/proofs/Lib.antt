@@ -1,0 +1,11 @@
+pub mod Reading
+pub mod Lines
+pub mod Told
+pub mod Own
+pub mod OwnPort
+pub mod Shown
+pub mod Start
+pub mod Shape
+pub mod Chain
+pub mod Run
+pub mod Apart

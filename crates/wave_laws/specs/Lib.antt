@@ -1,0 +1,5 @@
+pub mod Reading
+pub mod Shown
+pub mod Moments
+pub mod Run
+pub mod Apart
