@@ -9,6 +9,8 @@ ghost use Rattle.nosy_dump.specs.Dump.{IsBegun};
 ghost use Rattle.io_edges.specs.Streams.{IsWritten, KeepsStreams};
 ghost use Rattle.bus_view.specs.declared.form.CaptureView.{CaptureView};
 ghost use Rattle.trace_laws.specs.Events.{IsOfEvents};
+ghost use Rattle.wave_laws.specs.Run.{ShowsItsRun};
+ghost use Rattle.picture_laws.specs.Dots.{IsScriptDot};
 ghost use Rattle.bus_view.specs.declared.form.ExplainForm.{ExplainForm};
 ghost use Rattle.bus_view.specs.declared.form.ViewForm.{ViewForm};
 ghost use Rattle.bus_view.specs.Form.{Asks, AsksLog, AsksNoInput, IsForm};
@@ -27,10 +29,12 @@ use crate::laws::{captures_are_of_reports, make_sums_up_the_script, one_view};
 use crate::logs::{show_nosy, show_resets};
 use io_edges::{Sink, Source};
 use nosy_dump::dump_form;
+use picture_laws::pictures_are_dot;
 use reset_log::resets_form;
 use std::alloc::Global;
 use top_call::answer;
 use trace_laws::traces_are_of_events;
+use wave_laws::dumps_show_the_run;
 
 /// Answers the words, as `view_main` has it.
 fn view_asked<S: Source, K: Sink>(
@@ -174,6 +178,18 @@ pub fn view_main<S: Source, K: Sink>(
         IfSome (S.left source.old) (λ bytes. (text : List ℕ) × IsDotOf standard bytes text
         × Appends (K.written sink.old) (K.written sink.new) text) }
 
+    // With `dot-run` it is, at status 0, such a graph of the report at the end of the script's run: with a
+    // node for each node of the bus and an edge for each of its cables, and no others.
+    ensures dot_run_graph { Asks words.now ViewForm.DotRun → result ≡ 0 →
+        IfSome (S.left source.old) (λ bytes. (text : List ℕ) × IsScriptDot bytes text
+        × Appends (K.written sink.old) (K.written sink.new) text) }
+
+    // With `waves` it is, at status 0, a dump that shows the script's run: read as a Value Change Dump up to
+    // each moment, it gives to each variable of a node and of a port what the world shows then.
+    ensures waves_shown { Asks words.now ViewForm.Waves → result ≡ 0 →
+        IfSome (S.left source.old) (λ bytes. (text : List ℕ) × ShowsItsRun bytes text
+        × Appends (K.written sink.old) (K.written sink.new) text) }
+
     // With `trace` it is, at status 0, the lines of events, one behind the other: `trace_event::event_at`
     // finds each of them, asked at the first byte and then always behind the event that it found.
     ensures trace_events { Asks words.now ViewForm.Trace → result ≡ 0 →
@@ -194,5 +210,7 @@ pub fn view_main<S: Source, K: Sink>(
     make_sums_up_the_script();
     captures_are_of_reports();
     traces_are_of_events();
+    pictures_are_dot();
+    dumps_show_the_run();
     view_asked(alloc, words, source, sink)
 }

@@ -1,6 +1,10 @@
 use Rattle.script_made.specs.Made.{made_script}
 use Rattle.script_trace.specs.Trace.{IsTrace}
+use Rattle.script_trace.specs.waves.Waves.{IsWaves}
+use Rattle.script_run.specs.Viewed.{IsPictured}
 use Rattle.trace_laws.specs.Events.{IsOfEvents}
+use Rattle.wave_laws.specs.Run.{ShowsItsRun}
+use Rattle.picture_laws.specs.Dots.{IsScriptDot}
 use Rattle.bus_view.specs.Explained.{explanation}
 use Rattle.bus_view.proofs.Whole.{written_whole}
 use Rattle.bus_view.specs.declared.form.CaptureView.TheVariants.{Packets, Tree, Dot, Json}
@@ -50,3 +54,15 @@ returns-clause-trace_events g c = λ asks zero.
     written_whole IsTrace explanation (λ bytes text. IsOfEvents text) c.traces_are_of_events.ensures.events
     (g.S.Source.left c.args.source.now) _ _ c.view_asked.result zero
     (form_written c.args.words.now Trace asks _ _ _ _ (c.view_asked.ensures.streams (log_apart c.args.words.now Trace tt asks)).answer)
+
+pub returns-clause-dot_run_graph : goal.returns-clause-dot_run_graph
+returns-clause-dot_run_graph g c = λ asks zero.
+    written_whole IsPictured explanation IsScriptDot c.pictures_are_dot.ensures
+    (g.S.Source.left c.args.source.now) _ _ c.view_asked.result zero
+    (form_written c.args.words.now DotRun asks _ _ _ _ (c.view_asked.ensures.streams (log_apart c.args.words.now DotRun tt asks)).answer)
+
+pub returns-clause-waves_shown : goal.returns-clause-waves_shown
+returns-clause-waves_shown g c = λ asks zero.
+    written_whole IsWaves explanation ShowsItsRun c.dumps_show_the_run.ensures
+    (g.S.Source.left c.args.source.now) _ _ c.view_asked.result zero
+    (form_written c.args.words.now Waves asks _ _ _ _ (c.view_asked.ensures.streams (log_apart c.args.words.now Waves tt asks)).answer)
