@@ -13,7 +13,7 @@ use Rattle.script_told.proofs.Lemmas.{IsEnd, each-done}
 use Rattle.script_bus.specs.Viewed.{IsGraphOf}
 use Rattle.trace_laws.proofs.Lemmas.{IsKnown, known-run}
 use Rattle.picture_laws.specs.Dots.{PicturesAreDot}
-use Rattle.picture_laws.proofs.NamedEnd.{named-end}
+use Rattle.script_run.proofs.Lemmas.{named-end}
 
 abbrev with-report : Bus → Option Report → Bus
 with-report bus report = record bus { notes = record bus.notes { report = report } }

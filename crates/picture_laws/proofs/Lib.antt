@@ -1,2 +1,1 @@
-pub mod NamedEnd
 pub mod Dots

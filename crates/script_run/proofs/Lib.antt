@@ -8,3 +8,4 @@ pub mod Told
 pub mod Printed
 pub mod NamedEnd
 pub mod OneView
+pub mod Lemmas

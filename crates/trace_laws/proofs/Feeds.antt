@@ -3,7 +3,7 @@ use Rattle.std.proofs.Common.{◌≡◌, inl, inr, ℕ, zero, suc, ◌+◌, ◌/
 use Rattle.std.specs.Prelude.{All, codes, decimal, nat_lt, if◌then◌else◌}
 use Rattle.std.specs.Fmt.{digit_glyph, digits_onto, digits}
 use Rattle.std.proofs.lemmas.Bool.Decides.{nat_tests}
-use Rattle.std.proofs.lemmas.Bool.{and_parts}
+use Rattle.std.proofs.lemmas.Bool.{and_from, and_parts}
 use Rattle.std.proofs.lemmas.List.Elements.{All-head, All-tail}
 use Rattle.topology_stack.specs.Name.{IsNameChar}
 use Rattle.topology_stack.specs.Hex.{hex, hex_digit}
@@ -24,16 +24,11 @@ abbrev feedless : List ℕ → Bool
 feedless [] = true
 feedless (c ∷ cs) = not (c == 10) && feedless cs
 
-two-true : (a b : Bool) → a ≡ true → b ≡ true → (a && b) ≡ true
-two-true true true p q = refl
-two-true true false p q = q
-two-true false b p q = p
-
 both : (xs ys : List ℕ) → feedless xs ≡ true → feedless ys ≡ true → feedless (xs ++ ys) ≡ true
 both [] ys p q = q
 both (c ∷ xs) ys p q =
     let h = and_parts (not (c == 10)) (feedless xs) p in
-    two-true (not (c == 10)) (feedless (xs ++ ys)) h.0 (both xs ys h.1 q)
+    and_from (not (c == 10)) (feedless (xs ++ ys)) h.0 (both xs ys h.1 q)
 
 either : (b : Bool) (xs ys : List ℕ) → feedless xs ≡ true → feedless ys ≡ true →
     feedless (if b then xs else ys) ≡ true
@@ -52,7 +47,7 @@ glyph d = go (nat_lt d 10)
 onto : (k n : ℕ) (acc : List ℕ) → feedless acc ≡ true → feedless (digits_onto k 10 false n acc) ≡ true
 onto zero n acc h = h
 onto (suc k) n acc h =
-    let more : feedless (digit_glyph false (n % 10) ∷ acc) ≡ true = two-true _ _ (glyph (n % 10)) h in
+    let more : feedless (digit_glyph false (n % 10) ∷ acc) ≡ true = and_from _ _ (glyph (n % 10)) h in
     either (n / 10 == 0) (digit_glyph false (n % 10) ∷ acc) (digits_onto k 10 false (n / 10) (digit_glyph false (n % 10) ∷ acc))
     more (onto k (n / 10) (digit_glyph false (n % 10) ∷ acc) more)
 
@@ -72,7 +67,7 @@ hex-digit d = go (nat_lt d 10)
 
 hex-word : (k q : ℕ) → feedless (hex k q) ≡ true
 hex-word zero q = refl
-hex-word (suc k) q = two-true _ _ (hex-digit (q / 2 ^ (4 * k) % 16)) (hex-word k q)
+hex-word (suc k) q = and_from _ _ (hex-digit (q / 2 ^ (4 * k) % 16)) (hex-word k q)
 
 name-char : (c : ℕ) → IsNameChar c → not (c == 10) ≡ true
 name-char c (inl letter) = grind (arith, nat_tests)
@@ -82,7 +77,7 @@ name-char c (inr (inr line)) = grind (arith, nat_tests)
 chars : (cs : List ℕ) → All IsNameChar cs → feedless cs ≡ true
 chars [] all = refl
 chars (c ∷ cs) all =
-    two-true _ _ (name-char c (All-head IsNameChar c cs all)) (chars cs (All-tail IsNameChar c cs all))
+    and_from _ _ (name-char c (All-head IsNameChar c cs all)) (chars cs (All-tail IsNameChar c cs all))
 
 state : (p : Phase) → feedless (state_words p) ≡ true
 state phase.ResetStart = refl

@@ -1,6 +1,7 @@
 -- What a line tells of the variable with a code.
 use Rattle.std.proofs.Common.{◌≡◌, ◌≢◌, ℕ, zero, suc, ◌+◌, ◌/◌, ◌%◌, ◌^◌, ◌==◌, ◌&&◌, Bool, true, false, List, [], ◌∷◌, ◌++◌, Some, None, cond, codes, refl, ◌∙◌, ap, subst, arith, append_assoc}
 use Rattle.std.specs.Str.{bytes_eq}
+use Rattle.std.proofs.Math.Bool.{and-false}
 use Rattle.std.proofs.lemmas.Bool.{cond-false, cond-true}
 use Rattle.std.proofs.lemmas.Bool.Decides.{nat_tests}
 use Rattle.wave_laws.specs.Reading.{time_in, up_to_blank, behind_blank, value_if, value_for}
@@ -15,13 +16,9 @@ same-itself (x ∷ c) =
     let here : (x == x) ≡ true = grind (arith, nat_tests) in
     rw (here, same-itself c) refl
 
-false-second : (a : Bool) → (a && false) ≡ false
-false-second true = refl
-false-second false = refl
-
 -- codes with other tails are others
 pub other-tail : (x y : ℕ) (a b : List ℕ) → bytes_eq a b ≡ false → bytes_eq (x ∷ a) (y ∷ b) ≡ false
-other-tail x y a b h = rw h (false-second (x == y))
+other-tail x y a b h = rw h (and-false (x == y))
 
 -- and so are codes of other nodes or ports
 pub other-head : (i k : ℕ) (a b : List ℕ) → i ≢ k → bytes_eq ((33 + i) ∷ a) ((33 + k) ∷ b) ≡ false

@@ -2,6 +2,7 @@
 use Rattle.std.proofs.Common.{◌≡◌, ℕ, ◌+◌, ◌==◌, Bool, true, false, List, [], ◌∷◌, ◌++◌, length, Option, Some, None, inl, inr, cond, codes, refl, sym, ap, subst, arith, append_assoc}
 use Rattle.std.specs.Prelude.{slice_get, decimal}
 use Rattle.std.proofs.lemmas.Bool.{eqb-true}
+use Rattle.std.proofs.lemmas.List.{nil_from_length}
 use Rattle.std.proofs.lemmas.Option.{get_or_from_slice_get, slice_get_cases, slice_get_within}
 use Rattle.port_state.specs.declared.ports.PortView.{PortView}
 use Rattle.port_state.specs.declared.view.View.{View}
@@ -74,10 +75,6 @@ same-nodes text w v is t = record {
 
 -- ---- a moment's time
 
-no-length : (text : List ℕ) → length text ≡ 0 → text ≡ []
-no-length [] h = refl
-no-length (x ∷ text) h = absurd (omega (arith, h))
-
 time-line : (code : List ℕ) (time : ℕ) (changes : List ℕ) (o : Option (List ℕ)) → Tells (value_for code) changes o →
     Tells (value_for code) (numbered (codes "#") time ++ (codes "\n" ++ changes)) o
 unfolding numbered
@@ -93,7 +90,7 @@ in-time : (code : List ℕ) (time : ℕ) (changes : List ℕ) (o : Option (List 
 in-time code time changes o h = go (length changes == 0) refl
   where
     go : (b : Bool) → (length changes == 0) ≡ b → Tells (value_for code) (cond b [] (numbered (codes "#") time ++ (codes "\n" ++ changes))) o
-    go true e = subst (λ t. Tells (value_for code) t o) (no-length changes (eqb-true (length changes) 0 e)) h
+    go true e = subst (λ t. Tells (value_for code) t o) (nil_from_length changes (eqb-true (length changes) 0 e)) h
     go false e = time-line code time changes o h
 
 -- the changes tell no time
