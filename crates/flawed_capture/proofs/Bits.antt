@@ -6,7 +6,7 @@ use Rattle.std.specs.Int.Bits.{or_zero_r, xor_zero_r}
 use Rattle.std.proofs.Math.Nat.{mod-eq_of_lt}
 use Rattle.std.proofs.lemmas.Nat.{and_shr, and_mod, and_mask, or_shr, or_mod, or_comm, or_shifted, or_lt, le_or_r, xor_shr, xor_mod, shr_split}
 use Rattle.std.proofs.lemmas.Nat.Bits.{bit_at_xor, bit_at-zero, bit_at-lt, same_from_bits}
-use Rattle.flawed_capture.specs.Other.{with_slots}
+use Rattle.flawed_capture.specs.Other.{with_slots, with_up}
 
 -- ---- turned
 
@@ -94,3 +94,10 @@ parents_set q fields few is =
 -- or as 11
 pub children_set : (q fields : ℕ) → fields ≡ 252 → bit_or q fields ≡ with_slots 63 q
 children_set q fields is = ap (bit_or q) is ∙ six_set q
+
+-- the last port field as 10
+pub parent_at_two : (q : ℕ) → q < 2 ^ 32 → bit_or (bit_and q 4294967283) 8 ≡ with_up 2 q
+parent_at_two q few = replaced 4 2 28 q 4294967283 8 2 refl refl refl refl (omega arith) (omega arith) (omega arith)
+
+pub parent_at_eight : (q : ℕ) → q < 2 ^ 32 → bit_or (bit_and q 4294966527) 512 ≡ with_up 8 q
+parent_at_eight q few = replaced 10 8 22 q 4294966527 512 2 refl refl refl refl (omega arith) (omega arith) (omega arith)

@@ -1,5 +1,5 @@
 -- What comes of a list that is changed, or of its capture.
-use Rattle.std.proofs.Common.{◌≡◌, ◌≢◌, ◌-◌, ◌%◌, ◌/◌, ◌+◌, ◌*◌, ◌<◌, ℕ, List, [], ◌∷◌, ◌++◌, length, take, slice_set, get_or, refl, arith, ap, subst, sym, ◌∙◌}
+use Rattle.std.proofs.Common.{◌≤◌, ◌≡◌, ◌≢◌, ◌-◌, ◌%◌, ◌/◌, ◌+◌, ◌*◌, ◌<◌, ℕ, List, [], ◌∷◌, ◌++◌, length, take, slice_set, get_or, refl, arith, ap, subst, sym, ◌∙◌}
 use Rattle.std.proofs.lemmas.List.{length-take-le}
 use Rattle.quad_lanes.specs.Capture.{capture}
 use Rattle.self_id.specs.declared.standard.Standard.{Standard}
@@ -9,11 +9,12 @@ use Rattle.capture_reading.specs.declared.fault.CaptureFault.TheVariants.{BadLen
 use Rattle.capture_reading.specs.Capture.{IsCaptureOf}
 use Rattle.flawed_capture.specs.declared.flaw.Flaw.{Flaw}
 use Rattle.flawed_capture.specs.declared.flaw.Flaw.TheVariants.{BadLength, BadInverse, NotSelfId, WrongId, BadOrder, Cut, TwoParents, Empty, TooFewChildren, TreesLeft, AfterRoot, NoRoot, TooMany}
-use Rattle.flawed_capture.specs.Flaw.{HasFlaw, HasListFlaw}
+use Rattle.flawed_capture.specs.Flaw.{HasFlaw, HasListFlaw, least_nodes}
 use Rattle.flawed_capture.specs.Other.{IsOther}
 use Rattle.flawed_capture.specs.Spoilt.{IsSpoiltList, IsSpoilt, ComesAt, ComesAnywhere, IsListOfBus}
 use Rattle.flawed_capture.proofs.First.{to_other_packet, to_other_node, to_other_order, to_cut}
 use Rattle.flawed_capture.proofs.Slots.{to_two_parents, to_too_few}
+use Rattle.flawed_capture.proofs.Rootless.{to_no_root, to_too_many}
 
 -- bytes that end within a pair are refused for it
 broken : (standard : Standard) (bytes : List ℕ) → length bytes % 8 ≢ 0 → HasFlaw standard bytes BadLength
@@ -82,46 +83,62 @@ goes_on standard flaw nodes at more list spoilt is bus behind comes =
 
 -- a flaw for which one quadlet is another
 pub other_one : (standard : Standard) (flaw : Flaw) (nodes at quad : ℕ) (list spoilt : List ℕ) →
-    flaw ≢ BadLength → flaw ≢ BadInverse → flaw ≢ Empty → flaw ≢ Cut → flaw ≢ AfterRoot →
-    IsListOfBus standard nodes list → IsOther flaw (get_or list at 0) quad → spoilt ≡ slice_set list at quad →
+    flaw ≢ BadLength → flaw ≢ BadInverse → flaw ≢ Empty → flaw ≢ Cut → flaw ≢ AfterRoot → flaw ≢ TooMany →
+    IsListOfBus standard nodes list → IsOther flaw standard (get_or list at 0) quad → spoilt ≡ slice_set list at quad →
     ComesAt flaw list at → HasListFlaw standard spoilt flaw
-other_one standard BadLength nodes at quad list spoilt a b c d e bus other is comes = absurd (a refl)
-other_one standard BadInverse nodes at quad list spoilt a b c d e bus other is comes = absurd (b refl)
-other_one standard Empty nodes at quad list spoilt a b c d e bus other is comes = absurd (c refl)
-other_one standard Cut nodes at quad list spoilt a b c d e bus other is comes = absurd (d refl)
-other_one standard AfterRoot nodes at quad list spoilt a b c d e bus other is comes = absurd (e refl)
-other_one standard NotSelfId nodes at quad list spoilt a b c d e bus other is comes =
+other_one standard BadLength nodes at quad list spoilt a b c d e f bus other is comes = absurd (a refl)
+other_one standard BadInverse nodes at quad list spoilt a b c d e f bus other is comes = absurd (b refl)
+other_one standard Empty nodes at quad list spoilt a b c d e f bus other is comes = absurd (c refl)
+other_one standard Cut nodes at quad list spoilt a b c d e f bus other is comes = absurd (d refl)
+other_one standard AfterRoot nodes at quad list spoilt a b c d e f bus other is comes = absurd (e refl)
+other_one standard TooMany nodes at quad list spoilt a b c d e f bus other is comes = absurd (f refl)
+other_one standard NoRoot nodes at quad list spoilt a b c d e f bus other is comes = to_no_root standard nodes at quad list spoilt bus comes is other
+other_one standard NotSelfId nodes at quad list spoilt a b c d e f bus other is comes =
     to_other_packet standard nodes list spoilt quad bus (is ∙ ap (λ (k : ℕ). slice_set list k quad) comes)
-    (subst (λ (k : ℕ). IsOther NotSelfId (get_or list k 0) quad) comes other)
-other_one standard WrongId nodes at quad list spoilt a b c d e bus other is comes =
+    (subst (λ (k : ℕ). IsOther NotSelfId standard (get_or list k 0) quad) comes other)
+other_one standard WrongId nodes at quad list spoilt a b c d e f bus other is comes =
     to_other_node standard nodes list spoilt quad bus (is ∙ ap (λ (k : ℕ). slice_set list k quad) comes)
-    (subst (λ (k : ℕ). IsOther WrongId (get_or list k 0) quad) comes other)
-other_one standard BadOrder nodes at quad list spoilt a b c d e bus other is comes =
+    (subst (λ (k : ℕ). IsOther WrongId standard (get_or list k 0) quad) comes other)
+other_one standard BadOrder nodes at quad list spoilt a b c d e f bus other is comes =
     to_other_order standard nodes list spoilt quad bus (is ∙ ap (λ (k : ℕ). slice_set list k quad) comes)
-    (subst (λ (k : ℕ). IsOther BadOrder (get_or list k 0) quad) comes other)
-other_one standard TwoParents nodes at quad list spoilt a b c d e bus other is comes =
+    (subst (λ (k : ℕ). IsOther BadOrder standard (get_or list k 0) quad) comes other)
+other_one standard TwoParents nodes at quad list spoilt a b c d e f bus other is comes =
     to_two_parents standard nodes list spoilt quad bus (is ∙ ap (λ (k : ℕ). slice_set list k quad) comes)
-    (subst (λ (k : ℕ). IsOther TwoParents (get_or list k 0) quad) comes other)
-other_one standard TooFewChildren nodes at quad list spoilt a b c d e bus other is comes =
+    (subst (λ (k : ℕ). IsOther TwoParents standard (get_or list k 0) quad) comes other)
+other_one standard TooFewChildren nodes at quad list spoilt a b c d e f bus other is comes =
     to_too_few standard nodes list spoilt quad bus (is ∙ ap (λ (k : ℕ). slice_set list k quad) comes)
-    (subst (λ (k : ℕ). IsOther TooFewChildren (get_or list k 0) quad) comes other)
-other_one standard _ nodes at quad list spoilt a b c d e bus other is comes = absurd comes
+    (subst (λ (k : ℕ). IsOther TooFewChildren standard (get_or list k 0) quad) comes other)
+other_one standard _ nodes at quad list spoilt a b c d e f bus other is comes = absurd comes
 
 -- one quadlet is another, and the list ends after it
 ends : (standard : Standard) (nodes at quad : ℕ) (list spoilt : List ℕ) →
     IsListOfBus standard nodes list → spoilt ≡ take (at + 1) (slice_set list at quad) →
-    IsOther Cut (get_or list at 0) quad → ComesAt Cut list at → HasListFlaw standard spoilt Cut
+    IsOther Cut standard (get_or list at 0) quad → ComesAt Cut list at → HasListFlaw standard spoilt Cut
 ends standard nodes at quad list spoilt bus is other comes =
     to_cut standard nodes list (slice_set list 0 quad) quad bus refl spoilt
     (is ∙ ap (λ (k : ℕ). take (k + 1) (slice_set list k quad)) comes)
-    (subst (λ (k : ℕ). IsOther Cut (get_or list k 0) quad) comes other)
+    (subst (λ (k : ℕ). IsOther Cut standard (get_or list k 0) quad) comes other)
 
 pub other_end : (standard : Standard) (flaw : Flaw) (nodes at quad : ℕ) (list spoilt : List ℕ) → flaw ≡ Cut →
     IsListOfBus standard nodes list → spoilt ≡ take (at + 1) (slice_set list at quad) →
-    IsOther flaw (get_or list at 0) quad → ComesAt flaw list at → HasListFlaw standard spoilt flaw
+    IsOther flaw standard (get_or list at 0) quad → ComesAt flaw list at → HasListFlaw standard spoilt flaw
 other_end standard flaw nodes at quad list spoilt is bus parts =
-    subst (λ (f : Flaw). IsOther f (get_or list at 0) quad → ComesAt f list at → HasListFlaw standard spoilt f) (sym is)
+    subst (λ (f : Flaw). IsOther f standard (get_or list at 0) quad → ComesAt f list at → HasListFlaw standard spoilt f) (sym is)
     (ends standard nodes at quad list spoilt bus parts)
+
+-- one quadlet is another, and one more follows
+both : (standard : Standard) (nodes at quad more : ℕ) (list spoilt : List ℕ) →
+    IsListOfBus standard nodes list → spoilt ≡ slice_set list at quad ++ more ∷ [] → 63 ≤ nodes →
+    IsOther TooMany standard (get_or list at 0) quad → ComesAt TooMany list at → HasListFlaw standard spoilt TooMany
+both standard nodes at quad more list spoilt bus is enough other comes =
+    to_too_many standard nodes at quad list (slice_set list at quad) bus comes refl other more spoilt enough is
+
+pub other_both : (standard : Standard) (flaw : Flaw) (nodes at quad more : ℕ) (list spoilt : List ℕ) → flaw ≡ TooMany →
+    IsListOfBus standard nodes list → spoilt ≡ slice_set list at quad ++ more ∷ [] → least_nodes flaw ≤ nodes →
+    IsOther flaw standard (get_or list at 0) quad → ComesAt flaw list at → HasListFlaw standard spoilt flaw
+other_both standard flaw nodes at quad more list spoilt is bus parts =
+    subst (λ (f : Flaw). least_nodes f ≤ nodes → IsOther f standard (get_or list at 0) quad → ComesAt f list at → HasListFlaw standard spoilt f) (sym is)
+    (both standard nodes at quad more list spoilt bus parts)
 
 -- a bus has a place at which a flaw comes that comes anywhere
 pub some_place : (standard : Standard) (flaw : Flaw) (list : List ℕ) → 0 < length list → ComesAnywhere flaw →
@@ -136,4 +153,6 @@ some_place standard TwoParents list some comes = (0, some, refl)
 some_place standard TooFewChildren list some comes = (0, some, refl)
 some_place standard Empty list some comes = (0, some, tt)
 some_place standard AfterRoot list some comes = (length list - 1, omega (arith, some), omega (arith, some))
+some_place standard NoRoot list some comes = (length list - 1, omega (arith, some), omega (arith, some))
+some_place standard TooMany list some comes = (length list - 1, omega (arith, some), omega (arith, some))
 some_place standard _ list some comes = absurd comes

@@ -161,13 +161,13 @@ group_flaw standard l f flaw some refused is = record {
   kind = is;
 }
 
-other_packet : (standard : Standard) (q0 q : ℕ) (qs : List ℕ) → q0 / 2 ^ 23 ≡ 256 → IsOther NotSelfId q0 q →
+other_packet : (standard : Standard) (q0 q : ℕ) (qs : List ℕ) → q0 / 2 ^ 23 ≡ 256 → IsOther NotSelfId standard q0 q →
     HasListFlaw standard (q ∷ qs) NotSelfId
 other_packet standard q0 q qs top other =
     let ne : q / 2 ^ 30 ≢ 2 = λ e. other (omega (arith, e, top)) in
     group_flaw standard (q ∷ qs) (OtherPacket 0) NotSelfId (omega arith) ([], qs, q, record { parts = refl; front_leads = tt; few = omega arith; place_is = refl }, λ p shows. top_is q p shows ne) refl
 
-other_node : (standard : Standard) (q0 q : ℕ) (qs : List ℕ) → q0 / 2 ^ 23 ≡ 256 → IsOther WrongId q0 q →
+other_node : (standard : Standard) (q0 q : ℕ) (qs : List ℕ) → q0 / 2 ^ 23 ≡ 256 → IsOther WrongId standard q0 q →
     HasListFlaw standard (q ∷ qs) WrongId
 other_node standard q0 q qs top other =
     let shows = shows-self_zero q (omega (arith, top, other.0)) (omega (arith, top, other.2)) in
@@ -175,7 +175,7 @@ other_node standard q0 q qs top other =
     group_flaw standard (q ∷ qs) (OtherNode 0 (q / 2 ^ 24 % 64) 0) WrongId (omega arith)
     ([], qs, q, self_zero_of q, record { parts = refl; front_leads = tt; few = omega arith; place_is = refl }, shows, refl, refl, refl, ne) refl
 
-other_order : (standard : Standard) (q0 q : ℕ) (qs : List ℕ) → q0 / 2 ^ 23 ≡ 256 → IsOther BadOrder q0 q →
+other_order : (standard : Standard) (q0 q : ℕ) (qs : List ℕ) → q0 / 2 ^ 23 ≡ 256 → IsOther BadOrder standard q0 q →
     HasListFlaw standard (q ∷ qs) BadOrder
 other_order standard q0 q qs top other =
     let next : q / 2 ^ 23 ≡ 257 = omega (arith, top, other.0, other.1) in
@@ -188,7 +188,7 @@ one_leads : (standard : Standard) → 1 ≤ most_further standard
 one_leads Ieee1995 = omega arith
 one_leads Ieee2000 = omega arith
 
-cut_off : (standard : Standard) (q0 q : ℕ) → q0 / 2 ^ 23 ≡ 256 → IsOther Cut q0 q →
+cut_off : (standard : Standard) (q0 q : ℕ) → q0 / 2 ^ 23 ≡ 256 → IsOther Cut standard q0 q →
     HasListFlaw standard (q ∷ []) Cut
 cut_off standard q0 q top other =
     let shows = shows-self_zero q (omega (arith, top, other)) (omega (arith, top, other)) in
@@ -234,16 +234,16 @@ module _ (standard : Standard) (nodes : ℕ) (list spoilt : List ℕ) (quad : �
   r : IsReplaced list spoilt quad
   r = replaced standard nodes list spoilt quad bus is
 
-  pub to_other_packet : IsOther NotSelfId (get_or list 0 0) quad → HasListFlaw standard spoilt NotSelfId
+  pub to_other_packet : IsOther NotSelfId standard (get_or list 0 0) quad → HasListFlaw standard spoilt NotSelfId
   to_other_packet other = subst (λ (l : List ℕ). HasListFlaw standard l NotSelfId) (sym r.parts) (other_packet standard (get_or list 0 0) quad r.rest r.top other)
 
-  pub to_other_node : IsOther WrongId (get_or list 0 0) quad → HasListFlaw standard spoilt WrongId
+  pub to_other_node : IsOther WrongId standard (get_or list 0 0) quad → HasListFlaw standard spoilt WrongId
   to_other_node other = subst (λ (l : List ℕ). HasListFlaw standard l WrongId) (sym r.parts) (other_node standard (get_or list 0 0) quad r.rest r.top other)
 
-  pub to_other_order : IsOther BadOrder (get_or list 0 0) quad → HasListFlaw standard spoilt BadOrder
+  pub to_other_order : IsOther BadOrder standard (get_or list 0 0) quad → HasListFlaw standard spoilt BadOrder
   to_other_order other = subst (λ (l : List ℕ). HasListFlaw standard l BadOrder) (sym r.parts) (other_order standard (get_or list 0 0) quad r.rest r.top other)
 
-  pub to_cut : (short : List ℕ) → short ≡ take 1 spoilt → IsOther Cut (get_or list 0 0) quad →
+  pub to_cut : (short : List ℕ) → short ≡ take 1 spoilt → IsOther Cut standard (get_or list 0 0) quad →
       HasListFlaw standard short Cut
   to_cut short ends other =
       subst (λ (l : List ℕ). HasListFlaw standard l Cut) (sym (ends ∙ ap (λ (l : List ℕ). take 1 l) r.parts)) (cut_off standard (get_or list 0 0) quad r.top other)

@@ -2,6 +2,10 @@ mod Bits
 mod Counted
 mod First
 mod Slots
+mod Waiting
+mod Parent
+mod Last
+mod Rootless
 mod Changed
 mod Turned
 mod Tried

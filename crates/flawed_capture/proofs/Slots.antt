@@ -135,12 +135,12 @@ wanting standard spoilt h =
 
 module _ (standard : Standard) (nodes : ℕ) (list spoilt : List ℕ) (quad : ℕ) (bus : IsListOfBus standard nodes list)
     (is : spoilt ≡ slice_set list 0 quad) where
-  pub to_two_parents : IsOther TwoParents (get_or list 0 0) quad → HasListFlaw standard spoilt TwoParents
+  pub to_two_parents : IsOther TwoParents standard (get_or list 0 0) quad → HasListFlaw standard spoilt TwoParents
   to_two_parents other =
       let n = first standard nodes list bus in
       parents standard spoilt (slots_by standard list spoilt quad Up Up Up n.0 n.1 is other)
 
-  pub to_too_few : IsOther TooFewChildren (get_or list 0 0) quad → HasListFlaw standard spoilt TooFewChildren
+  pub to_too_few : IsOther TooFewChildren standard (get_or list 0 0) quad → HasListFlaw standard spoilt TooFewChildren
   to_too_few other =
       let n = first standard nodes list bus in
       wanting standard spoilt (slots_by standard list spoilt quad Down Down Down n.0 n.1 is other)

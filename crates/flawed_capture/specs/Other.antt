@@ -1,27 +1,45 @@
 -- The quadlet that takes the place of a packet's.
-use Rattle.std.specs.Prelude.{◌≡◌, ◌≢◌, ℕ, ◌+◌, ◌*◌, ◌/◌, ◌%◌, ◌^◌}
+use Rattle.std.specs.Prelude.{◌≡◌, ◌≢◌, ℕ, ◌+◌, ◌*◌, ◌/◌, ◌%◌, ◌^◌, Bool, false, ◌==◌, ◌&&◌, if◌then◌else◌}
+use Rattle.self_id.specs.declared.standard.Standard.{Standard}
+use Rattle.self_id.specs.declared.standard.Standard.TheVariants.{Ieee1995, Ieee2000}
 use Rattle.flawed_capture.specs.declared.flaw.Flaw.{Flaw}
-use Rattle.flawed_capture.specs.declared.flaw.Flaw.TheVariants.{NotSelfId, WrongId, BadOrder, Cut, TwoParents, TooFewChildren}
+use Rattle.flawed_capture.specs.declared.flaw.Flaw.TheVariants.{NotSelfId, WrongId, BadOrder, Cut, TwoParents, TooFewChildren, NoRoot, TooMany}
 
 -- its bits from 2 up to 8, which are the port fields of packet zero, are those of a number
 abbrev pub with_slots : ℕ → ℕ → ℕ
 with_slots slots quad = quad / 2 ^ 8 * 2 ^ 8 + (slots * 2 ^ 2 + quad % 2 ^ 2)
 
+-- packet n = 1 of IEEE 1394a-2000 has five port fields
+abbrev pub has_five : Standard → ℕ → Bool
+has_five Ieee1995 quad = false
+has_five Ieee2000 quad = (quad / 2 ^ 23 % 2 == 1) && (quad / 2 ^ 20 % 8 == 1)
+
+-- where the last port field of a packet stands
+abbrev pub last_field : Standard → ℕ → ℕ
+last_field standard quad = if has_five standard quad then 8 else 2
+
+-- the port field there is 10, which is the parent
+abbrev pub with_up : ℕ → ℕ → ℕ
+with_up low quad = quad / 2 ^ (low + 2) * 2 ^ (low + 2) + (2 * 2 ^ low + quad % 2 ^ low)
+
 -- what is other in it, by the kind of flaw
-abbrev pub IsOther : Flaw → ℕ → ℕ → Type 0
+abbrev pub IsOther : Flaw → Standard → ℕ → ℕ → Type 0
 -- the top two bits, which are 10 in self-ID packets
-IsOther NotSelfId quad other = other / 2 ^ 30 ≢ quad / 2 ^ 30
+IsOther NotSelfId standard quad other = other / 2 ^ 30 ≢ quad / 2 ^ 30
 -- the phy_ID alone
-IsOther WrongId quad other =
+IsOther WrongId standard quad other =
     (other / 2 ^ 30 ≡ quad / 2 ^ 30) × (other / 2 ^ 24 ≢ quad / 2 ^ 24)
     × (other % 2 ^ 24 ≡ quad % 2 ^ 24)
 -- the bit behind it, which tells packet zero from further packets
-IsOther BadOrder quad other =
+IsOther BadOrder standard quad other =
     (other / 2 ^ 24 ≡ quad / 2 ^ 24) × (other / 2 ^ 23 ≢ quad / 2 ^ 23)
 -- the m bit is set
-IsOther Cut quad other = other ≡ quad / 2 * 2 + 1
+IsOther Cut standard quad other = other ≡ quad / 2 * 2 + 1
 -- each port field of packet zero is 10, which is the parent
-IsOther TwoParents quad other = quad / 2 ^ 23 % 2 ≡ 0 → other ≡ with_slots 42 quad
+IsOther TwoParents standard quad other = quad / 2 ^ 23 % 2 ≡ 0 → other ≡ with_slots 42 quad
 -- or 11, which is a child
-IsOther TooFewChildren quad other = quad / 2 ^ 23 % 2 ≡ 0 → other ≡ with_slots 63 quad
-IsOther flaw quad other = Unit {0}
+IsOther TooFewChildren standard quad other = quad / 2 ^ 23 % 2 ≡ 0 → other ≡ with_slots 63 quad
+-- the last port field is 10
+IsOther NoRoot standard quad other = other ≡ with_up (last_field standard quad) quad
+IsOther TooMany standard quad other = other ≡ with_up (last_field standard quad) quad
+IsOther flaw standard quad other = Unit {0}

@@ -74,7 +74,8 @@ IsSpoilt list bytes BadLength = IsShorter list bytes
 IsSpoilt list bytes BadInverse = HasOtherByte list bytes
 IsSpoilt list bytes flaw = IsOfSpoilt flaw list bytes
 
--- a flaw of this kind comes of the change at this place of the list of any bus
+-- A flaw of this kind comes of the change at this place of the list of any bus. That of TreesLeft comes
+-- where the root has children, which isn't one place for all buses.
 abbrev pub ComesAt : Flaw → List ℕ → ℕ → Type 0
 ComesAt BadLength list at = Unit {0}
 ComesAt BadInverse list at = Unit {0}
@@ -86,6 +87,8 @@ ComesAt TwoParents list at = at ≡ 0
 ComesAt TooFewChildren list at = at ≡ 0
 ComesAt Empty list at = Unit {0}
 ComesAt AfterRoot list at = at + 1 ≡ length list
+ComesAt NoRoot list at = at + 1 ≡ length list
+ComesAt TooMany list at = at + 1 ≡ length list
 ComesAt flaw list at = ⊥
 
 -- it comes of any bus, wherever the first change is tried
@@ -100,6 +103,8 @@ ComesAnywhere TwoParents = Unit {0}
 ComesAnywhere TooFewChildren = Unit {0}
 ComesAnywhere Empty = Unit {0}
 ComesAnywhere AfterRoot = Unit {0}
+ComesAnywhere NoRoot = Unit {0}
+ComesAnywhere TooMany = Unit {0}
 ComesAnywhere flaw = ⊥
 
 -- ---- buses

@@ -2,8 +2,8 @@
 ghost use Rattle.std.specs.Prelude.{◌≡◌, ◌≢◌, ◌<◌, ◌≤◌, ◌+◌, ◌⊎◌, ◌/◌, ◌%◌, ◌^◌, ◌∷◌, ◌++◌, [], ℕ, length, take, slice_set, IfOk};
 ghost use Rattle.self_id.specs.declared.standard.Standard.{Standard};
 ghost use Rattle.capture_reading.specs.Capture.{IsCaptureOf};
-ghost use Rattle.flawed_capture.specs.Flaw.{HasFlaw, HasListFlaw};
-ghost use Rattle.flawed_capture.specs.Other.{IsOther};
+ghost use Rattle.flawed_capture.specs.Flaw.{HasFlaw, HasListFlaw, least_nodes};
+ghost use Rattle.flawed_capture.specs.Other.{IsOther, has_five, last_field, with_up};
 ghost use Rattle.flawed_capture.specs.Spoilt.{EndsWithOther, IsFront, HasMore, HasOtherAndMore, HasOther, IsSpoiltList, IsSpoilt, ComesAt, IsListOfBus};
 ghost use Rattle.flawed_capture.specs.declared.flaw.Flaw.{Flaw};
 
@@ -20,13 +20,23 @@ const UP: u32 = 0xaaaa_aaaa;
 /// The bit that tells packet zero of a node from its further packets.
 const FURTHER: u32 = 0x0080_0000;
 
-/// The bits of a self-ID packet's port fields. Of 1394a-2000's packet n = 1 five fields are ports.
+/// Whether this is 1394a-2000's packet n = 1, which has five port fields.
+fn has_five_ports(standard: Standard, quad: u32) -> bool
+    ensures { result ≡ has_five standard quad }
+{
+    match standard {
+        Standard::Ieee1995 => false,
+        Standard::Ieee2000 => quad / FURTHER % 2 == 1 && quad / 0x0010_0000 % 8 == 1,
+    }
+}
+
+/// The bits of a self-ID packet's port fields.
 fn port_fields(standard: Standard, quad: u32) -> u32
     ensures { quad / 2 ^ 23 % 2 ≡ 0 → result ≡ 252 }
 {
     if quad / FURTHER % 2 == 0 {
         0x0000_00fc
-    } else if matches!(standard, Standard::Ieee2000) && quad / 0x0010_0000 % 8 == 1 {
+    } else if has_five_ports(standard, quad) {
         0x0003_ff00
     } else {
         0x0003_fffc
@@ -34,9 +44,14 @@ fn port_fields(standard: Standard, quad: u32) -> u32
 }
 
 /// The packet with its last port field as 10, which is the parent.
-fn with_parent(quad: u32, fields: u32) -> u32 {
-    let last = if fields & 0xc == 0 { 0x300 } else { 0xc };
-    quad & !last | UP & last
+fn with_parent(standard: Standard, quad: u32) -> u32
+    ensures { result ≡ with_up (last_field standard quad) quad }
+{
+    if has_five_ports(standard, quad) {
+        quad & !0x0000_0300 | 0x0000_0200
+    } else {
+        quad & !0x0000_000c | 0x0000_0008
+    }
 }
 
 /// The packet with 01 in each port field that is 10: nothing leads to a parent.
@@ -47,7 +62,7 @@ fn without_parent(quad: u32, fields: u32) -> u32 {
 
 /// The quadlet that takes the place of a packet's for a fault of a kind. The word says the rest.
 fn other_quad(flaw: Flaw, standard: Standard, quad: u32, word: u32) -> u32
-    ensures { IsOther flaw quad result }
+    ensures { IsOther flaw standard quad result }
 {
     let fields = port_fields(standard, quad);
     match flaw {
@@ -60,7 +75,7 @@ fn other_quad(flaw: Flaw, standard: Standard, quad: u32, word: u32) -> u32
         Flaw::TooFewChildren => quad | fields,
         Flaw::TreesLeft => quad & !fields | UNPLUGGED & fields,
         Flaw::AfterRoot => without_parent(quad, fields),
-        Flaw::NoRoot | Flaw::TooMany => with_parent(quad, fields),
+        Flaw::NoRoot | Flaw::TooMany => with_parent(standard, quad),
     }
 }
 
@@ -113,7 +128,9 @@ fn with_both(
     more: u32,
 ) -> Result<Vec<u32>, OutOfMemory>
     requires { at < length list.now }
-    ensures { IfOk result (λ spoilt. HasOtherAndMore list.now spoilt.items) }
+    ensures spoilt { IfOk result (λ spoilt. HasOtherAndMore list.now spoilt.items) }
+    ensures parts { IfOk result (λ spoilt.
+        spoilt.items ≡ slice_set list.now at quad ++ more ∷ []) }
 {
     let mut spoilt = with_other(alloc, list, at, quad)?;
     spoilt.push(more)?;
@@ -153,8 +170,8 @@ fn changed(
     requires { at < length list.now }
     ensures spoilt { IfOk result (λ spoilt. IsSpoiltList flaw list.now spoilt.items) }
     ensures sure { flaw ≢ Flaw.BadLength → flaw ≢ Flaw.BadInverse → IfOk result (λ spoilt.
-        (nodes : ℕ) → IsListOfBus standard nodes list.now → ComesAt flaw list.now at →
-        HasListFlaw standard spoilt.items flaw) }
+        (nodes : ℕ) → IsListOfBus standard nodes list.now → least_nodes flaw ≤ nodes →
+        ComesAt flaw list.now at → HasListFlaw standard spoilt.items flaw) }
 {
     let quad = other_quad(flaw, standard, list[at], word);
     let is_last = at + 1 == list.len();
@@ -224,7 +241,8 @@ pub(crate) fn spoilt_capture(
     requires few { length list.now ≤ 252 }
     ensures spoilt { IfOk result (λ bytes. IsSpoilt list.now bytes.items flaw) }
     ensures sure { IfOk result (λ bytes. (nodes : ℕ) → IsListOfBus standard nodes list.now →
-        ComesAt flaw list.now at → HasFlaw standard bytes.items flaw) }
+        least_nodes flaw ≤ nodes → ComesAt flaw list.now at →
+        HasFlaw standard bytes.items flaw) }
 {
     match flaw {
         Flaw::BadLength => cut_capture(alloc, list, at, word),

@@ -7,13 +7,13 @@ use Rattle.flawed_capture.proofs.change.other_quad.Goals as goal
 
 pub returns-in-NotSelfId : goal.returns-in-NotSelfId
 returns-in-NotSelfId c =
-    subst (λ (f : Flaw). IsOther f c.args.quad (bit_xor c.args.quad ((c.args.word % 3 + 1) * 1073741824))) (sym c.in-NotSelfId.is)
+    subst (λ (f : Flaw). IsOther f c.args.standard c.args.quad (bit_xor c.args.quad ((c.args.word % 3 + 1) * 1073741824))) (sym c.in-NotSelfId.is)
     (turned_from 30 c.args.quad ((c.args.word % 3 + 1) * 1073741824) (omega arith))
 
 pub returns-in-WrongId : goal.returns-in-WrongId
 returns-in-WrongId c =
     let x : ℕ = (c.args.word % 63 + 1) * 16777216 in
-    subst (λ (f : Flaw). IsOther f c.args.quad (bit_xor c.args.quad x)) (sym c.in-WrongId.is) (
+    subst (λ (f : Flaw). IsOther f c.args.standard c.args.quad (bit_xor c.args.quad x)) (sym c.in-WrongId.is) (
       turned_below 30 c.args.quad x (omega arith),
       turned_from 24 c.args.quad x (omega arith),
       turned_above 24 c.args.quad x (omega arith),
@@ -21,25 +21,25 @@ returns-in-WrongId c =
 
 pub returns-in-BadOrder : goal.returns-in-BadOrder
 returns-in-BadOrder c =
-    subst (λ (f : Flaw). IsOther f c.args.quad (bit_xor c.args.quad 8388608)) (sym c.in-BadOrder.is) (
+    subst (λ (f : Flaw). IsOther f c.args.standard c.args.quad (bit_xor c.args.quad 8388608)) (sym c.in-BadOrder.is) (
       turned_below 24 c.args.quad 8388608 (omega arith),
       turned_from 23 c.args.quad 8388608 (omega arith),
     )
 
 pub returns-in-Cut : goal.returns-in-Cut
 returns-in-Cut c =
-    subst (λ (f : Flaw). IsOther f c.args.quad (bit_or c.args.quad 1)) (sym c.in-Cut.is) (last_set c.args.quad)
+    subst (λ (f : Flaw). IsOther f c.args.standard c.args.quad (bit_or c.args.quad 1)) (sym c.in-Cut.is) (last_set c.args.quad)
 
 pub returns-in-TwoParents : goal.returns-in-TwoParents
 returns-in-TwoParents c =
     let quad = c.args.quad in
     let fields = c.port_fields-fields.result in
-    subst (λ (f : Flaw). IsOther f quad (bit_or (bit_and quad (4294967295 - fields)) (bit_and 2863311530 fields))) (sym c.in-TwoParents.is)
+    subst (λ (f : Flaw). IsOther f c.args.standard quad (bit_or (bit_and quad (4294967295 - fields)) (bit_and 2863311530 fields))) (sym c.in-TwoParents.is)
     (λ zero. parents_set quad fields (omega arith) (c.port_fields-fields.ensures zero))
 
 pub returns-in-TooFewChildren : goal.returns-in-TooFewChildren
 returns-in-TooFewChildren c =
     let quad = c.args.quad in
     let fields = c.port_fields-fields.result in
-    subst (λ (f : Flaw). IsOther f quad (bit_or quad fields)) (sym c.in-TooFewChildren.is)
+    subst (λ (f : Flaw). IsOther f c.args.standard quad (bit_or quad fields)) (sym c.in-TooFewChildren.is)
     (λ zero. children_set quad fields (c.port_fields-fields.ensures zero))

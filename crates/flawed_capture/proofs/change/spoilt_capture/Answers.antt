@@ -14,8 +14,8 @@ returns-in_ok-spoilt-in_default c =
       spoilt = IfOk-weaker c.captured.result _ _ (λ bytes h.
           let here = subst (λ (l : List ℕ). IsCaptureOf l bytes.items) c.deref.ensures.value h in
           of_spoilt flaw list spoilt bytes.items c.in_default.not-BadLength c.in_default.not-BadInverse told.spoilt here.bytes_are) c.captured.ensures;
-      sure = IfOk-weaker c.captured.result _ _ (λ bytes h. λ nodes bus comes.
+      sure = IfOk-weaker c.captured.result _ _ (λ bytes h. λ nodes bus enough comes.
           let here = subst (λ (l : List ℕ). IsCaptureOf l bytes.items) c.deref.ensures.value h in
           of_list c.args.standard flaw spoilt bytes.items here
-          (told.sure c.in_default.not-BadLength c.in_default.not-BadInverse nodes bus comes)) c.captured.ensures;
+          (told.sure c.in_default.not-BadLength c.in_default.not-BadInverse nodes bus enough comes)) c.captured.ensures;
     }
