@@ -25,7 +25,7 @@ CROSS = "/usr/aarch64-linux-gnu/lib"
 # node, and buses that don't differ.
 SILENT = {
     "busview/capture/two-names": 3, "busview/trace/no-nodes": 0, "busview/diff/same-bus": 0,
-    "busview/diff/initiator-is-no-change": 0,
+    "busview/diff/initiator-is-no-change": 0, "busview/explain/no-fault-json": 0,
 }
 
 
