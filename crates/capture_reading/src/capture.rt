@@ -8,7 +8,7 @@ use crate::fault::{CaptureFault, CaptureStop};
 use quad_lanes::{QuadList, first_bad_pair, firsts, good_pairs_are_a_capture, pairs_of};
 use self_id::Standard;
 use std::alloc::Global;
-use topology_stack::{BusTree, read_tree, read_tree95};
+use topology_stack::{BusTree, read_tree_by};
 
 /// The quadlets of a capture's packets: the first one of each pair. It refuses bytes that end
 /// within a pair, and else the first bad pair.
@@ -34,8 +34,5 @@ pub fn read_capture(alloc: Global, standard: Standard, bytes: &[u8]) -> Result<B
     ensures fault { IfFault result (λ f. CaptureRefused standard bytes.now f) }
 {
     let packets = packets_of(alloc, bytes)?;
-    match standard {
-        Standard::Ieee1995 => Ok(read_tree95(alloc, packets.as_slice())?),
-        Standard::Ieee2000 => Ok(read_tree(alloc, packets.as_slice())?),
-    }
+    Ok(read_tree_by(alloc, standard, packets.as_slice())?)
 }

@@ -1,7 +1,6 @@
 //! Buses that are made of a number of nodes and words.
 ghost use Rattle.std.specs.Prelude.{◌≡◌, ◌*◌, ◌<◌, ◌≤◌, ℕ, length, Err, IfOk};
 ghost use Rattle.self_id.specs.declared.standard.Standard.{Standard};
-ghost use Rattle.topology_stack.specs.Tree.{IsBusTreeOf, emits};
 ghost use Rattle.flawed_capture.specs.Spoilt.{IsListOfBus};
 
 use crate::flaw::FlawStop;
@@ -11,7 +10,7 @@ use rand_core::utils::NextWord;
 use rand_pcg::Pcg32;
 use self_id::Standard;
 use std::alloc::Global;
-use topology_stack::{BusTree, OutOfMemory, TreeStop, read_tree, read_tree95};
+use topology_stack::{OutOfMemory, TreeStop, read_tree_by};
 
 /// How the nodes of a bus are joined.
 #[derive(Clone, Copy, Debug)]
@@ -84,16 +83,6 @@ fn made_list(
     Ok(list)
 }
 
-/// The bus tree of a standard that emits a list.
-fn read_by(alloc: Global, standard: Standard, quads: &[u32]) -> Result<BusTree, TreeStop>
-    ensures { IfOk result (λ t. IsBusTreeOf standard t × (emits t ≡ quads.now)) }
-{
-    match standard {
-        Standard::Ieee1995 => read_tree95(alloc, quads),
-        Standard::Ieee2000 => read_tree(alloc, quads),
-    }
-}
-
 /// The list of a bus of a standard with so many nodes, 1 to 63, which the words make.
 pub(crate) fn made_bus(
     alloc: Global,
@@ -109,7 +98,7 @@ pub(crate) fn made_bus(
     ensures made { result ≡ Err FlawStop.NotFound → ⊥ }
 {
     let list = made_list(alloc, standard, nodes, words)?;
-    match read_by(alloc, standard, list.as_slice()) {
+    match read_tree_by(alloc, standard, list.as_slice()) {
         Ok(tree) if tree.len() == nodes => Ok(list),
         Err(TreeStop::Memory(error)) => Err(FlawStop::Memory(error)),
         _ => Err(FlawStop::NoBus),

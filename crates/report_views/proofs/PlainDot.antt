@@ -84,22 +84,24 @@ abbrev end_at : NodeNumber → ℕ → End
 end_at node port = record { node = node; port = port }
 
 abbrev plain_statement : NodeNumber → ℕ → End → Statement
-plain_statement node port far = edge (node_name node) (node_name far.node) (port_attributes port far.port)
+plain_statement node port far = edge (node_name node) (node_name far.node)
+    (set (codes "headport") (word (codes "_")) ∷ port_attributes port far.port)
 
 plain_is : (node port : ℕ) (far : End) → is_statement (plain_statement node port far) ≡ true
 plain_is node port far =
     both_true _ _ (both_true _ _ (node_word node) (node_word far.node)) (ports_given port far.port)
 
-plain_parts : (two n one line other start taillabel equals quote port comma headlabel far close end : List ℕ) →
+plain_parts : (two n one line other start headport nearest taillabel equals quote port comma headlabel far close end : List ℕ) →
     (((two ++ n) ++ one) ++ ((line ++ n) ++ other))
-    ++ (((start ++ (taillabel ++ (equals ++ quote))) ++ port)
+    ++ (((start ++ (headport ++ (equals ++ (nearest ++ (comma ++ (taillabel ++ (equals ++ quote))))))) ++ port)
     ++ (((quote ++ (comma ++ (headlabel ++ (equals ++ quote)))) ++ far) ++ (quote ++ (close ++ end))))
-    ≡ two ++ (((n ++ one) ++ (line ++ ((n ++ other) ++ (start ++ ((taillabel ++ (equals ++ (quote ++ (port ++ quote)))) ++ ((comma ++ ((headlabel ++ (equals ++ (quote ++ (far ++ quote)))) ++ [])) ++ close)))))) ++ end)
-plain_parts two n one line other start taillabel equals quote port comma headlabel far close end = simp append_assoc
+    ≡ two ++ (((n ++ one) ++ (line ++ ((n ++ other) ++ (start ++ ((headport ++ (equals ++ nearest)) ++ ((comma ++ ((taillabel ++ (equals ++ (quote ++ (port ++ quote)))) ++ (comma ++ ((headlabel ++ (equals ++ (quote ++ (far ++ quote)))) ++ [])))) ++ close)))))) ++ end)
+plain_parts two n one line other start headport nearest taillabel equals quote port comma headlabel far close end =
+    simp append_assoc
 
 plain_text : (node port : ℕ) (far : End) → plain_edge node port far ≡ statement_line (plain_statement node port far)
 unfolding plain_edge edge_nodes field
-plain_text node port far = plain_parts (codes "  ") (codes "n") (decimal node) (codes " -- ") (decimal far.node) (codes " [") (codes "taillabel") (codes "=") (codes "\"") (decimal port) (codes ", ") (codes "headlabel") (decimal far.port) (codes "]") (codes ";\n")
+plain_text node port far = plain_parts (codes "  ") (codes "n") (decimal node) (codes " -- ") (decimal far.node) (codes " [") (codes "headport") (codes "_") (codes "taillabel") (codes "=") (codes "\"") (decimal port) (codes ", ") (codes "headlabel") (decimal far.port) (codes "]") (codes ";\n")
 
 cable_at : (node port : ℕ) (o : Option End) → AreLines (of_cables (ends_at (end_at node port) o)) (edge_at node port o)
 cable_at node port None = no_lines

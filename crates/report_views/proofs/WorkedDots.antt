@@ -38,6 +38,6 @@ contending = (Some (at 1 0) ∷ []) ∷ (Some (at 0 0) ∷ []) ∷ []
 
 lines :
     plain_graph (codes "a" ∷ codes "b" ∷ []) contending (Contention 0 1) 3
-    ≡ codes "  n0 [label=\"a\\ncontention\", style=filled];\n  n1 [label=\"b\\ncontention\", style=filled];\n  n0 -- n1 [taillabel=\"0\", headlabel=\"0\"];\n"
+    ≡ codes "  n0 [label=\"a\\ncontention\", style=filled];\n  n1 [label=\"b\\ncontention\", style=filled];\n  n0 -- n1 [headport=_, taillabel=\"0\", headlabel=\"0\"];\n"
 unfolding plain_graph plain_node plain_edge edge_nodes field digits
 lines = refl

@@ -41,14 +41,15 @@ nodes_below names outcome set (suc node) =
 
 -- ---- cables
 
--- `  nNUMBER -- nNUMBER [taillabel="PORT", headlabel="PORT"];`
+-- `  nNUMBER -- nNUMBER [headport=_, taillabel="PORT", headlabel="PORT"];`, and the line comes to the node from
+-- the side that is nearest, so that the numbers of two ports of a node don't lie on each other
 unfoldable pub edge_nodes : ℕ → ℕ → List ℕ
 edge_nodes node far = field (codes "  n") node ++ field (codes " -- n") far
 
 unfoldable pub plain_edge : ℕ → ℕ → End → List ℕ
 plain_edge node port far =
     edge_nodes node far.node
-    ++ (field (codes " [taillabel=\"") port
+    ++ (field (codes " [headport=_, taillabel=\"") port
     ++ (field (codes "\", headlabel=\"") far.port ++ codes "\"];\n"))
 
 -- a cable stands at the lower of its two nodes

@@ -91,7 +91,7 @@ fn put_plain_edge(out: &mut Vec<u8>, node: u8, port: u8, far: End) -> Result<(),
     ensures { OnOk result (out.new.items ≡ out.old.items ++ plain_edge node port far) }
 {
     put_edge_nodes(out, node, far.node)?;
-    put_field(out, b" [taillabel=\"", u64::from(port))?;
+    put_field(out, b" [headport=_, taillabel=\"", u64::from(port))?;
     put_field(out, b"\", headlabel=\"", u64::from(far.port))?;
     out.extend_from_slice(b"\"];\n")?;
     Ok(())

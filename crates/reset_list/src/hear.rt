@@ -9,17 +9,14 @@ use log_line::Origin;
 use quad_lanes::{first_bad_pair, firsts};
 use self_id::Standard;
 use std::alloc::Global;
-use topology_stack::{BusTree, read_tree, read_tree95};
+use topology_stack::{BusTree, read_tree_by};
 
 /// The tree of a standard whose packets' quadlets these are.
 fn tree_of(alloc: Global, standard: Standard, quads: &[u32]) -> Result<BusTree, CaptureStop>
     ensures tree { IfOk result (λ t. IsBusTreeOf standard t × (emits t ≡ quads.now)) }
     ensures fault { IfFault result (IsTreeFault standard quads.now) }
 {
-    match standard {
-        Standard::Ieee1995 => Ok(read_tree95(alloc, quads)?),
-        Standard::Ieee2000 => Ok(read_tree(alloc, quads)?),
-    }
+    Ok(read_tree_by(alloc, standard, quads)?)
 }
 
 /// The tree that pairs spell.

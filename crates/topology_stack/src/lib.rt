@@ -27,5 +27,5 @@ pub use number::{put_hex, put_number};
 pub use quad_lanes::OutOfMemory;
 pub use reader::TreeReader;
 pub use text::tree_text;
-pub use tree::{BusTree, read_tree, read_tree95};
+pub use tree::{BusTree, read_tree, read_tree_by, read_tree95};
 pub use writing::write_tree;

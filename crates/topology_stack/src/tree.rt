@@ -73,20 +73,6 @@ impl Eq for BusTree {
     ghost laws = { on_equiv walk (lists_equiv (Prim.search (comparing, rules))) };
 }
 
-/// The bus tree of a standard whose nodes emit `quads`, as `read_tree` and `read_tree95` answer it.
-fn read_tree_of(alloc: Global, standard: Standard, quads: &[u32]) -> Result<BusTree, TreeStop>
-    ensures found { IfOk result (λ t. IsBusTreeOf standard t × (emits t ≡ quads.now)) }
-    ensures refused { IfFault result (λ f. Refused standard quads.now f) }
-    ensures only { (t : Tree) → IsBusTreeOf standard t → emits t ≡ quads.now
-        → UnlessMemory result (Ok t) }
-    ensures exact { (f : TreeFault) → Refused standard quads.now f
-        → UnlessMemory result (Err (TreeStop.Fault f)) }
-{
-    let mut links = Links::new();
-    let nodes = nodes_of(alloc, standard, quads, &mut links)?;
-    Ok(BusTree { nodes, links })
-}
-
 /// The bus tree of IEEE 1394a-2000 whose nodes emit `quads`, the first quadlets of the self-ID
 /// packets of a bus in the order in which they came. It refuses each list that no such tree emits,
 /// with its one fault.
@@ -102,7 +88,7 @@ pub fn read_tree(alloc: Global, quads: &[u32]) -> Result<BusTree, TreeStop>
     ensures exact { (f : TreeFault) → Refused Ieee2000 quads.now f
         → UnlessMemory result (Err (TreeStop.Fault f)) }
 {
-    read_tree_of(alloc, Standard::Ieee2000, quads)
+    read_tree_by(alloc, Standard::Ieee2000, quads)
 }
 
 /// The same by IEEE Std 1394-1995, in which a node has up to 27 slots in up to four packets.
@@ -114,7 +100,22 @@ pub fn read_tree95(alloc: Global, quads: &[u32]) -> Result<BusTree, TreeStop>
     ensures exact { (f : TreeFault) → Refused Ieee1995 quads.now f
         → UnlessMemory result (Err (TreeStop.Fault f)) }
 {
-    read_tree_of(alloc, Standard::Ieee1995, quads)
+    read_tree_by(alloc, Standard::Ieee1995, quads)
+}
+
+/// The bus tree of a standard whose nodes emit `quads`, for who has the standard as a value: as
+/// `read_tree` and `read_tree95` answer it.
+pub fn read_tree_by(alloc: Global, standard: Standard, quads: &[u32]) -> Result<BusTree, TreeStop>
+    ensures found { IfOk result (λ t. IsBusTreeOf standard t × (emits t ≡ quads.now)) }
+    ensures refused { IfFault result (λ f. Refused standard quads.now f) }
+    ensures only { (t : Tree) → IsBusTreeOf standard t → emits t ≡ quads.now
+        → UnlessMemory result (Ok t) }
+    ensures exact { (f : TreeFault) → Refused standard quads.now f
+        → UnlessMemory result (Err (TreeStop.Fault f)) }
+{
+    let mut links = Links::new();
+    let nodes = nodes_of(alloc, standard, quads, &mut links)?;
+    Ok(BusTree { nodes, links })
 }
 
 impl BusTree {

@@ -4,7 +4,7 @@ use Rattle.topology_stack.specs.Tree.{Tree}
 use Rattle.topology_stack.specs.codings.Code.{tree_of}
 use Rattle.topology_stack.proofs.Answered.{only_stop, exact_stop, is_found, is_walk, is_only, no_exact}
 use Rattle.topology_stack.proofs.Linking.{stored}
-use Rattle.topology_stack.proofs.tree.read_tree_of.Goals as goal
+use Rattle.topology_stack.proofs.tree.read_tree_by.Goals as goal
 
 pub returns-in_err-nodes-clause-only : goal.returns-in_err-nodes-clause-only
 returns-in_err-nodes-clause-only c =
