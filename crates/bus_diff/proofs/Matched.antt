@@ -3,7 +3,7 @@ use Rattle.std.proofs.Common.{◌≡◌, ◌∙◌, ℕ, ◌<◌, ⊎_elim, Bool
 use Rattle.std.specs.Prelude.{Contains, slice_get, not, ◌==◌, ◌||◌, ◌&&◌, if◌then◌else◌}
 use Rattle.std.specs.List.{list_any}
 use Rattle.std.proofs.lemmas.List.Elements.{Contains-push_cases}
-use Rattle.std.proofs.lemmas.Bool.{and_parts}
+use Rattle.std.proofs.lemmas.Bool.{and_parts, not-true}
 use Rattle.self_id.specs.Node.{Node}
 use Rattle.topology_stack.specs.Tree.{Tree, walk}
 use Rattle.bus_diff.specs.declared.pair.Pair.{Pair}
@@ -18,10 +18,6 @@ or_left false b e = refl
 or_right : (a b : Bool) → (a || b) ≡ false → b ≡ false
 or_right true b e = absurd cc
 or_right false b e = e
-
-pub not_false : (a : Bool) → not a ≡ true → a ≡ false
-not_false true e = absurd cc
-not_false false e = refl
 
 -- where no pair has this node in one bus, no pair has it
 none_of : (of : Pair → ℕ) (ps : List Pair) (n : ℕ) → list_any (λ p. of p == n) ps ≡ false →
@@ -92,7 +88,7 @@ matching_with t u ps x m = go (may_be_one t u ps x) refl
         let rest = not (stood ps x.new) && is_same_count (ports_of (slice_get (walk t) x.old)) (ports_of (slice_get (walk u) x.new)) in
         let same = is_same_count (ports_of (slice_get (walk t) x.old)) (ports_of (slice_get (walk u) x.new)) in
         let more = (and_parts (not (stays ps x.old)) rest e).1 in
-        matching_push t u ps x m (not_false _ ((and_parts (not (stays ps x.old)) rest e).0)) (not_false _ ((and_parts (not (stood ps x.new)) same more).0))
+        matching_push t u ps x m (not-true _ ((and_parts (not (stays ps x.old)) rest e).0)) (not-true _ ((and_parts (not (stood ps x.new)) same more).0))
         (fits_so (walk t) (walk u) x (slice_get (walk t) x.old) (slice_get (walk u) x.new) refl refl ((and_parts (not (stood ps x.new)) same more).1))
     go false e = m
 

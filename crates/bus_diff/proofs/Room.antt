@@ -3,7 +3,7 @@ use Rattle.std.proofs.Common.{◌≡◌, ◌∙◌, ℕ, zero, suc, ◌+◌, ◌
 use Rattle.std.specs.Prelude.{slice_get, not, ◌==◌, ◌||◌, ◌&&◌, if◌then◌else◌}
 use Rattle.std.specs.List.{list_any}
 use Rattle.std.proofs.Math.Bool.{or_assoc, or-false}
-use Rattle.std.proofs.lemmas.Bool.{cases_lt, and_parts}
+use Rattle.std.proofs.lemmas.Bool.{cases_lt, and_parts, not-true}
 use Rattle.std.proofs.lemmas.Option.{slice_get_within}
 use Rattle.self_id.specs.Node.{Node}
 use Rattle.topology_stack.specs.Tree.{Tree, walk}
@@ -11,7 +11,6 @@ use Rattle.view_text.specs.declared.cable.Cable.{Cable}
 use Rattle.bus_diff.specs.declared.pair.Pair.{Pair}
 use Rattle.bus_diff.specs.Matching.{stays, stood}
 use Rattle.bus_diff.specs.Along.{ports_of, is_same_count, may_be_one, with_pair, reached}
-use Rattle.bus_diff.proofs.Matched.{not_false}
 use Rattle.bus_diff.proofs.Reached.{walked_keeps}
 
 pub any_push : (of : Pair → ℕ) (ps : List Pair) (x : Pair) (k : ℕ) →
@@ -96,7 +95,7 @@ room_with t u ps x r = go (may_be_one t u ps x) refl
         let same = is_same_count (ports_of (slice_get (walk t) x.old)) (ports_of (slice_get (walk u) x.new)) in
         let rest = not (stood ps x.new) && same in
         let more = (and_parts (not (stays ps x.old)) rest e).1 in
-        room_push t u ps x r (not_false _ ((and_parts (not (stays ps x.old)) rest e).0)) (not_false _ ((and_parts (not (stood ps x.new)) same more).0))
+        room_push t u ps x r (not-true _ ((and_parts (not (stays ps x.old)) rest e).0)) (not-true _ ((and_parts (not (stood ps x.new)) same more).0))
         (both_there (walk t) (walk u) x (slice_get (walk t) x.old) (slice_get (walk u) x.new) refl refl ((and_parts (not (stood ps x.new)) same more).1))
     go false e = r
 

@@ -1,7 +1,8 @@
 -- What is made of words that are parted: the form's own words, and files that are no options.
-use Rattle.std.proofs.Common.{◌≡◌, ◌∙◌, ℕ, zero, suc, ◌+◌, ◌-◌, Bool, true, false, List, [], ◌∷◌, ◌++◌, length, take, drop, refl, sym, ap, add-one, arith}
+use Rattle.std.proofs.Common.{◌≡◌, ◌∙◌, ℕ, zero, suc, ◌+◌, ◌-◌, true, false, List, [], ◌∷◌, ◌++◌, length, take, drop, refl, sym, ap, add-one, arith}
 use Rattle.std.specs.Prelude.{filter, min, not, string_bytes, string_cmp, IsPermutation, IsSorted, String}
 use Rattle.std.specs.Global.{Global}
+use Rattle.std.proofs.lemmas.Bool.{not-true}
 use Rattle.std.proofs.lemmas.List.{length-take, take_min, drop_min}
 use Rattle.std.proofs.lemmas.List.Elements.{All-drop, All-weaker, filter_passes}
 use Rattle.program_edges.specs.Words.{is_option, is_other_word, before_end, behind_end, plain_words, option_words, AreSorted, AreNoOptions}
@@ -19,10 +20,6 @@ dropped zero (x ∷ xs) ys =
     rw none refl
 dropped (suc n) (x ∷ xs) ys = dropped n xs ys ∙ ap (λ (k : ℕ). drop n xs ++ drop k ys) (omega arith)
 
-is_none : (b : Bool) → not b ≡ true → b ≡ false
-is_none true e = absurd cc
-is_none false e = refl
-
 -- the files are words that are no options, and then some of those behind `--`
 pub no_options : (behind : ℕ) (words : List (String Global)) → AreNoOptions words (drop (behind + 1) (plain_words words))
 no_options behind [] = record {
@@ -37,7 +34,7 @@ no_options behind (command ∷ words) = record {
   files_are = rw add-one (dropped behind (filter is_other_word (before_end words)) (behind_end words));
   no_options = All-drop (λ (file : String Global). is_option (string_bytes file) ≡ false) behind (filter is_other_word (before_end words))
       (All-weaker (λ (file : String Global). is_other_word file ≡ true) (λ (file : String Global). is_option (string_bytes file) ≡ false)
-      (λ file is. is_none (is_option (string_bytes file)) is) (filter is_other_word (before_end words)) (filter_passes is_other_word (before_end words)));
+      (λ file is. not-true (is_option (string_bytes file)) is) (filter is_other_word (before_end words)) (filter_passes is_other_word (before_end words)));
 }
 
 -- ---- the whole

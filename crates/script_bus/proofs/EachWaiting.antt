@@ -44,7 +44,7 @@ use Rattle.script_told.specs.EachPlan.{IsCarriedOut}
 use Rattle.script_told.specs.EachReport.{DoesReport}
 use Rattle.script_told.specs.ScriptEvents.{Declares, TakesNoTurn, RunsOn}
 use Rattle.script_told.specs.PrintedTree.{PrintsTree}
-use Rattle.script_told.proofs.Lemmas.{stage-in, prints-tree, plan-act, plan-carried, draft-power, no-nodes, sound-bus, IsSound, IsDone, each-done, runs-on}
+use Rattle.script_told.proofs.Lemmas.{declares-or-not, late, stage-in, prints-tree, plan-act, plan-carried, draft-power, no-nodes, sound-bus, IsSound, IsDone, each-done, runs-on}
 use Rattle.script_bus.specs.EachWaiting.{ResetsOneOf, power_on, report, OneNodeWaits, IsRootOf, EachWaitingNodeBecomesRoot}
 use Rattle.script_bus.proofs.EachConfig.{reports-of, by-answer}
 use Rattle.script_bus.proofs.FollowOn.{LeadsOn, leads-on, leads-behind, at-split, behind-split, front-split}
@@ -95,15 +95,6 @@ joined (turns ∷ a) b w u v first next =
     record { run = (first.0, first.1, j.run); by_first = j.by_first; by_next = j.by_next }
 
 -- ---- behind a report
-
--- a command of a bus that runs declares nothing
-late : (bus : Bus) (c : Command) (next : Stage) (text : List ℕ) → Declares c →
-    DoesAtStage (running bus) c (Ok (next, text)) → ⊥
-late bus (command.Node name ports speed link contender force power gap gap_reset hold short long word len seed packed) next text d f = absurd cc
-late bus (command.Delay delay) next text d f = absurd cc
-late bus (command.Times standard nanoseconds) next text d f = absurd cc
-late bus (command.Clock name ppm first) next text d f = absurd cc
-late bus c next text d f = d
 
 none-in : (P : Entry → Type 0) → Any P [] → ⊥
 none-in P (k, x, less, at, is) = omega (arith, less)
@@ -261,13 +252,6 @@ declared-on stage fresh c text d h f =
     just-on fresh (draft-power first_draft (no-nodes 4 (omega arith) (omega arith)))
 declared-on stage (declaring draft) c text d h f = just-on (declaring draft) (draft-power draft h)
 declared-on stage (running bus) c text d h f = absurd (not-running stage c bus text d f)
-
-declares-or-not : (c : Command) → Declares c ⊎ (Declares c → ⊥)
-declares-or-not (command.Node name ports speed link contender force power gap gap_reset hold short long word len seed packed) = inl tt
-declares-or-not (command.Delay delay) = inl tt
-declares-or-not (command.Times standard nanoseconds) = inl tt
-declares-or-not (command.Clock name ppm first) = inl tt
-declares-or-not c = inr (λ h. h)
 
 -- so it is behind a command in which no turn passes
 stays-on : (e : Entry) → IsDone e → TakesNoTurn e.command → PowersOn e.before → PowersOn e.after

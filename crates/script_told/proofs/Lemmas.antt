@@ -20,6 +20,8 @@ pub use Rattle.script_told.proofs.told.Lines.{cabled, one-run, one-told, says, s
 pub use Rattle.script_told.proofs.told.Parts.{printed-in, stage-in, text-in}
 -- How runs and their results end: well or with a fault, and in one way.
 pub use Rattle.script_told.proofs.told.Ends.{not-both, same-end, same-fault}
+-- A command declares or not, and on a bus that runs none does.
+pub use Rattle.script_told.proofs.told.Declared.{declares-or-not, late}
 -- The events of each command.
 pub use Rattle.script_told.proofs.told.EntryRuns.{scripts-are-runs, runs-on}
 -- A tree of a report stands in its text.

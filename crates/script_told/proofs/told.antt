@@ -7,6 +7,7 @@
 -- of a run. `EachReport`: what reports say. `ReachedRuns`: the worlds of a run. `Answers`:
 -- a fact of each answer. `EntryRuns`: the events of each command. `PrintedTree`: a
 -- tree in what was printed. `PlanCarried`: what stands behind a plan. `Ends`: runs end in one way.
+-- `Declared`: commands that declare, and those that don't.
 pub mod Parts
 pub mod Ends
 pub mod Cables
@@ -22,3 +23,4 @@ pub mod Answers
 pub mod EntryRuns
 pub mod PrintedTree
 pub mod PlanCarried
+pub mod Declared

@@ -1,5 +1,5 @@
 -- A dump that is read shows each moment of its run.
-use Rattle.std.proofs.Common.{◌≡◌, ◌⊎◌, inl, inr, ℕ, zero, suc, ◌+◌, Bool, true, false, List, [], ◌∷◌, ◌++◌, Some, map, refl, sym, subst, ◌∙◌, ap, append_assoc, append-nil}
+use Rattle.std.proofs.Common.{◌≡◌, inl, inr, ℕ, zero, suc, ◌+◌, Bool, true, false, List, [], ◌∷◌, ◌++◌, Some, map, refl, sym, subst, ◌∙◌, ap, append_assoc, append-nil}
 use Rattle.std.specs.Prelude.{Ok, Err, All, MatchBool, nat_lt, slice_get}
 use Rattle.std.proofs.lemmas.List.Elements.{All-head, All-tail}
 use Rattle.topology_stack.specs.OneAnswer.{NoListHasTwoTrees}
@@ -20,7 +20,7 @@ use Rattle.script_told.specs.Step.{LineAnswer, Reports, Does, config_of}
 use Rattle.script_told.specs.Script.{Stage, fresh, declaring, running, bus_of, onwards, DoesOnBus, DoesAtStage}
 use Rattle.script_told.specs.Run.{Entry}
 use Rattle.script_told.specs.ScriptEvents.{Declares, DoesEvents}
-use Rattle.script_told.proofs.Lemmas.{bus-in, stage-in, plan-act, draft-power, IsSound, sound-bus, IsDone, each-done, runs-on}
+use Rattle.script_told.proofs.Lemmas.{declares-or-not, late, bus-in, stage-in, plan-act, draft-power, IsSound, sound-bus, IsDone, each-done, runs-on}
 use Rattle.script_trace.specs.Step.{seen_before_turn, seen_before_act}
 use Rattle.script_trace.specs.Voice.{Legend, legend_of, turns_told}
 use Rattle.script_trace.specs.Trace.{TracesPlan, Traces, TracesAt, AllTrace}
@@ -239,22 +239,8 @@ command-led before stage c after text words r t not d does x =
 
 -- ---- a bus that runs goes on running
 
-late : (bus : Bus) (c : Command) (next : Stage) (text : List ℕ) → Declares c → DoesAtStage (running bus) c (Ok (next, text)) → ⊥
-late bus (Node name ports speed link contender force power gap gap_reset hold short long word len seed packed) next text d x = absurd cc
-late bus (Delay delay) next text d x = absurd cc
-late bus (Times standard nanoseconds) next text d x = absurd cc
-late bus (Clock name ppm first) next text d x = absurd cc
-late bus c next text d x = d
-
-either : (c : Command) → Declares c ⊎ (Declares c → ⊥)
-either (Node name ports speed link contender force power gap gap_reset hold short long word len seed packed) = inl tt
-either (Delay delay) = inl tt
-either (Times standard nanoseconds) = inl tt
-either (Clock name ppm first) = inl tt
-either c = inr (λ d. d)
-
 goes-on-running : (e : Entry) (bus : Bus) → IsDone e → e.before ≡ running bus → (after : Bus) × (e.after ≡ running after)
-goes-on-running e bus done is = elim (either e.command) [
+goes-on-running e bus done is = elim (declares-or-not e.command) [
   | inl d ↦ absurd (late bus e.command e.after e.text d (subst (λ s. DoesAtStage s e.command (Ok (e.after, e.text))) is done.follows))
   | inr not ↦
       let runs = runs-on e done not in
