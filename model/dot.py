@@ -52,7 +52,7 @@ def other_lines(world, part):
         lines.append(f'  n{node} [label="{world.nodes[node].name}{said}];')
     for (node, port), (far, far_port) in sorted(world.far.items()):
         if node in part["nodes"] and node < far:
-            lines.append(cable(node, far, "", port, far_port))
+            lines.append(cable(node, far, "headport=_, ", port, far_port))
     return lines
 
 
