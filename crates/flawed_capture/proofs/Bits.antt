@@ -1,12 +1,15 @@
 -- Bits of a quadlet that are turned, set, or replaced.
-use Rattle.std.proofs.Common.{◌≡◌, ◌≢◌, ℕ, ◌+◌, ◌-◌, ◌*◌, ◌/◌, ◌%◌, ◌^◌, ◌<◌, refl, sym, ◌∙◌, ap, arith}
+use Rattle.std.proofs.Common.{◌≡◌, ◌≢◌, ℕ, zero, suc, Bool, true, false, ◌+◌, ◌-◌, ◌*◌, ◌/◌, ◌%◌, ◌^◌, ◌<◌, refl, sym, ◌∙◌, ap, arith}
+use Rattle.std.specs.Prelude.{◌==◌, if◌then◌else◌}
+use Rattle.std.proofs.lemmas.Bool.{eqb-true}
 use Rattle.std.specs.Int.RustNames.{bit_and, bit_or, bit_xor}
 use Rattle.std.specs.Int.{bit_at}
 use Rattle.std.specs.Int.Bits.{or_zero_r, xor_zero_r}
 use Rattle.std.proofs.Math.Nat.{mod-eq_of_lt}
 use Rattle.std.proofs.lemmas.Nat.{and_shr, and_mod, and_mask, or_shr, or_mod, or_comm, or_shifted, or_lt, le_or_r, xor_shr, xor_mod, shr_split}
 use Rattle.std.proofs.lemmas.Nat.Bits.{bit_at_xor, bit_at-zero, bit_at-lt, same_from_bits}
-use Rattle.flawed_capture.specs.Other.{with_slots, with_up}
+use Rattle.self_id.specs.declared.standard.Standard.{Standard}
+use Rattle.flawed_capture.specs.Other.{with_slots, with_up, with_bits, has_five, without_cables}
 
 -- ---- turned
 
@@ -101,3 +104,42 @@ parent_at_two q few = replaced 4 2 28 q 4294967283 8 2 refl refl refl refl (omeg
 
 pub parent_at_eight : (q : ℕ) → q < 2 ^ 32 → bit_or (bit_and q 4294966527) 512 ≡ with_up 8 q
 parent_at_eight q few = replaced 10 8 22 q 4294966527 512 2 refl refl refl refl (omega arith) (omega arith) (omega arith)
+
+-- each port field as 01: of packet zero, of a packet of five, or of eight
+bare_zero : (q fields : ℕ) → q < 2 ^ 32 → fields ≡ 252 →
+    bit_or (bit_and q (4294967295 - fields)) (bit_and 1431655765 fields) ≡ with_bits 2 8 21 q
+bare_zero q fields few is =
+    ap (λ (f : ℕ). bit_or (bit_and q (4294967295 - f)) (bit_and 1431655765 f)) is
+    ∙ replaced 8 2 24 q 4294967043 84 21 refl refl refl refl (omega arith) (omega arith) (omega arith)
+
+bare_five : (q fields : ℕ) → q < 2 ^ 32 → fields ≡ 261888 →
+    bit_or (bit_and q (4294967295 - fields)) (bit_and 1431655765 fields) ≡ with_bits 8 18 341 q
+bare_five q fields few is =
+    ap (λ (f : ℕ). bit_or (bit_and q (4294967295 - f)) (bit_and 1431655765 f)) is
+    ∙ replaced 18 8 14 q 4294705407 87296 341 refl refl refl refl (omega arith) (omega arith) (omega arith)
+
+bare_eight : (q fields : ℕ) → q < 2 ^ 32 → fields ≡ 262140 →
+    bit_or (bit_and q (4294967295 - fields)) (bit_and 1431655765 fields) ≡ with_bits 2 18 21845 q
+bare_eight q fields few is =
+    ap (λ (f : ℕ). bit_or (bit_and q (4294967295 - f)) (bit_and 1431655765 f)) is
+    ∙ replaced 18 2 14 q 4294705155 87380 21845 refl refl refl refl (omega arith) (omega arith) (omega arith)
+
+bare_by : (q fields : ℕ) (zero five : Bool) → q < 2 ^ 32 → (zero ≡ true → fields ≡ 252) →
+    (zero ≡ false → fields ≡ (if five then 261888 else 262140)) →
+    bit_or (bit_and q (4294967295 - fields)) (bit_and 1431655765 fields)
+    ≡ (if zero then with_bits 2 8 21 q else (if five then with_bits 8 18 341 q else with_bits 2 18 21845 q))
+bare_by q fields true five few is next = bare_zero q fields few (is refl)
+bare_by q fields false true few is next = bare_five q fields few (next refl)
+bare_by q fields false false few is next = bare_eight q fields few (next refl)
+
+one_bit : (n : ℕ) → n < 2 → (n == 0) ≡ false → n ≡ 1
+one_bit zero few e = absurd cc
+one_bit (suc zero) few e = refl
+one_bit (suc (suc n)) few e = absurd (omega (arith, few))
+
+pub bare : (standard : Standard) (q fields : ℕ) → q < 2 ^ 32 → (q / 2 ^ 23 % 2 ≡ 0 → fields ≡ 252) →
+    (q / 2 ^ 23 % 2 ≡ 1 → fields ≡ (if has_five standard q then 261888 else 262140)) →
+    bit_or (bit_and q (4294967295 - fields)) (bit_and 1431655765 fields) ≡ without_cables standard q
+bare standard q fields few is next =
+    bare_by q fields (q / 2 ^ 23 % 2 == 0) (has_five standard q) few (λ e. is (eqb-true (q / 2 ^ 23 % 2) 0 e))
+    (λ e. next (one_bit (q / 2 ^ 23 % 2) (omega arith) e))

@@ -11,10 +11,11 @@ use Rattle.flawed_capture.specs.declared.flaw.Flaw.{Flaw}
 use Rattle.flawed_capture.specs.declared.flaw.Flaw.TheVariants.{BadLength, BadInverse, NotSelfId, WrongId, BadOrder, Cut, TwoParents, Empty, TooFewChildren, TreesLeft, AfterRoot, NoRoot, TooMany}
 use Rattle.flawed_capture.specs.Flaw.{HasFlaw, HasListFlaw, least_nodes}
 use Rattle.flawed_capture.specs.Other.{IsOther}
-use Rattle.flawed_capture.specs.Spoilt.{IsSpoiltList, IsSpoilt, ComesAt, ComesAnywhere, IsListOfBus}
+use Rattle.flawed_capture.specs.Spoilt.{IsSpoiltList, IsSpoilt, ComesAt, IsListOfBus}
 use Rattle.flawed_capture.proofs.First.{to_other_packet, to_other_node, to_other_order, to_cut}
 use Rattle.flawed_capture.proofs.Slots.{to_two_parents, to_too_few}
 use Rattle.flawed_capture.proofs.Rootless.{to_no_root, to_too_many}
+use Rattle.flawed_capture.proofs.Bare.{leaves_trees}
 
 -- bytes that end within a pair are refused for it
 broken : (standard : Standard) (bytes : List ℕ) → length bytes % 8 ≢ 0 → HasFlaw standard bytes BadLength
@@ -64,10 +65,10 @@ of_list standard flaw list bytes said h = record {
 
 -- a list that goes on behind the root is refused for it
 pub goes_on : (standard : Standard) (flaw : Flaw) (nodes at more : ℕ) (list spoilt : List ℕ) → flaw ≡ AfterRoot →
-    IsListOfBus standard nodes list → (at + 1 ≡ length list → spoilt ≡ list ++ more ∷ []) → ComesAt flaw list at →
+    IsListOfBus standard nodes list → (at + 1 ≡ length list → spoilt ≡ list ++ more ∷ []) → ComesAt standard flaw list at →
     HasListFlaw standard spoilt flaw
 goes_on standard flaw nodes at more list spoilt is bus behind comes =
-    let last : at + 1 ≡ length list = subst (λ (f : Flaw). ComesAt f list at) is comes in
+    let last : at + 1 ≡ length list = subst (λ (f : Flaw). ComesAt standard f list at) is comes in
     record {
       fault = Behind (length (emits bus.t));
       refused = (
@@ -85,7 +86,7 @@ goes_on standard flaw nodes at more list spoilt is bus behind comes =
 pub other_one : (standard : Standard) (flaw : Flaw) (nodes at quad : ℕ) (list spoilt : List ℕ) →
     flaw ≢ BadLength → flaw ≢ BadInverse → flaw ≢ Empty → flaw ≢ Cut → flaw ≢ AfterRoot → flaw ≢ TooMany →
     IsListOfBus standard nodes list → IsOther flaw standard (get_or list at 0) quad → spoilt ≡ slice_set list at quad →
-    ComesAt flaw list at → HasListFlaw standard spoilt flaw
+    ComesAt standard flaw list at → HasListFlaw standard spoilt flaw
 other_one standard BadLength nodes at quad list spoilt a b c d e f bus other is comes = absurd (a refl)
 other_one standard BadInverse nodes at quad list spoilt a b c d e f bus other is comes = absurd (b refl)
 other_one standard Empty nodes at quad list spoilt a b c d e f bus other is comes = absurd (c refl)
@@ -108,12 +109,13 @@ other_one standard TwoParents nodes at quad list spoilt a b c d e f bus other is
 other_one standard TooFewChildren nodes at quad list spoilt a b c d e f bus other is comes =
     to_too_few standard nodes list spoilt quad bus (is ∙ ap (λ (k : ℕ). slice_set list k quad) comes)
     (subst (λ (k : ℕ). IsOther TooFewChildren standard (get_or list k 0) quad) comes other)
-other_one standard _ nodes at quad list spoilt a b c d e f bus other is comes = absurd comes
+other_one standard TreesLeft nodes at quad list spoilt a b c d e f bus other is comes =
+    subst (λ (l : List ℕ). HasListFlaw standard l TreesLeft) (sym is) (comes quad other)
 
 -- one quadlet is another, and the list ends after it
 ends : (standard : Standard) (nodes at quad : ℕ) (list spoilt : List ℕ) →
     IsListOfBus standard nodes list → spoilt ≡ take (at + 1) (slice_set list at quad) →
-    IsOther Cut standard (get_or list at 0) quad → ComesAt Cut list at → HasListFlaw standard spoilt Cut
+    IsOther Cut standard (get_or list at 0) quad → ComesAt standard Cut list at → HasListFlaw standard spoilt Cut
 ends standard nodes at quad list spoilt bus is other comes =
     to_cut standard nodes list (slice_set list 0 quad) quad bus refl spoilt
     (is ∙ ap (λ (k : ℕ). take (k + 1) (slice_set list k quad)) comes)
@@ -121,38 +123,38 @@ ends standard nodes at quad list spoilt bus is other comes =
 
 pub other_end : (standard : Standard) (flaw : Flaw) (nodes at quad : ℕ) (list spoilt : List ℕ) → flaw ≡ Cut →
     IsListOfBus standard nodes list → spoilt ≡ take (at + 1) (slice_set list at quad) →
-    IsOther flaw standard (get_or list at 0) quad → ComesAt flaw list at → HasListFlaw standard spoilt flaw
+    IsOther flaw standard (get_or list at 0) quad → ComesAt standard flaw list at → HasListFlaw standard spoilt flaw
 other_end standard flaw nodes at quad list spoilt is bus parts =
-    subst (λ (f : Flaw). IsOther f standard (get_or list at 0) quad → ComesAt f list at → HasListFlaw standard spoilt f) (sym is)
+    subst (λ (f : Flaw). IsOther f standard (get_or list at 0) quad → ComesAt standard f list at → HasListFlaw standard spoilt f) (sym is)
     (ends standard nodes at quad list spoilt bus parts)
 
 -- one quadlet is another, and one more follows
 both : (standard : Standard) (nodes at quad more : ℕ) (list spoilt : List ℕ) →
     IsListOfBus standard nodes list → spoilt ≡ slice_set list at quad ++ more ∷ [] → 63 ≤ nodes →
-    IsOther TooMany standard (get_or list at 0) quad → ComesAt TooMany list at → HasListFlaw standard spoilt TooMany
+    IsOther TooMany standard (get_or list at 0) quad → ComesAt standard TooMany list at → HasListFlaw standard spoilt TooMany
 both standard nodes at quad more list spoilt bus is enough other comes =
     to_too_many standard nodes at quad list (slice_set list at quad) bus comes refl other more spoilt enough is
 
 pub other_both : (standard : Standard) (flaw : Flaw) (nodes at quad more : ℕ) (list spoilt : List ℕ) → flaw ≡ TooMany →
     IsListOfBus standard nodes list → spoilt ≡ slice_set list at quad ++ more ∷ [] → least_nodes flaw ≤ nodes →
-    IsOther flaw standard (get_or list at 0) quad → ComesAt flaw list at → HasListFlaw standard spoilt flaw
+    IsOther flaw standard (get_or list at 0) quad → ComesAt standard flaw list at → HasListFlaw standard spoilt flaw
 other_both standard flaw nodes at quad more list spoilt is bus parts =
-    subst (λ (f : Flaw). least_nodes f ≤ nodes → IsOther f standard (get_or list at 0) quad → ComesAt f list at → HasListFlaw standard spoilt f) (sym is)
+    subst (λ (f : Flaw). least_nodes f ≤ nodes → IsOther f standard (get_or list at 0) quad → ComesAt standard f list at → HasListFlaw standard spoilt f) (sym is)
     (both standard nodes at quad more list spoilt bus parts)
 
--- a bus has a place at which a flaw comes that comes anywhere
-pub some_place : (standard : Standard) (flaw : Flaw) (list : List ℕ) → 0 < length list → ComesAnywhere flaw →
-    (at : ℕ) × (at < length list) × ComesAt flaw list at
-some_place standard BadLength list some comes = (0, some, tt)
-some_place standard BadInverse list some comes = (0, some, tt)
-some_place standard NotSelfId list some comes = (0, some, refl)
-some_place standard WrongId list some comes = (0, some, refl)
-some_place standard BadOrder list some comes = (0, some, refl)
-some_place standard Cut list some comes = (0, some, refl)
-some_place standard TwoParents list some comes = (0, some, refl)
-some_place standard TooFewChildren list some comes = (0, some, refl)
-some_place standard Empty list some comes = (0, some, tt)
-some_place standard AfterRoot list some comes = (length list - 1, omega (arith, some), omega (arith, some))
-some_place standard NoRoot list some comes = (length list - 1, omega (arith, some), omega (arith, some))
-some_place standard TooMany list some comes = (length list - 1, omega (arith, some), omega (arith, some))
-some_place standard _ list some comes = absurd comes
+-- a bus with enough nodes has a place at which a flaw comes
+pub some_place : (standard : Standard) (flaw : Flaw) (nodes : ℕ) (list : List ℕ) → IsListOfBus standard nodes list →
+    least_nodes flaw ≤ nodes → 0 < length list → (at : ℕ) × (at < length list) × ComesAt standard flaw list at
+some_place standard BadLength nodes list bus enough some = (0, some, tt)
+some_place standard BadInverse nodes list bus enough some = (0, some, tt)
+some_place standard NotSelfId nodes list bus enough some = (0, some, refl)
+some_place standard WrongId nodes list bus enough some = (0, some, refl)
+some_place standard BadOrder nodes list bus enough some = (0, some, refl)
+some_place standard Cut nodes list bus enough some = (0, some, refl)
+some_place standard TwoParents nodes list bus enough some = (0, some, refl)
+some_place standard TooFewChildren nodes list bus enough some = (0, some, refl)
+some_place standard TreesLeft nodes list bus enough some = leaves_trees standard nodes list bus enough
+some_place standard Empty nodes list bus enough some = (0, some, tt)
+some_place standard AfterRoot nodes list bus enough some = (length list - 1, omega (arith, some), omega (arith, some))
+some_place standard NoRoot nodes list bus enough some = (length list - 1, omega (arith, some), omega (arith, some))
+some_place standard TooMany nodes list bus enough some = (length list - 1, omega (arith, some), omega (arith, some))

@@ -1,5 +1,5 @@
 -- The last packet of a node, and of a bus: a parent at its last slot.
-use Rattle.std.proofs.Common.{◌≡◌, ℕ, ◌+◌, ◌-◌, ◌*◌, ◌/◌, ◌%◌, ◌^◌, ◌<◌, ◌≤◌, Bool, true, false, IsTrue, List, [], ◌∷◌, ◌++◌, length, take, drop, refl, sym, ap, subst, ◌∙◌, arith, length-drop, length-append}
+use Rattle.std.proofs.Common.{◌≡◌, ℕ, ◌+◌, ◌*◌, ◌/◌, ◌%◌, ◌^◌, ◌<◌, ◌≤◌, Bool, true, false, IsTrue, List, [], ◌∷◌, ◌++◌, length, take, drop, refl, sym, ap, subst, ◌∙◌, arith, length-drop, length-append}
 use Rattle.std.specs.Prelude.{◌==◌, ◌||◌}
 use Rattle.std.proofs.lemmas.Bool.{eqb-true}
 use Rattle.std.proofs.lemmas.List.{drop-append-le}
@@ -33,12 +33,12 @@ pub record LastOther (standard : Standard) (n : Node) (id : ℕ) : Type 0 where
 
 -- ---- packets
 
-group19 : (n : Node) (id : ℕ) → length n.ports ≡ 19 →
+pub group19 : (n : Node) (id : ℕ) → length n.ports ≡ 19 →
     group n id ≡ quad_of (zero_packet n id true) ∷ quad_of (first_packet n id true) ∷ quad_of (second_packet n id false) ∷ []
 unfolding group
 group19 n id count = rw count refl
 
-group27 : (n : Node) (id : ℕ) → length n.ports ≡ 27 →
+pub group27 : (n : Node) (id : ℕ) → length n.ports ≡ 27 →
     group n id ≡ quad_of (zero_packet n id true) ∷ quad_of (first_packet n id true) ∷ quad_of (second_packet n id true) ∷ quad_of (third_packet n id) ∷ []
 unfolding group
 group27 n id count = rw count refl
@@ -181,7 +181,7 @@ module _ (standard : Standard) (attrs : Attrs) (ka kb id : ℕ) (low : id < 64) 
 
 -- ---- of any node
 
-data Width (k : ℕ) : Type 0 where
+pub data Width (k : ℕ) : Type 0 where
   three : k ≡ 3 → Width k
   eleven : k ≡ 11 → Width k
   sixteen : k ≡ 16 → Width k
@@ -197,7 +197,7 @@ width_by k false false false true b27 e f g h i w = nineteen (eqb-true k 19 h)
 width_by k false false false false true e f g h i w = full (eqb-true k 27 i)
 width_by k false false false false false e f g h i w = absurd cc
 
-width_of : (k : ℕ) → IsTrue (is_width k) → Width k
+pub width_of : (k : ℕ) → IsTrue (is_width k) → Width k
 width_of k w = width_by k (k == 3) (k == 11) (k == 16) (k == 19) (k == 27) refl refl refl refl refl w
 
 -- the last of some slots
@@ -210,11 +210,11 @@ snoc : (q : PortStatus) (ps : List PortStatus) → Snoc (q ∷ ps)
 snoc q [] = record { front = []; p = q; is = refl }
 snoc q (a ∷ ps) = let rest = snoc a ps in record { front = q ∷ rest.front; p = rest.p; is = ap (λ (l : List PortStatus). q ∷ l) rest.is }
 
-only_2000 : (standard : Standard) → IsTrue (is_width_of standard 16) → standard ≡ Ieee2000
+pub only_2000 : (standard : Standard) → IsTrue (is_width_of standard 16) → standard ≡ Ieee2000
 only_2000 Ieee1995 w = absurd cc
 only_2000 Ieee2000 w = refl
 
-not_2000 : (standard : Standard) → IsTrue (is_width_of standard 19) → standard ≡ Ieee2000 → ⊥
+pub not_2000 : (standard : Standard) → IsTrue (is_width_of standard 19) → standard ≡ Ieee2000 → ⊥
 not_2000 Ieee1995 w e = absurd cc
 not_2000 Ieee2000 w e = absurd cc
 

@@ -6,6 +6,8 @@ mod Waiting
 mod Parent
 mod Last
 mod Rootless
+mod Cleared
+mod Bare
 mod Changed
 mod Turned
 mod Tried

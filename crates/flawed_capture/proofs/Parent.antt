@@ -1,5 +1,5 @@
 -- A parent at the last slot of a node: its last packet is another.
-use Rattle.std.proofs.Common.{◌≡◌, ℕ, zero, ◌+◌, ◌*◌, ◌/◌, ◌%◌, ◌^◌, ◌<◌, ◌≤◌, Bool, true, false, List, [], ◌∷◌, ◌++◌, length, take, drop, refl, sym, ap, ◌∙◌, arith, length-drop, length-append}
+use Rattle.std.proofs.Common.{◌≡◌, ℕ, ◌+◌, ◌*◌, ◌/◌, ◌%◌, ◌^◌, ◌<◌, ◌≤◌, Bool, true, false, List, [], ◌∷◌, ◌++◌, length, take, drop, refl, sym, ap, ◌∙◌, arith, length-drop, length-append}
 use Rattle.std.specs.Prelude.{◌==◌, ◌&&◌, if◌then◌else◌}
 use Rattle.std.proofs.lemmas.List.{take-append-le, drop-append-le}
 use Rattle.std.proofs.lemmas.Nat.{pow-add}
@@ -13,7 +13,7 @@ use Rattle.self_id.specs.declared.node.PortStatus.TheVariants.{Up}
 use Rattle.self_id.specs.declared.standard.Standard.{Standard}
 use Rattle.self_id.specs.declared.standard.Standard.TheVariants.{Ieee1995, Ieee2000}
 use Rattle.self_id.specs.Node.{node_with, FitBits, status_bits}
-use Rattle.self_id.specs.Group.{fields, group, zero_packet}
+use Rattle.self_id.specs.Group.{fields, zero_packet}
 use Rattle.self_id.proofs.Lemmas.{status_below}
 use Rattle.flawed_capture.specs.Other.{last_field, with_up}
 
@@ -36,7 +36,7 @@ at_two Ieee2000 quad test = five_test quad false (test refl)
 zero_test : (quad : ℕ) → quad / 2 ^ 23 % 2 ≡ 0 → ((quad / 2 ^ 23 % 2 == 1) && (quad / 2 ^ 20 % 8 == 1)) ≡ false
 zero_test quad e = rw e refl
 
-number_test : (quad k : ℕ) → quad / 2 ^ 23 % 2 ≡ 1 → quad / 2 ^ 20 % 8 ≡ k → ((quad / 2 ^ 23 % 2 == 1) && (quad / 2 ^ 20 % 8 == 1)) ≡ (k == 1)
+pub number_test : (quad k : ℕ) → quad / 2 ^ 23 % 2 ≡ 1 → quad / 2 ^ 20 % 8 ≡ k → ((quad / 2 ^ 23 % 2 == 1) && (quad / 2 ^ 20 % 8 == 1)) ≡ (k == 1)
 number_test quad k e f = rw (e, f) refl
 
 up_two : (standard : Standard) (quad other : ℕ) → last_field standard quad ≡ 2 →

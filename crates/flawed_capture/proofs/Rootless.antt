@@ -15,7 +15,7 @@ use Rattle.flawed_capture.specs.Flaw.{HasListFlaw}
 use Rattle.flawed_capture.specs.Other.{last_field, with_up}
 use Rattle.flawed_capture.specs.Spoilt.{IsListOfBus}
 use Rattle.flawed_capture.proofs.Last.{last_other, with_last}
-use Rattle.flawed_capture.proofs.Slots.{reformed, still_of}
+use Rattle.flawed_capture.proofs.Slots.{reformed, still_of, ups-append, downs-append}
 use Rattle.flawed_capture.proofs.Waiting.{waits, below, walk_all-below, length-below, waiting-below}
 
 -- the list is that of trees that wait, with so many nodes
@@ -25,20 +25,6 @@ pub record IsRootless (standard : Standard) (nodes : ℕ) (spoilt : List ℕ) : 
   pub count : length (walks ts) ≡ nodes
 
 -- ---- counts of slots
-
-ups-snoc : (ps : List PortStatus) (p : PortStatus) → ups (ps ++ p ∷ []) ≡ ups ps + ups (p ∷ [])
-ups-snoc [] p = omega arith
-ups-snoc (Absent ∷ ps) p = ups-snoc ps p
-ups-snoc (Unplugged ∷ ps) p = ups-snoc ps p
-ups-snoc (Up ∷ ps) p = omega (arith, ups-snoc ps p)
-ups-snoc (Down ∷ ps) p = ups-snoc ps p
-
-downs-snoc : (ps : List PortStatus) (p : PortStatus) → downs (ps ++ p ∷ []) ≡ downs ps + downs (p ∷ [])
-downs-snoc [] p = omega arith
-downs-snoc (Absent ∷ ps) p = downs-snoc ps p
-downs-snoc (Unplugged ∷ ps) p = downs-snoc ps p
-downs-snoc (Up ∷ ps) p = downs-snoc ps p
-downs-snoc (Down ∷ ps) p = omega (arith, downs-snoc ps p)
 
 one_down : (p : PortStatus) → downs (p ∷ []) ≤ 1
 one_down Absent = omega arith
@@ -80,9 +66,9 @@ rootless_by standard a s at quad list spoilt bus said last is other =
     ∙ set-append_seam (groups 0 wb ++ l.begin) l.quad [] quad ∙ append_assoc (groups 0 wb) l.begin (quad ∷ [])
     ∙ ap (λ (q : ℕ). groups 0 wb ++ (l.begin ++ q ∷ [])) new ∙ ap (λ (x : List ℕ). groups 0 wb ++ x) (sym l.other) in
     let same : length root.ports ≡ length m.ports = omega (arith, ap length l.slots, length-append l.front (l.p ∷ []), length-append l.front (Up ∷ [])) in
-    let one : ups m.ports ≡ 1 = omega (arith, ap ups l.slots, ups-snoc l.front l.p, ups-snoc l.front Up, bus.bus.whole.1) in
+    let one : ups m.ports ≡ 1 = omega (arith, ap ups l.slots, ups-append l.front (l.p ∷ []), ups-append l.front (Up ∷ []), bus.bus.whole.1) in
     let is_m : IsNode m = record { form = reformed root m.ports same is_root.form; one_parent = omega (arith, one) } in
-    let taken = at_most_one (downs m.ports) (length (below s)) (downs (l.p ∷ [])) (one_down l.p) (omega (arith, ap downs l.slots, downs-snoc l.front l.p, downs-snoc l.front Up, length-below s)) in
+    let taken = at_most_one (downs m.ports) (length (below s)) (downs (l.p ∷ [])) (one_down l.p) (omega (arith, ap downs l.slots, downs-append l.front (l.p ∷ []), downs-append l.front (Up ∷ []), length-below s)) in
     let w = waits m (below s) (waiting-below s bus.bus.whole.2) is_m one taken in
     let walked : walks w.all ≡ wb ++ m ∷ [] = w.walked ∙ ap (λ (ns : List Node). ns ++ m ∷ []) (walk_all-below s) in
     record {

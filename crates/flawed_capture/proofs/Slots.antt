@@ -49,6 +49,21 @@ ups_drop zero ps = omega arith
 ups_drop (suc k) [] = omega arith
 ups_drop (suc k) (p ∷ ps) = omega (arith, ups_drop k ps, ups_behind p ps)
 
+-- counts of slots behind one another
+pub ups-append : (ps qs : List PortStatus) → ups (ps ++ qs) ≡ ups ps + ups qs
+ups-append [] qs = omega arith
+ups-append (Absent ∷ ps) qs = ups-append ps qs
+ups-append (Unplugged ∷ ps) qs = ups-append ps qs
+ups-append (Up ∷ ps) qs = omega (arith, ups-append ps qs)
+ups-append (Down ∷ ps) qs = ups-append ps qs
+
+pub downs-append : (ps qs : List PortStatus) → downs (ps ++ qs) ≡ downs ps + downs qs
+downs-append [] qs = omega arith
+downs-append (Absent ∷ ps) qs = downs-append ps qs
+downs-append (Unplugged ∷ ps) qs = downs-append ps qs
+downs-append (Up ∷ ps) qs = downs-append ps qs
+downs-append (Down ∷ ps) qs = omega (arith, downs-append ps qs)
+
 -- packet zero with other slots
 slots_other : (n : Node) (p q r : PortStatus) (more : Bool) → FitBits n.attrs →
     with_slots (status_bits p * 2 ^ 4 + status_bits q * 2 ^ 2 + status_bits r) (quad_of (zero_packet n 0 more)) ≡ quad_of (zero_packet (with_first n p q r) 0 more)
@@ -88,7 +103,7 @@ slots_by standard list spoilt quad p q r n h is other =
     }
 
 -- a group is no empty list
-some_group : (m : Node) (id : ℕ) (rest : List ℕ) → IsNode m → 0 < length (group m id ++ rest)
+pub some_group : (m : Node) (id : ℕ) (rest : List ℕ) → IsNode m → 0 < length (group m id ++ rest)
 some_group m id rest h = omega (arith, length-append (group m id) rest, (length-group m id h).0)
 
 parents : (standard : Standard) (spoilt : List ℕ) → HasSlots standard spoilt Up Up Up →

@@ -3,11 +3,15 @@ use Rattle.std.specs.Prelude.{◌≡◌, ◌≢◌, ℕ, ◌+◌, ◌*◌, ◌/�
 use Rattle.self_id.specs.declared.standard.Standard.{Standard}
 use Rattle.self_id.specs.declared.standard.Standard.TheVariants.{Ieee1995, Ieee2000}
 use Rattle.flawed_capture.specs.declared.flaw.Flaw.{Flaw}
-use Rattle.flawed_capture.specs.declared.flaw.Flaw.TheVariants.{NotSelfId, WrongId, BadOrder, Cut, TwoParents, TooFewChildren, NoRoot, TooMany}
+use Rattle.flawed_capture.specs.declared.flaw.Flaw.TheVariants.{NotSelfId, WrongId, BadOrder, Cut, TwoParents, TooFewChildren, TreesLeft, NoRoot, TooMany}
 
--- its bits from 2 up to 8, which are the port fields of packet zero, are those of a number
+-- its bits from `low` up to `end` are those of a number
+abbrev pub with_bits : ℕ → ℕ → ℕ → ℕ → ℕ
+with_bits low end value quad = quad / 2 ^ end * 2 ^ end + (value * 2 ^ low + quad % 2 ^ low)
+
+-- the port fields of packet zero, which are its bits from 2 up to 8, are those of a number
 abbrev pub with_slots : ℕ → ℕ → ℕ
-with_slots slots quad = quad / 2 ^ 8 * 2 ^ 8 + (slots * 2 ^ 2 + quad % 2 ^ 2)
+with_slots slots quad = with_bits 2 8 slots quad
 
 -- packet n = 1 of IEEE 1394a-2000 has five port fields
 abbrev pub has_five : Standard → ℕ → Bool
@@ -20,7 +24,15 @@ last_field standard quad = if has_five standard quad then 8 else 2
 
 -- the port field there is 10, which is the parent
 abbrev pub with_up : ℕ → ℕ → ℕ
-with_up low quad = quad / 2 ^ (low + 2) * 2 ^ (low + 2) + (2 * 2 ^ low + quad % 2 ^ low)
+with_up low quad = with_bits low (low + 2) 2 quad
+
+-- Each port field is 01, which is no cable: the three of packet zero, which are the bits 2 to 7, the
+-- five of a packet that has five, or else eight.
+abbrev pub without_cables : Standard → ℕ → ℕ
+without_cables standard quad =
+    if quad / 2 ^ 23 % 2 == 0 then with_bits 2 8 21 quad
+    else (if has_five standard quad then with_bits 8 18 341 quad
+    else with_bits 2 18 21845 quad)
 
 -- what is other in it, by the kind of flaw
 abbrev pub IsOther : Flaw → Standard → ℕ → ℕ → Type 0
@@ -39,6 +51,8 @@ IsOther Cut standard quad other = other ≡ quad / 2 * 2 + 1
 IsOther TwoParents standard quad other = quad / 2 ^ 23 % 2 ≡ 0 → other ≡ with_slots 42 quad
 -- or 11, which is a child
 IsOther TooFewChildren standard quad other = quad / 2 ^ 23 % 2 ≡ 0 → other ≡ with_slots 63 quad
+-- each port field is 01, which is no cable
+IsOther TreesLeft standard quad other = other ≡ without_cables standard quad
 -- the last port field is 10
 IsOther NoRoot standard quad other = other ≡ with_up (last_field standard quad) quad
 IsOther TooMany standard quad other = other ≡ with_up (last_field standard quad) quad

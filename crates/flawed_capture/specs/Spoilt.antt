@@ -1,10 +1,12 @@
 -- How a capture with a flaw comes of the list of a bus.
-use Rattle.std.specs.Prelude.{◌≡◌, ◌⊎◌, ℕ, ◌+◌, ◌<◌, List, [], ◌∷◌, ◌++◌, length, take, slice_set}
+use Rattle.std.specs.Prelude.{◌≡◌, ◌⊎◌, ℕ, ◌+◌, ◌<◌, List, [], ◌∷◌, ◌++◌, length, take, slice_set, get_or}
 use Rattle.quad_lanes.specs.Capture.{capture}
 use Rattle.self_id.specs.declared.standard.Standard.{Standard}
 use Rattle.topology_stack.specs.Tree.{Tree, IsBusTreeOf, emits, walk}
 use Rattle.flawed_capture.specs.declared.flaw.Flaw.{Flaw}
-use Rattle.flawed_capture.specs.declared.flaw.Flaw.TheVariants.{BadLength, BadInverse, NotSelfId, WrongId, BadOrder, Cut, TwoParents, Empty, TooFewChildren, AfterRoot, NoRoot, TooMany}
+use Rattle.flawed_capture.specs.declared.flaw.Flaw.TheVariants.{BadLength, BadInverse, NotSelfId, WrongId, BadOrder, Cut, TwoParents, Empty, TooFewChildren, TreesLeft, AfterRoot, NoRoot, TooMany}
+use Rattle.flawed_capture.specs.Flaw.{HasListFlaw}
+use Rattle.flawed_capture.specs.Other.{IsOther}
 
 -- ---- lists
 
@@ -74,38 +76,28 @@ IsSpoilt list bytes BadLength = IsShorter list bytes
 IsSpoilt list bytes BadInverse = HasOtherByte list bytes
 IsSpoilt list bytes flaw = IsOfSpoilt flaw list bytes
 
+-- wherever the list has a packet without cables here in place of its own, trees are left
+abbrev pub LeavesTrees : Standard → List ℕ → ℕ → Type 0
+LeavesTrees standard list at =
+    (quad : ℕ) → IsOther TreesLeft standard (get_or list at 0) quad →
+    HasListFlaw standard (slice_set list at quad) TreesLeft
+
 -- A flaw of this kind comes of the change at this place of the list of any bus. That of TreesLeft comes
 -- where the root has children, which isn't one place for all buses.
-abbrev pub ComesAt : Flaw → List ℕ → ℕ → Type 0
-ComesAt BadLength list at = Unit {0}
-ComesAt BadInverse list at = Unit {0}
-ComesAt NotSelfId list at = at ≡ 0
-ComesAt WrongId list at = at ≡ 0
-ComesAt BadOrder list at = at ≡ 0
-ComesAt Cut list at = at ≡ 0
-ComesAt TwoParents list at = at ≡ 0
-ComesAt TooFewChildren list at = at ≡ 0
-ComesAt Empty list at = Unit {0}
-ComesAt AfterRoot list at = at + 1 ≡ length list
-ComesAt NoRoot list at = at + 1 ≡ length list
-ComesAt TooMany list at = at + 1 ≡ length list
-ComesAt flaw list at = ⊥
-
--- it comes of any bus, wherever the first change is tried
-abbrev pub ComesAnywhere : Flaw → Type 0
-ComesAnywhere BadLength = Unit {0}
-ComesAnywhere BadInverse = Unit {0}
-ComesAnywhere NotSelfId = Unit {0}
-ComesAnywhere WrongId = Unit {0}
-ComesAnywhere BadOrder = Unit {0}
-ComesAnywhere Cut = Unit {0}
-ComesAnywhere TwoParents = Unit {0}
-ComesAnywhere TooFewChildren = Unit {0}
-ComesAnywhere Empty = Unit {0}
-ComesAnywhere AfterRoot = Unit {0}
-ComesAnywhere NoRoot = Unit {0}
-ComesAnywhere TooMany = Unit {0}
-ComesAnywhere flaw = ⊥
+abbrev pub ComesAt : Standard → Flaw → List ℕ → ℕ → Type 0
+ComesAt standard BadLength list at = Unit {0}
+ComesAt standard BadInverse list at = Unit {0}
+ComesAt standard NotSelfId list at = at ≡ 0
+ComesAt standard WrongId list at = at ≡ 0
+ComesAt standard BadOrder list at = at ≡ 0
+ComesAt standard Cut list at = at ≡ 0
+ComesAt standard TwoParents list at = at ≡ 0
+ComesAt standard TooFewChildren list at = at ≡ 0
+ComesAt standard TreesLeft list at = LeavesTrees standard list at
+ComesAt standard Empty list at = Unit {0}
+ComesAt standard AfterRoot list at = at + 1 ≡ length list
+ComesAt standard NoRoot list at = at + 1 ≡ length list
+ComesAt standard TooMany list at = at + 1 ≡ length list
 
 -- ---- buses
 

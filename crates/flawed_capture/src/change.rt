@@ -1,5 +1,5 @@
 //! Changes of a list that put a fault in.
-ghost use Rattle.std.specs.Prelude.{◌≡◌, ◌≢◌, ◌<◌, ◌≤◌, ◌+◌, ◌⊎◌, ◌/◌, ◌%◌, ◌^◌, ◌∷◌, ◌++◌, [], ℕ, length, take, slice_set, IfOk};
+ghost use Rattle.std.specs.Prelude.{◌≡◌, ◌≢◌, ◌<◌, ◌≤◌, ◌+◌, ◌⊎◌, ◌/◌, ◌%◌, ◌^◌, ◌∷◌, ◌++◌, [], if◌then◌else◌, ℕ, length, take, slice_set, IfOk};
 ghost use Rattle.self_id.specs.declared.standard.Standard.{Standard};
 ghost use Rattle.capture_reading.specs.Capture.{IsCaptureOf};
 ghost use Rattle.flawed_capture.specs.Flaw.{HasFlaw, HasListFlaw, least_nodes};
@@ -32,7 +32,9 @@ fn has_five_ports(standard: Standard, quad: u32) -> bool
 
 /// The bits of a self-ID packet's port fields.
 fn port_fields(standard: Standard, quad: u32) -> u32
-    ensures { quad / 2 ^ 23 % 2 ≡ 0 → result ≡ 252 }
+    ensures zero { quad / 2 ^ 23 % 2 ≡ 0 → result ≡ 252 }
+    ensures further { quad / 2 ^ 23 % 2 ≡ 1 →
+        result ≡ (if has_five standard quad then 261888 else 262140) }
 {
     if quad / FURTHER % 2 == 0 {
         0x0000_00fc
@@ -171,7 +173,7 @@ fn changed(
     ensures spoilt { IfOk result (λ spoilt. IsSpoiltList flaw list.now spoilt.items) }
     ensures sure { flaw ≢ Flaw.BadLength → flaw ≢ Flaw.BadInverse → IfOk result (λ spoilt.
         (nodes : ℕ) → IsListOfBus standard nodes list.now → least_nodes flaw ≤ nodes →
-        ComesAt flaw list.now at → HasListFlaw standard spoilt.items flaw) }
+        ComesAt standard flaw list.now at → HasListFlaw standard spoilt.items flaw) }
 {
     let quad = other_quad(flaw, standard, list[at], word);
     let is_last = at + 1 == list.len();
@@ -241,7 +243,7 @@ pub(crate) fn spoilt_capture(
     requires few { length list.now ≤ 252 }
     ensures spoilt { IfOk result (λ bytes. IsSpoilt list.now bytes.items flaw) }
     ensures sure { IfOk result (λ bytes. (nodes : ℕ) → IsListOfBus standard nodes list.now →
-        least_nodes flaw ≤ nodes → ComesAt flaw list.now at →
+        least_nodes flaw ≤ nodes → ComesAt standard flaw list.now at →
         HasFlaw standard bytes.items flaw) }
 {
     match flaw {

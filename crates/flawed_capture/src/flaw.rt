@@ -137,7 +137,8 @@ pub enum FlawStop {
     /// The list that was made isn't the list of a bus with so many nodes. No list was seen that isn't one.
     #[error("the made list is not that of a bus with so many nodes")]
     NoBus,
-    /// None of the changes that were tried of the list of the bus gave the kind of fault.
+    /// None of the changes that were tried of the list of the bus gave the kind of fault. `flawed_capture`
+    /// never answers so.
     #[error("no change that was tried of the made bus gave this kind of fault")]
     NotFound,
     /// There was no memory.

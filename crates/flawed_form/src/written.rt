@@ -3,7 +3,7 @@ ghost use Rattle.std.specs.Prelude.{◌≡◌, ◌≢◌, ◌↔◌, ◌<◌, �
 ghost use Rattle.std.specs.Io.KnownBytes.{Appends};
 ghost use Rattle.io_edges.specs.Faults.{Rose};
 ghost use Rattle.flawed_capture.specs.Flaw.{HasFlaw, least_nodes};
-ghost use Rattle.flawed_capture.specs.Spoilt.{IsOfBus, ComesAnywhere};
+ghost use Rattle.flawed_capture.specs.Spoilt.{IsOfBus};
 
 use crate::form::FlawedForm;
 use flawed_capture::{FlawStop, flawed_capture};
@@ -32,8 +32,7 @@ pub fn write_flawed<K: Sink>(
         × Appends (K.written sink.old) (K.written sink.new) bytes) }
     ensures few { (result ≡ Err (FlawedStop.Flaw (FlawStop.TooFewNodes (least_nodes form.flaw))))
         ↔ (form.nodes < least_nodes form.flaw) }
-    ensures found { ComesAnywhere form.flaw →
-        result ≢ Err (FlawedStop.Flaw FlawStop.NotFound) }
+    ensures found { result ≢ Err (FlawedStop.Flaw FlawStop.NotFound) }
     ensures write_fault { result ≡ Err FlawedStop.WriteFault →
         Rose (K.faults sink.old) (K.faults sink.new) }
     ensures unwritten { (stop : FlawStop) → result ≡ Err (FlawedStop.Flaw stop) →

@@ -2,7 +2,7 @@ use Rattle.std.proofs.Common.{ℕ, ◌+◌, ◌-◌, ◌*◌, ◌%◌, subst, sy
 use Rattle.std.specs.Int.RustNames.{bit_and, bit_or, bit_xor}
 use Rattle.flawed_capture.specs.Other.{IsOther}
 use Rattle.flawed_capture.specs.declared.flaw.Flaw.{Flaw}
-use Rattle.flawed_capture.proofs.Bits.{turned_from, turned_below, turned_above, last_set, parents_set, children_set}
+use Rattle.flawed_capture.proofs.Bits.{turned_from, turned_below, turned_above, last_set, parents_set, children_set, bare}
 use Rattle.flawed_capture.proofs.change.other_quad.Goals as goal
 
 pub returns-in-NotSelfId : goal.returns-in-NotSelfId
@@ -35,11 +35,18 @@ returns-in-TwoParents c =
     let quad = c.args.quad in
     let fields = c.port_fields-fields.result in
     subst (λ (f : Flaw). IsOther f c.args.standard quad (bit_or (bit_and quad (4294967295 - fields)) (bit_and 2863311530 fields))) (sym c.in-TwoParents.is)
-    (λ zero. parents_set quad fields (omega arith) (c.port_fields-fields.ensures zero))
+    (λ zero. parents_set quad fields (omega arith) (c.port_fields-fields.ensures.zero zero))
 
 pub returns-in-TooFewChildren : goal.returns-in-TooFewChildren
 returns-in-TooFewChildren c =
     let quad = c.args.quad in
     let fields = c.port_fields-fields.result in
     subst (λ (f : Flaw). IsOther f c.args.standard quad (bit_or quad fields)) (sym c.in-TooFewChildren.is)
-    (λ zero. children_set quad fields (c.port_fields-fields.ensures zero))
+    (λ zero. children_set quad fields (c.port_fields-fields.ensures.zero zero))
+
+pub returns-in-TreesLeft : goal.returns-in-TreesLeft
+returns-in-TreesLeft c =
+    let quad = c.args.quad in
+    let fields = c.port_fields-fields.result in
+    subst (λ (f : Flaw). IsOther f c.args.standard quad (bit_or (bit_and quad (4294967295 - fields)) (bit_and 1431655765 fields))) (sym c.in-TreesLeft.is)
+    (bare c.args.standard quad fields (omega arith) c.port_fields-fields.ensures.zero c.port_fields-fields.ensures.further)

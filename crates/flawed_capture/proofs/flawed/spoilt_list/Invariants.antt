@@ -7,4 +7,4 @@ use Rattle.flawed_capture.proofs.flawed.spoilt_list.Given as goal
 abbrev pub invariant-loop-step : goal.invariant-loop-step
 invariant-loop-step l =
     (nodes : ℕ) → IsListOfBus l.standard nodes l.list → least_nodes l.flaw ≤ nodes → (k : ℕ) → k < l.step →
-    ComesAt l.flaw l.list ((l.first + k) % l.count) → ⊥
+    ComesAt l.standard l.flaw l.list ((l.first + k) % l.count) → ⊥
