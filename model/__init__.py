@@ -15,13 +15,17 @@ is an output without the lines that aren't modelled: the sentence on a script's 
 
 is whether `busview diff` may answer so; see there.
 
+    model.names.named(file, status, output)
+
+are the status and the output of `tree` or `dot` with the names of a file, by those without.
+
 `model.reached` is a Counter of the rules that were applied since it was last cleared (`model.reached.clear()`), by
 words such as 'command plug', 'fault TwoParents' or 'row T3->T1'. README.md beside this file says what the model is for,
 and what it isn't.
 """
 
-from . import diffs
+from . import diffs, names
 from .forms import FORMS, NotModelled, answer, compared
 from .reach import reached
 
-__all__ = ["FORMS", "NotModelled", "answer", "compared", "diffs", "reached"]
+__all__ = ["FORMS", "NotModelled", "answer", "compared", "diffs", "names", "reached"]

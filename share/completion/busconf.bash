@@ -9,9 +9,8 @@ _busconf() {
     ;;
   busview:flawed\ *\ *\ *) words="--1995" ;;
   busconf:make* | busview:script* | busview:flawed* | busview:capture) ;;
-  busview:packets* | busview:tree* | busview:dot | busview:dot\ * | busview:json | busview:json\ *)
-    words="--1995" files=yes
-    ;;
+  busview:tree* | busview:dot | busview:dot\ *) words="--1995 --names" files=yes ;;
+  busview:packets* | busview:json | busview:json\ *) words="--1995" files=yes ;;
   busview:explain | busview:explain\ *) words="--json" files=yes ;;
   busview:resets* | busview:nosy* | busview:diff*) words="--1995 --json" files=yes ;;
   *) files=yes ;;

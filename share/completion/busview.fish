@@ -12,7 +12,9 @@ function __busview_words
         case 'script*' 'flawed*' capture
         case '*'
             switch "$before[2..]"
-                case 'packets*' 'tree*' dot 'dot *' json 'json *'
+                case 'tree*' dot 'dot *'
+                    set options --1995 --names
+                case 'packets*' json 'json *'
                     set options --1995
                 case explain 'explain *'
                     set options --json

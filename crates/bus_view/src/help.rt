@@ -29,6 +29,9 @@ input is read. Of several files each answer comes after a line with the file's
 name.
 OLD and NEW are captures, of which one may be -.
 
+With --names, tree and dot take NAMES and CAPTURE, of which one may be -. NAMES
+is a file with a line ID NAME for each node that has a name.
+
 With --1995, which packets, tree, dot, json, resets, nosy, diff and flawed take,
 self-ID packets are read by IEEE Std 1394-1995: up to 27 ports a node. With
 --json, which explain, resets, nosy and diff take, the answer is lines of JSON.
@@ -41,7 +44,8 @@ Answers, refusals too, go to standard output.
 
 Status: 0 the input is valid; with diff, nothing differs
         1 the input is refused; with diff, something differs
-        2 the words are no command; with diff, or a capture is refused
+        2 the words are no command; with diff, or a capture is refused; with
+          --names, or NAMES is
         3 the input can't be read
         4 standard output can't be written
         5 there is no memory

@@ -5,6 +5,12 @@ const BY_1995: &str = "\
 --1995  reads self-ID packets by IEEE Std 1394-1995: up to 27 ports a node
 ";
 
+/// The options of `tree` and `dot`.
+const OF_TREE: &str = "\
+--1995  reads self-ID packets by IEEE Std 1394-1995: up to 27 ports a node
+--names  takes NAMES and CAPTURE: NAMES has a line ID NAME for each node to name
+";
+
 /// The options of `diff`.
 const OF_DIFF: &str = "\
 --1995  reads self-ID packets by IEEE Std 1394-1995: up to 27 ports a node
@@ -25,7 +31,8 @@ const OF_EXPLAIN: &str = "\
 /// The options of a command.
 pub(crate) fn options_of(command: &str) -> &'static str {
     match command {
-        "packets" | "tree" | "dot" | "json" | "flawed" => BY_1995,
+        "packets" | "json" | "flawed" => BY_1995,
+        "tree" | "dot" => OF_TREE,
         "diff" => OF_DIFF,
         "explain" => OF_EXPLAIN,
         "resets" | "nosy" => OF_RESETS,

@@ -5,6 +5,7 @@ mod diff;
 mod flawed;
 mod help;
 mod import;
+mod named;
 mod say;
 mod words;
 
@@ -17,6 +18,8 @@ use flawed::flawed;
 use flawed_form::FlawedForm;
 use import::import;
 use io_edges::{ReadSource, WriteSink};
+use named::named;
+use named_form::{NamedForm, named_form};
 use program_edges::{
     Call, FileCount, FileLines, FrontSink, FrontSource, PipeWriter, Program, WordsFault, run,
 };
@@ -34,6 +37,8 @@ enum Form {
     Flawed(FlawedForm),
     /// `diff`: what differs between two captures. It has two inputs, so it stands beside the top call.
     Diff(DiffForm),
+    /// `tree` and `dot` with names. They have two inputs, so they stand beside the top call.
+    Named(NamedForm),
     /// `import`: the capture of what isn't one. Its answer is a capture and what the input was taken for, so it stands
     /// beside the top call.
     Import,
@@ -131,6 +136,9 @@ impl Program for Busview {
         if let Some(form) = diff_form(words) {
             return Some(Form::Diff(form));
         }
+        if let Some(form) = named_form(words) {
+            return Some(Form::Named(form));
+        }
         if asks_import(words) {
             return Some(Form::Import);
         }
@@ -148,6 +156,7 @@ impl Program for Busview {
                 | ViewForm::Nosy(_),
             ) => FileCount::Many,
             Form::Diff(_) => FileCount::Two,
+            Form::Named(_) => FileCount::Named,
             Form::View(_) | Form::Import => FileCount::One,
         }
     }
@@ -184,7 +193,7 @@ impl Program for Busview {
             Form::Flawed(form) => flawed(rt, *form),
             Form::Import => import(rt, name, input),
             // A call with other than two files isn't answered.
-            Form::Diff(_) => NO_FORM,
+            Form::Diff(_) | Form::Named(_) => NO_FORM,
         }
     }
 
@@ -192,14 +201,15 @@ impl Program for Busview {
         rt: &HostRuntime,
         call: &Call<'_, Form>,
         names: (&str, &str),
-        old: R,
-        new: Q,
+        first: R,
+        second: Q,
     ) -> u8 {
         match (&call.form, call.files) {
             (Form::Diff(form), [old_file, new_file]) => {
                 let files = (old_file.as_str(), new_file.as_str());
-                diff(rt, *form, files, names, old, new)
+                diff(rt, *form, files, names, first, second)
             }
+            (Form::Named(form), _) => named(rt, *form, names, first, second),
             // No other form takes two files.
             _ => NO_FORM,
         }

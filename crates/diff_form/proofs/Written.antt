@@ -31,7 +31,7 @@ same_reading one standard bytes (Err f) (Ok u) a b = absurd (one.apart standard 
 same_reading one standard bytes (Err f) (Err g) a b = ap (λ (x : CaptureFault). Err x) (one.fault standard bytes f g a b)
 
 -- also where it was told
-told_reading : OneReading → (standard : Standard) (read bytes : List ℕ) (r s : Result Tree CaptureFault) →
+pub told_reading : OneReading → (standard : Standard) (read bytes : List ℕ) (r s : Result Tree CaptureFault) →
     read ≡ bytes → IsReading standard read r → IsReading standard bytes s → r ≡ s
 told_reading one standard read bytes r s same a b =
     same_reading one standard bytes r s (subst (λ (x : List ℕ). IsReading standard x r) same a) b

@@ -21,7 +21,7 @@ pub(crate) struct Difference {
 }
 
 /// The tree that a capture spells by a standard, or its fault.
-fn reading_of(
+pub fn reading_of(
     alloc: Global,
     standard: Standard,
     bytes: &[u8],

@@ -9,6 +9,7 @@ mod show;
 mod status;
 mod stop;
 
+pub use difference::reading_of;
 pub use form::{DiffForm, diff_form};
 pub use outcome::{Outcome, Side};
 pub use show::show_difference;

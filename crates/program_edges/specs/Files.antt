@@ -14,4 +14,5 @@ abbrev pub AreTaken : FileCount → List (String Global) → Type 0
 AreTaken count.None files = length files ≡ 0
 AreTaken count.One files = length files ≤ 1
 AreTaken count.Two files = AreTwoFiles files
+AreTaken count.Named files = AreTwoFiles files
 AreTaken count.Many files = ⊤

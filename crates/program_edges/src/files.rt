@@ -15,6 +15,8 @@ pub enum FileCount {
     One,
     /// Two, of which one may be standard input.
     Two,
+    /// A file of names and a capture, of which one may be standard input.
+    Named,
     /// Any number, or standard input.
     Many,
 }
@@ -50,8 +52,12 @@ pub(crate) fn is_option(word: &str) -> bool
     begins_with_dash(word.as_bytes()) && !is_input(word)
 }
 
-/// Judges the files of a form of two files.
-fn judge_two<'a>(form: &'a str, files: &'a [String]) -> Result<(), WordsFault<'a>>
+/// Judges the files of a form of two files, which are called so.
+fn judge_two<'a>(
+    form: &'a str,
+    files: &'a [String],
+    words: &'static str,
+) -> Result<(), WordsFault<'a>>
     ensures { IsOk result ↔ AreTwoFiles files.now }
 {
     match files {
@@ -59,10 +65,7 @@ fn judge_two<'a>(form: &'a str, files: &'a [String]) -> Result<(), WordsFault<'a
             Err(WordsFault::InputTwice { form })
         }
         [_, _] => Ok(()),
-        [] | [_] => Err(WordsFault::Lacks {
-            form,
-            words: "OLD and NEW",
-        }),
+        [] | [_] => Err(WordsFault::Lacks { form, words }),
         _ => Err(WordsFault::TakesTwoFiles { form }),
     }
 }
@@ -78,7 +81,8 @@ pub(crate) fn judge_files<'a>(
     match count {
         FileCount::None if !files.is_empty() => Err(WordsFault::TakesNoFile { form }),
         FileCount::One if files.len() > 1 => Err(WordsFault::TakesOneFile { form }),
-        FileCount::Two => judge_two(form, files),
+        FileCount::Two => judge_two(form, files, "OLD and NEW"),
+        FileCount::Named => judge_two(form, files, "NAMES and CAPTURE"),
         _ => Ok(()),
     }
 }

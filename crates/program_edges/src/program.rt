@@ -197,7 +197,7 @@ fn say_input<P: Program>(rt: &HostRuntime) {
 /// Answers a call over its files, or over standard input where there are none.
 fn answer_call<P: Program>(rt: &HostRuntime, call: &Call<'_, P::Form>) -> u8 {
     match (P::files_of(&call.form), call.files) {
-        (FileCount::Two, [first, second]) => {
+        (FileCount::Two | FileCount::Named, [first, second]) => {
             answer_files::<P>(rt, call, (first.as_str(), second.as_str()))
         }
         (FileCount::None, _) => P::answer(rt, call, "standard input", rt.stdin()),

@@ -1,0 +1,5 @@
+pub mod File
+pub mod Mentions
+pub mod Form
+pub mod Shown
+pub mod Status
