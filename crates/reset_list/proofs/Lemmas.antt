@@ -2,8 +2,8 @@
 
 -- What is told of items, one more and the first of them, is one thing, and there is one; and so it is of a list.
 pub use Rattle.reset_list.proofs.InOrder.{AreSame, one_more, told_first, told_once, told_some, told_some_in}
-pub use Rattle.reset_list.proofs.OneText.{same_list, same_told}
-pub use Rattle.reset_list.proofs.SomeText.{some_list, some_told}
+pub use Rattle.reset_list.proofs.OneText.{same_list, same_short, same_told}
+pub use Rattle.reset_list.proofs.SomeText.{some_list, some_short, some_told}
 -- That the quadlets of a list have 32 bits.
 pub use Rattle.log_line.proofs.Lemmas.{Fit}
 -- Reads and writes in a row, and what came where all was read.

@@ -20,7 +20,7 @@ use Rattle.reset_list.specs.Hear.{AreQuads, IsHeard, IsUnheard}
 use Rattle.reset_list.specs.Texts.{numbers, changes, initiators, refused}
 use Rattle.reset_list.specs.Sentence.{packet_count, IsBefore, sentence, IsRefusalShown}
 use Rattle.topology_stack.specs.Tree.{walk}
-use Rattle.reset_list.specs.Shown.{IsBody, the_same, drawn, IsTreeShown, IsListShown, is_refused, is_heard}
+use Rattle.reset_list.specs.Shown.{IsBody, the_same, drawn, IsTreeShown, IsListShown, is_refused, is_heard, IsListShort, short_refused, short_heard}
 
 -- ---- a list is heard as one tree, or has one fault
 
@@ -156,3 +156,16 @@ same_told standard origin list a b h g (told_heard t heard shown e) (told_refuse
 same_told standard origin list a b h g (told_heard t heard shown e) (told_heard u too again d) =
     let same : t ≡ u = same_heard standard origin list t u heard too in
     (shown ∙ ap (λ (x : Tree). tree_members [] x) same ∙ sym again, e ∙ ap (λ (x : Tree). Some x) same ∙ sym d)
+
+-- in one line
+pub same_short : (standard : Standard) (origin : Origin) (front list : List ℕ) (a b : List ℕ) (h g : Option Tree) →
+    IsListShort standard origin front list a h → IsListShort standard origin front list b g → (a ≡ b) × (h ≡ g)
+same_short standard origin front list a b h g (short_refused f un shown e) (short_refused k too again d) =
+    (shown ∙ ap (λ (x : CaptureFault). refused front x) (same_fault standard origin list f k un too) ∙ sym again, e ∙ sym d)
+same_short standard origin front list a b h g (short_refused f un shown e) (short_heard t heard again d) =
+    absurd (apart standard origin list t f heard un)
+same_short standard origin front list a b h g (short_heard t heard shown e) (short_refused f un again d) =
+    absurd (apart standard origin list t f heard un)
+same_short standard origin front list a b h g (short_heard t heard shown e) (short_heard u too again d) =
+    let same : t ≡ u = same_heard standard origin list t u heard too in
+    (shown ∙ ap (λ (x : Tree). front ++ numbers x) same ∙ sym again, e ∙ ap (λ (x : Tree). Some x) same ∙ sym d)

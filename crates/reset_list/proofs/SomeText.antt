@@ -20,7 +20,7 @@ use Rattle.capture_reading.specs.Line.{refusal_of}
 use Rattle.reset_list.specs.Hear.{IsHeard, IsUnheard}
 use Rattle.reset_list.specs.Texts.{numbers, changes, node_changes, initiators, refused}
 use Rattle.reset_list.specs.Sentence.{packet_count, quad_at, IsBefore, sentence}
-use Rattle.reset_list.specs.Shown.{IsBody, the_same, drawn, IsListShown, is_refused, is_heard}
+use Rattle.reset_list.specs.Shown.{IsBody, the_same, drawn, IsListShown, is_refused, is_heard, IsListShort, short_refused, short_heard}
 use Rattle.view_text.proofs.Lemmas.{some-packet, some-drawing}
 use Rattle.log_line.proofs.Lemmas.{Fit, fit_at}
 
@@ -121,4 +121,12 @@ pub some_told : (standard : Standard) (origin : Origin) (list : List ℕ) →
 some_told standard origin list = elim (heard_or_not standard origin list) [
   | inl (t, h) ↦ (tree_members [] t, Some t, told_heard t h refl refl)
   | inr (g, un) ↦ (list_fault g, None, told_refused g un refl refl)
+]
+
+-- in one line
+pub some_short : (standard : Standard) (origin : Origin) (front list : List ℕ) →
+    (text : List ℕ) × (heard : Option Tree) × IsListShort standard origin front list text heard
+some_short standard origin front list = elim (heard_or_not standard origin list) [
+  | inl (t, h) ↦ (front ++ numbers t, Some t, short_heard t h refl refl)
+  | inr (g, un) ↦ (refused front g, None, short_refused g un refl refl)
 ]

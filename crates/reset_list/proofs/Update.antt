@@ -1,6 +1,9 @@
 -- The first item of a list that passes a test: its place, and the list with another item there.
 use Rattle.std.proofs.Common.{◌≡◌, ◌∙◌, ◌⊎◌, inl, inr, ℕ, zero, suc, ◌<◌, Bool, true, false, List, [], ◌∷◌, ◌++◌, Option, Some, None, length, refl, sym, ap, arith}
-use Rattle.std.specs.Prelude.{if◌then◌else◌, slice_get, slice_set}
+use Rattle.std.specs.Prelude.{if◌then◌else◌, slice_get, slice_set, ◌+◌, cond, nat_lt}
+use Rattle.std.specs.List.{position, position_or_len}
+use Rattle.std.proofs.lemmas.List.Recursion.{is_position_or_len}
+use Rattle.std.proofs.lemmas.Bool.Decides.{nat_tests}
 use Rattle.reset_list.specs.Update.{first_of, next_place, place_of, updated}
 
 no_place : (found : Option ℕ) → next_place found ≡ None → found ≡ None
@@ -147,3 +150,41 @@ get_push (z ∷ zs) (suc i) y k get = elim (get_push zs i y k get) [
   | inl (same, is) ↦ inl (ap suc same, is)
   | inr there ↦ inr there
 ]
+
+-- ---- it is where a slice has it first
+
+passed : {X : Type 0} → (X → Bool) → List X → ℕ
+passed p [] = 0
+passed p (x ∷ xs) = cond (p x) 0 (1 + passed p xs)
+
+one_on : (here there : Bool) (k n : ℕ) → nat_lt k n ≡ here → nat_lt (1 + k) (suc n) ≡ there →
+    next_place (cond here (Some k) None) ≡ cond there (Some (1 + k)) None
+one_on true true k n e f = let next : suc k ≡ 1 + k = omega arith in ap (λ (m : ℕ). Some m) next
+one_on false false k n e f = refl
+one_on true false k n e f = absurd (grind (arith, nat_tests))
+one_on false true k n e f = absurd (grind (arith, nat_tests))
+
+at_first : (n z : ℕ) (there : Bool) → z ≡ 0 → nat_lt z (suc n) ≡ there → Some z ≡ cond there (Some z) None
+at_first n z true e f = refl
+at_first n z false e f = absurd (grind (arith, nat_tests))
+
+passed_place : {X : Type 0} (p : X → Bool) (xs : List X) →
+    place_of p xs ≡ cond (nat_lt (passed p xs) (length xs)) (Some (passed p xs)) None
+unfolding passed
+passed_place p [] = refl
+passed_place p (x ∷ xs) = go (p x) (passed_place p xs)
+  where
+    go : (here : Bool) → place_of p xs ≡ cond (nat_lt (passed p xs) (length xs)) (Some (passed p xs)) None →
+        (if here then Some 0 else next_place (place_of p xs))
+        ≡ cond (nat_lt (cond here 0 (1 + passed p xs)) (suc (length xs))) (Some (cond here 0 (1 + passed p xs))) None
+    go true more = at_first (length xs) 0 (nat_lt 0 (suc (length xs))) refl refl
+    go false more =
+        ap next_place more ∙ one_on (nat_lt (passed p xs) (length xs)) (nat_lt (1 + passed p xs) (suc (length xs))) (passed p xs) (length xs) refl refl
+
+passed_is : {X : Type 0} (p : X → Bool) (xs : List X) → passed p xs ≡ position_or_len p xs
+unfolding passed
+passed_is p xs = is_position_or_len (λ ys. passed p ys) p refl (λ y ys. refl) xs
+
+pub place_is : {X : Type 0} (p : X → Bool) (xs : List X) → position p xs ≡ place_of p xs
+place_is p xs =
+    sym (passed_place p xs ∙ ap (λ (k : ℕ). cond (nat_lt k (length xs)) (Some k) None) (passed_is p xs))

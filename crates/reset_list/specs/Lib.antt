@@ -2,6 +2,7 @@ pub mod Form
 pub mod Update
 pub mod Places
 pub mod Counts
+pub mod Losses
 pub mod Hear
 pub mod Texts
 pub mod Json

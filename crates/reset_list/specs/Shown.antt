@@ -6,7 +6,7 @@ use Rattle.view_text.specs.Drawing.{IsDrawing}
 use Rattle.log_line.specs.declared.line.Origin.{Origin}
 use Rattle.capture_reading.specs.declared.fault.CaptureFault.{CaptureFault}
 use Rattle.reset_list.specs.Hear.{IsHeard, IsUnheard}
-use Rattle.reset_list.specs.Texts.{numbers, changes, node_changes, initiators}
+use Rattle.reset_list.specs.Texts.{refused, numbers, changes, node_changes, initiators}
 use Rattle.reset_list.specs.Sentence.{IsRefusalShown}
 
 -- this is the drawing of the tree before, if there was one
@@ -46,3 +46,11 @@ pub data IsListShown (standard : Standard) (origin : Origin) (head list : List �
       IsListShown standard origin head list before text heard
   is_heard : (t : Tree) → IsHeard standard origin list t → IsTreeShown head before t text →
       heard ≡ Some t → IsListShown standard origin head list before text heard
+
+-- what is shown of it in one line: behind the reset's head the numbers of the bus, or the line of the fault
+pub data IsListShort (standard : Standard) (origin : Origin) (head list : List ℕ)
+    (text : List ℕ) (heard : Option Tree) : Type 0 where
+  short_refused : (f : CaptureFault) → IsUnheard standard origin list f →
+      text ≡ refused head f → heard ≡ None → IsListShort standard origin head list text heard
+  short_heard : (t : Tree) → IsHeard standard origin list t →
+      text ≡ head ++ numbers t → heard ≡ Some t → IsListShort standard origin head list text heard

@@ -9,6 +9,8 @@ use self_id::Standard;
 pub enum LogForm {
     /// For people: a drawing of the bus, and what changed.
     Text(Standard),
+    /// For people: one line for each reset, and behind a log which ports lost their children how often.
+    Short(Standard),
     /// For programs: a line of JSON for each reset.
     Json(Standard),
 }
@@ -19,7 +21,9 @@ impl LogForm {
         ensures { result ≡ standard_of self }
     {
         match self {
-            LogForm::Text(standard) | LogForm::Json(standard) => standard,
+            LogForm::Text(standard) | LogForm::Short(standard) | LogForm::Json(standard) => {
+                standard
+            }
         }
     }
 }

@@ -1,12 +1,12 @@
 //! What is shown of a reset's list.
 ghost use Rattle.std.specs.Prelude.{◌≡◌, IfOk, IsTrue, ◌↔◌, true, false, [], codes};
 ghost use Rattle.std.specs.Option.{option_copied};
-ghost use Rattle.reset_list.specs.Shown.{WasDrawn, WasOther, IsBody, IsTreeShown, IsListShown};
+ghost use Rattle.reset_list.specs.Shown.{WasDrawn, WasOther, IsBody, IsTreeShown, IsListShown, IsListShort};
 
 use crate::hear::hear;
 use crate::same::is_before;
 use crate::sentence::refusal_text;
-use crate::texts::{node_changes, put_changes, put_initiators, put_numbers};
+use crate::texts::{node_changes, put_changes, put_initiators, put_numbers, put_refused};
 use capture_reading::CaptureStop;
 use log_line::Origin;
 use self_id::Standard;
@@ -133,6 +133,36 @@ pub fn show_list(
         }
         Err(CaptureStop::Fault(fault)) => {
             let text = refusal_text(alloc, standard, origin, head, list, fault)?;
+            Ok(ListShown { text, tree: None })
+        }
+        Err(CaptureStop::Memory(error)) => Err(error),
+    }
+}
+
+/// What is shown of a reset's list by a standard in one line, behind the head of the reset: the numbers of
+/// the bus. A list that is refused has no tree, and what is shown of it is the line of its fault.
+pub fn show_short(
+    alloc: Global,
+    standard: Standard,
+    origin: Origin,
+    head: &[u8],
+    list: &[u32],
+) -> Result<ListShown, AllocError>
+    ensures { IfOk result (λ shown. IsListShort standard origin head.now list.now
+        shown.text.items shown.tree) }
+{
+    let mut text = Vec::new(alloc);
+    match hear(alloc, standard, origin, list) {
+        Ok(tree) => {
+            text.extend_from_slice(head)?;
+            put_numbers(&mut text, &tree)?;
+            Ok(ListShown {
+                text,
+                tree: Some(tree),
+            })
+        }
+        Err(CaptureStop::Fault(fault)) => {
+            put_refused(&mut text, head, fault)?;
             Ok(ListShown { text, tree: None })
         }
         Err(CaptureStop::Memory(error)) => Err(error),
