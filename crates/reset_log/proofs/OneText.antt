@@ -4,7 +4,7 @@ use Rattle.std.proofs.lemmas.Bool.{both_ways}
 use Rattle.json.specs.Json.{Members}
 use Rattle.bus_json.specs.Text.{json_line}
 use Rattle.reset_list.specs.declared.form.LogForm.{LogForm}
-use Rattle.reset_list.specs.declared.form.LogForm.TheVariants.{Text, Json}
+use Rattle.reset_list.specs.declared.form.LogForm.TheVariants.{Text, Short, Json}
 use Rattle.reset_log.specs.Json.{reset_value}
 use Rattle.topology_stack.specs.Tree.{Tree}
 use Rattle.log_line.specs.declared.line.Reset.{Reset}
@@ -19,12 +19,14 @@ use Rattle.reset_log.specs.Texts.{head}
 use Rattle.reset_log.specs.Shown.{IsJudged, totals_text, IsResetShown, is_passed_over, is_unjudged, is_lacking, is_judged, IsPendingShown, IsWholeShown, IsBegunShown, IsPacketShown, IsLogLineShown, IsLineShown}
 use Rattle.reset_log.specs.Log.{lines_of, IsLogShown}
 use Rattle.reset_log.specs.OneText.{NoLogHasTwoTexts}
-use Rattle.reset_list.proofs.Lemmas.{AreSame, told_once, same_list, same_told}
+use Rattle.reset_list.proofs.Lemmas.{AreSame, told_once, same_list, same_short, same_told}
 
 same_judged : (form : LogForm) (n : ℕ) (before : Option Known) (r : Reset) (a b : List ℕ) (h g : Option Tree) →
     IsJudged form n before r a h → IsJudged form n before r b g → (a ≡ b) × (h ≡ g)
 same_judged (Text standard) n before r a b h g x y =
     same_list standard r.origin (head n before r) r.list (compared before r) a b h g x y
+same_judged (Short standard) n before r a b h g x y =
+    same_short standard r.origin (head n before r) r.list a b h g x y
 same_judged (Json standard) n before r a b h g x y =
     let same = same_told standard r.origin r.list x.members y.members h g x.told y.told in
     (x.text_is ∙ ap (λ (m : Members). json_line (reset_value n before r m)) same.0 ∙ sym y.text_is, same.1)
@@ -51,7 +53,7 @@ module _ (form : LogForm) (n lacks : ℕ) (before : Option Known) (ks : Noted) (
       let same = same_judged form n before r a b h g shown again in (
         same.0,
         e ∙ ap (λ (t : Option Tree). is_none t) same.1 ∙ sym i,
-        f ∙ ap (λ (t : Option Tree). after ks r t (is_none t)) same.1 ∙ sym j,
+        f ∙ ap (λ (t : Option Tree). after form ks r t (is_none t)) same.1 ∙ sym j,
       )
 
 same_pending : (form : LogForm) (pending : Option Pending) (ks : Noted) (a b : List ℕ) (c d : Bool) (p q : Noted) →

@@ -7,7 +7,7 @@ use Rattle.std.specs.BTreeMap.{is_at, insert_entry}
 use Rattle.std.specs.Map.{lookup, remove_entry}
 use Rattle.bus_json.specs.Text.{json_line}
 use Rattle.reset_list.specs.declared.form.LogForm.{LogForm}
-use Rattle.reset_list.specs.declared.form.LogForm.TheVariants.{Text, Json}
+use Rattle.reset_list.specs.declared.form.LogForm.TheVariants.{Text, Short, Json}
 use Rattle.reset_log.specs.Json.{reset_value}
 use Rattle.topology_stack.specs.Tree.{Tree}
 use Rattle.log_line.specs.declared.line.Reset.{Reset}
@@ -22,7 +22,7 @@ use Rattle.reset_log.specs.Texts.{head}
 use Rattle.reset_log.specs.Shown.{IsJudged, unjudged_text, lacking_text, garbled_text, lost_text, told_text, totals_text, IsResetShown, is_passed_over, is_unjudged, is_lacking, is_judged, IsPendingShown, IsWholeShown, IsBegunShown, IsPacketShown, IsLogLineShown, IsLineShown}
 use Rattle.reset_log.specs.Log.{lines_of}
 use Rattle.reset_log.specs.OneText.{EachLogHasAText}
-use Rattle.reset_list.proofs.Lemmas.{some_list, some_told, told_some_in}
+use Rattle.reset_list.proofs.Lemmas.{some_list, some_short, some_told, told_some_in}
 use Rattle.log_line.proofs.Lemmas.{Fit, line_fits, line_packet_fits}
 
 -- ---- the list of a reset that waits
@@ -82,6 +82,8 @@ some_judged : (form : LogForm) (n : ℕ) (before : Option Known) (r : Reset) →
     (text : List ℕ) × (heard : Option Tree) × IsJudged form n before r text heard
 some_judged (Text standard) n before r f =
     some_list standard r.origin (head n before r) r.list (compared before r) f
+some_judged (Short standard) n before r f =
+    some_short standard r.origin (head n before r) r.list
 some_judged (Json standard) n before r f =
     let l = some_told standard r.origin r.list in
     (json_line (reset_value n before r l.0), l.1, record { members = l.0; told = l.2; text_is = refl })
@@ -93,12 +95,12 @@ some_reset form n lacks before ks r f fine = go (is_repeated before r) r.is_erro
     go : (u v w : Bool) → is_repeated before r ≡ u → r.is_error ≡ v → (lacks == 0) ≡ w →
         SomeStep (IsResetShown form n lacks before ks r)
     go true v w d e g = ([], false, ks, is_passed_over d refl refl refl, fine)
-    go false true w d e g = (unjudged_text form n before r, false, after ks r None false, is_unjudged d e refl refl refl, fine)
+    go false true w d e g = (unjudged_text form n before r, false, after form ks r None false, is_unjudged d e refl refl refl, fine)
     go false false false d e g =
-        (lacking_text form n before r lacks, false, after ks r None false, is_lacking d e g refl refl refl, fine)
+        (lacking_text form n before r lacks, false, after form ks r None false, is_lacking d e g refl refl refl, fine)
     go false false true d e g =
         let l = some_judged form n before r f in
-        (l.0, is_none l.1, after ks r l.1 (is_none l.1), is_judged l.1 d e g l.2 refl refl, fine)
+        (l.0, is_none l.1, after form ks r l.1 (is_none l.1), is_judged l.1 d e g l.2 refl refl, fine)
 
 some_pending : (form : LogForm) (pending : Option Pending) (ks : Noted) → IsFinePending pending → IsFine ks →
     SomeStep (IsPendingShown form pending ks)

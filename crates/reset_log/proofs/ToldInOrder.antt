@@ -20,13 +20,13 @@ use Rattle.log_line.proofs.Lemmas.{Fit, line_fits, line_packet_fits}
 use Rattle.reset_list.specs.declared.counts.Counts.{Counts}
 use Rattle.reset_list.specs.declared.counts.Tally.{Tally}
 use Rattle.reset_list.specs.declared.form.LogForm.{LogForm}
-use Rattle.reset_list.specs.declared.form.LogForm.TheVariants.{Text, Json}
+use Rattle.reset_list.specs.declared.form.LogForm.TheVariants.{Text, Short, Json}
 use Rattle.reset_list.specs.Counts.{capped, counted}
 use Rattle.reset_list.specs.Form.{standard_of}
 use Rattle.reset_list.specs.InOrder.{AreTold}
 use Rattle.reset_list.specs.Json.{IsListTold, told_refused, told_heard}
 use Rattle.reset_list.specs.Judged.{capture_by, ListsAreHeardAsRead, ListsAreRefusedAsRead}
-use Rattle.reset_list.specs.Shown.{is_refused, is_heard}
+use Rattle.reset_list.specs.Shown.{is_refused, is_heard, short_refused, short_heard}
 use Rattle.reset_list.proofs.Lemmas.{all_fit, counted_in, how_many, how_many_count}
 use Rattle.reset_log.specs.declared.cards.Known.{Known}
 use Rattle.reset_log.specs.declared.notes.Pending.{Pending}
@@ -176,6 +176,10 @@ module _ (heard : ListsAreHeardAsRead) (unheard : ListsAreRefusedAsRead) where
       inl (f, (unheard standard r.origin r.list f (all_fit r.list fit)).0 un, shown, none)
   judged_so (Text standard) number before r text h fit (is_heard t so shown some) =
       inr (t, (heard standard r.origin r.list t (all_fit r.list fit)).0 so, shown, some)
+  judged_so (Short standard) number before r text h fit (short_refused f un shown none) =
+      inl (f, (unheard standard r.origin r.list f (all_fit r.list fit)).0 un, shown, none)
+  judged_so (Short standard) number before r text h fit (short_heard t so shown some) =
+      inr (t, (heard standard r.origin r.list t (all_fit r.list fit)).0 so, shown, some)
   judged_so (Json standard) number before r text h fit x = told_so standard number before r text x.members h fit x.text_is x.told
 
   module _ (form : LogForm) (number lacks : ℕ) (ks : Noted) (r : Reset) (text : List ℕ) (bad : Bool) (next : Noted) where
@@ -187,10 +191,10 @@ module _ (heard : ListsAreHeardAsRead) (unheard : ListsAreRefusedAsRead) where
 
     -- a reset that is kept
     kept : (v : Verdict) (h : Option Tree) (b : Bool) → IsVerdict (standard_of form) before lacks r v →
-        IsVerdictText form number lacks before r v text → bad ≡ (has_fault v || is_garbled v) → next ≡ after ks r h b →
-        (after ks r h b).cards ≡ cards_by r v ks.cards →
-        (after ks r h b).counts ≡ counts_behind ks.counts (of_verdict v) →
-        (after ks r h b).tallies ≡ tallies_by r.card v ks.tallies →
+        IsVerdictText form number lacks before r v text → bad ≡ (has_fault v || is_garbled v) → next ≡ after form ks r h b →
+        (after form ks r h b).cards ≡ cards_by r v ks.cards →
+        (after form ks r h b).counts ≡ counts_behind ks.counts (of_verdict v) →
+        (after form ks r h b).tallies ≡ tallies_by r.card v ks.tallies →
         IsStep form (a_reset number lacks r ∷ []) ks.pending ks.cards ks.counts ks.tallies text bad next
     kept v h b is shown fault e cards cs tallies =
         one_step form ks (a_reset number lacks r) (of_verdict v) text bad next
@@ -198,15 +202,15 @@ module _ (heard : ListsAreHeardAsRead) (unheard : ListsAreRefusedAsRead) where
         (ap (λ (k : Noted). k.cards) e ∙ cards) (ap (λ (k : Noted). k.counts) e ∙ cs)
         (ap (λ (k : Noted). k.tallies) e ∙ tallies) (ap (λ (k : Noted). k.pending) e)
 
-    judged_step : (h : Option Tree) → IsWhole before lacks r → bad ≡ is_none h → next ≡ after ks r h (is_none h) →
+    judged_step : (h : Option Tree) → IsWhole before lacks r → bad ≡ is_none h → next ≡ after form ks r h (is_none h) →
         IsRefusedSo form number before r text h ⊎ IsSpeltSo form number before r text h →
         IsStep form (a_reset number lacks r ∷ []) ks.pending ks.cards ks.counts ks.tallies text bad next
     judged_step h whole e g (inl (f, is, shown, none)) =
         kept (refused f) None true (whole, is) shown (e ∙ ap (λ (t : Option Tree). is_none t) none)
-        (g ∙ ap (λ (t : Option Tree). after ks r t (is_none t)) none) refl refl refl
+        (g ∙ ap (λ (t : Option Tree). after form ks r t (is_none t)) none) refl refl refl
     judged_step h whole e g (inr (t, is, shown, some)) =
         kept (spelt t) (Some t) false (whole, is) shown (e ∙ ap (λ (u : Option Tree). is_none u) some)
-        (g ∙ ap (λ (u : Option Tree). after ks r u (is_none u)) some) refl refl refl
+        (g ∙ ap (λ (u : Option Tree). after form ks r u (is_none u)) some) refl refl refl
 
     reset_step : Fit r.list → IsResetShown form number lacks before ks r text bad next →
         IsStep form (a_reset number lacks r ∷ []) ks.pending ks.cards ks.counts ks.tallies text bad next

@@ -10,15 +10,21 @@ use Rattle.log_line.specs.declared.line.Reset.{Reset}
 use Rattle.reset_log.specs.declared.cards.Known.{Known}
 use Rattle.reset_list.specs.declared.counts.Counts.{Counts}
 use Rattle.reset_list.specs.declared.counts.Tally.{Tally}
+use Rattle.reset_list.specs.declared.losses.Loss.{Loss}
+use Rattle.reset_list.specs.declared.form.LogForm.{LogForm}
+use Rattle.reset_list.specs.declared.form.LogForm.TheVariants.{Text, Short, Json}
 use Rattle.log_line.specs.declared.line.Begun.{Begun}
 use Rattle.reset_log.specs.declared.notes.Pending.{Pending}
 use Rattle.reset_list.specs.Update.{first_of, updated}
 use Rattle.reset_list.specs.Counts.{counted, tallied_by}
+use Rattle.reset_list.specs.Losses.{losses_by}
 
 pub record Noted : Type 0 where
   pub cards : List Known
   pub counts : Counts
   pub tallies : List Tally
+  -- which ports lost the node that hung on them, in the short form
+  pub losses : List Loss
   -- by card, the reset that waits for its packets
   pub pending : List (ℕ × Pending)
 
@@ -27,6 +33,7 @@ nothing = record {
   cards = [];
   counts = record { resets = 0; refused = 0 };
   tallies = [];
+  losses = [];
   pending = [];
 }
 
@@ -110,12 +117,19 @@ known_by r heard before = record {
   tree = or_before heard (compared before r);
 }
 
+-- the short form counts them alone; each tree is compared with that before it
+abbrev pub losses_in : LogForm → Reset → Option Known → Option Tree → List Loss → List Loss
+losses_in (Text standard) r before heard ls = ls
+losses_in (Short standard) r before heard ls = losses_by r.card (compared before r) heard ls
+losses_in (Json standard) r before heard ls = ls
+
 -- behind a reset, the tree that it is heard as if it is, and whether it is refused
-abbrev pub after : Noted → Reset → Option Tree → Bool → Noted
-after n r heard refused = record {
+abbrev pub after : LogForm → Noted → Reset → Option Tree → Bool → Noted
+after form n r heard refused = record {
   cards = updated (is_of r.card) (known_by r heard) n.cards;
   counts = counted (is_second (last_of r.card n.cards) r) refused n.counts;
   tallies = tallied_by r.card heard n.tallies;
+  losses = losses_in form r (last_of r.card n.cards) heard n.losses;
   pending = n.pending;
 }
 
@@ -135,6 +149,7 @@ behind_loss n = record {
   cards = map forgotten n.cards;
   counts = n.counts;
   tallies = n.tallies;
+  losses = n.losses;
   pending = n.pending;
 }
 
@@ -149,6 +164,7 @@ with_pending pending n = record {
   cards = n.cards;
   counts = n.counts;
   tallies = n.tallies;
+  losses = n.losses;
   pending = pending;
 }
 

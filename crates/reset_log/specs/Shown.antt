@@ -9,45 +9,53 @@ use Rattle.log_line.specs.declared.line.Begun.{Begun}
 use Rattle.reset_log.specs.declared.notes.Pending.{Pending}
 use Rattle.log_line.specs.Line.{line_of}
 use Rattle.reset_log.specs.Noted.{Noted, is_repeated, last_of, compared, after, behind_loss, waits_of, ended, waiting, begun_at, with_packet}
-use Rattle.reset_log.specs.Texts.{garbled, lost, told, totals, head, unjudged, lacking}
+use Rattle.reset_log.specs.Texts.{garbled, lost, told, all_losses, totals, head, unjudged, lacking}
 use Rattle.bus_json.specs.Text.{json_line}
 use Rattle.reset_list.specs.declared.form.LogForm.{LogForm}
-use Rattle.reset_list.specs.declared.form.LogForm.TheVariants.{Text, Json}
+use Rattle.reset_list.specs.declared.form.LogForm.TheVariants.{Text, Short, Json}
 use Rattle.reset_log.specs.Json.{IsResetTold, unjudged_value, lacking_value, garbled_value, lost_value, told_value, totals_lines}
-use Rattle.reset_list.specs.Shown.{IsListShown}
+use Rattle.reset_list.specs.Shown.{IsListShown, IsListShort}
 
--- ---- in a form: as text, or as lines of JSON
+-- ---- in a form: as text, as one line for each reset, or as lines of JSON
 
 -- what is shown of a reset that is judged, and the tree that its list is heard as, if it is
 abbrev pub IsJudged :
     LogForm → ℕ → Option Known → Reset → List ℕ → Option Tree → Type 0
 IsJudged (Text standard) number before r text heard =
     IsListShown standard r.origin (head number before r) r.list (compared before r) text heard
+IsJudged (Short standard) number before r text heard =
+    IsListShort standard r.origin (head number before r) r.list text heard
 IsJudged (Json standard) number before r text heard =
     IsResetTold standard number before r text heard
 
 abbrev pub unjudged_text : LogForm → ℕ → Option Known → Reset → List ℕ
 unjudged_text (Text standard) number before r = unjudged number before r
+unjudged_text (Short standard) number before r = unjudged number before r
 unjudged_text (Json standard) number before r = json_line (unjudged_value number before r)
 
 abbrev pub lacking_text : LogForm → ℕ → Option Known → Reset → ℕ → List ℕ
 lacking_text (Text standard) number before r lacks = lacking number before r lacks
+lacking_text (Short standard) number before r lacks = lacking number before r lacks
 lacking_text (Json standard) number before r lacks = json_line (lacking_value number before r lacks)
 
 abbrev pub garbled_text : LogForm → ℕ → List ℕ
 garbled_text (Text standard) number = garbled number
+garbled_text (Short standard) number = garbled number
 garbled_text (Json standard) number = json_line (garbled_value number)
 
 abbrev pub lost_text : LogForm → ℕ → List ℕ
 lost_text (Text standard) number = lost number
+lost_text (Short standard) number = lost number
 lost_text (Json standard) number = json_line (lost_value number)
 
 abbrev pub told_text : LogForm → ℕ → Option ℕ → List ℕ → List ℕ
 told_text (Text standard) number time words = told number time words
+told_text (Short standard) number time words = told number time words
 told_text (Json standard) number time words = json_line (told_value number time words)
 
 abbrev pub totals_text : LogForm → Noted → List ℕ
 totals_text (Text standard) n = totals n
+totals_text (Short standard) n = all_losses n.losses ++ totals n
 totals_text (Json standard) n = totals_lines n
 
 -- ---- a line
@@ -59,14 +67,14 @@ pub data IsResetShown (form : LogForm) (number lacks : ℕ) (before : Option Kno
   is_passed_over : is_repeated before r ≡ true → text ≡ [] → bad ≡ false → next ≡ n →
       IsResetShown form number lacks before n r text bad next
   is_unjudged : is_repeated before r ≡ false → r.is_error ≡ true →
-      text ≡ unjudged_text form number before r → bad ≡ false → next ≡ after n r None false →
+      text ≡ unjudged_text form number before r → bad ≡ false → next ≡ after form n r None false →
       IsResetShown form number lacks before n r text bad next
   is_lacking : is_repeated before r ≡ false → r.is_error ≡ false → (lacks == 0) ≡ false →
-      text ≡ lacking_text form number before r lacks → bad ≡ false → next ≡ after n r None false →
+      text ≡ lacking_text form number before r lacks → bad ≡ false → next ≡ after form n r None false →
       IsResetShown form number lacks before n r text bad next
   is_judged : (heard : Option Tree) → is_repeated before r ≡ false → r.is_error ≡ false →
       (lacks == 0) ≡ true → IsJudged form number before r text heard →
-      bad ≡ is_none heard → next ≡ after n r heard (is_none heard) →
+      bad ≡ is_none heard → next ≡ after form n r heard (is_none heard) →
       IsResetShown form number lacks before n r text bad next
 
 -- what is shown of a reset that waited for its packets, if one did, and waits no more

@@ -4,6 +4,7 @@ use Rattle.view_text.specs.Packet.{field}
 use Rattle.log_line.specs.declared.line.Reset.{Reset}
 use Rattle.reset_log.specs.declared.cards.Known.{Known}
 use Rattle.reset_list.specs.declared.counts.Tally.{Tally}
+use Rattle.reset_list.specs.declared.losses.Loss.{Loss}
 use Rattle.reset_log.specs.declared.notes.Pending.{Pending}
 use Rattle.reset_log.specs.Device.{card_field}
 use Rattle.reset_log.specs.Noted.{Noted, since, missing}
@@ -89,6 +90,17 @@ cut_off p = name p.number p.reset ++ (field (codes " ends without its last packe
 abbrev pub all_cut_off : List (ℕ × Pending) → List ℕ
 all_cut_off [] = []
 all_cut_off (e ∷ es) = cut_off e.1 ++ all_cut_off es
+
+-- `card C port P of node I lost its child: K times`
+unfoldable pub port_losses : Loss → List ℕ
+port_losses l =
+    card_field (codes "card ") l.card
+    ++ (field (codes " port ") l.port ++ (field (codes " of node ") l.node
+    ++ (field (codes " lost its child: ") l.count ++ codes " times\n")))
+
+abbrev pub all_losses : List Loss → List ℕ
+all_losses [] = []
+all_losses (l ∷ ls) = port_losses l ++ all_losses ls
 
 -- `resets N refused M cards C`, and `, most begun by card C node I: K`
 unfoldable pub totals : Noted → List ℕ

@@ -10,13 +10,14 @@ use Rattle.capture_reading.specs.Capture.{Spells, CaptureRefused}
 use Rattle.log_line.specs.declared.line.Reset.{Reset}
 use Rattle.reset_list.specs.declared.counts.Tally.{Tally}
 use Rattle.reset_list.specs.declared.form.LogForm.{LogForm}
-use Rattle.reset_list.specs.declared.form.LogForm.TheVariants.{Text, Json}
+use Rattle.reset_list.specs.declared.form.LogForm.TheVariants.{Text, Short, Json}
 use Rattle.reset_list.specs.Counts.{capped, tallied}
 use Rattle.reset_list.specs.Form.{standard_of}
 use Rattle.reset_list.specs.Json.{list_fault}
 use Rattle.reset_list.specs.Judged.{capture_by}
 use Rattle.reset_list.specs.Sentence.{IsRefusalShown}
 use Rattle.reset_list.specs.Shown.{IsTreeShown}
+use Rattle.reset_list.specs.Texts.{numbers, refused as refused_lines}
 use Rattle.reset_list.specs.Update.{updated}
 use Rattle.reset_log.specs.declared.cards.Known.{Known}
 use Rattle.reset_log.specs.Noted.{Noted, is_of, is_repeated, is_second, last_of, compared, known_by, forgotten}
@@ -69,12 +70,15 @@ IsVerdict standard before lacks r no_reset = ⊥
 abbrev pub IsSpeltText : LogForm → ℕ → Option Known → Reset → Tree → List ℕ → Type 0
 IsSpeltText (Text standard) number before r t text =
     IsTreeShown (head number before r) (compared before r) t text
+IsSpeltText (Short standard) number before r t text = text ≡ head number before r ++ numbers t
 IsSpeltText (Json standard) number before r t text =
     text ≡ json_line (reset_value number before r (tree_members [] t))
 
 abbrev pub IsRefusedText : LogForm → ℕ → Option Known → Reset → CaptureFault → List ℕ → Type 0
 IsRefusedText (Text standard) number before r f text =
     IsRefusalShown standard r.origin (head number before r) r.list f text
+IsRefusedText (Short standard) number before r f text =
+    text ≡ refused_lines (head number before r) f
 IsRefusedText (Json standard) number before r f text =
     text ≡ json_line (reset_value number before r (list_fault f))
 

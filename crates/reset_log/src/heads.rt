@@ -1,14 +1,14 @@
 //! The first line of what is shown of a reset, and the last line of a log.
 ghost use Rattle.std.specs.Prelude.{◌≡◌, ◌++◌, OnOk, IfOk};
 ghost use Rattle.std.specs.Option.{option_copied};
-ghost use Rattle.reset_log.specs.Texts.{garbled, lost, told, digit, seconds, if_known, if_missing, name, moments, if_local, head, unjudged, begun, most, lacking, cut_off, all_cut_off, totals};
+ghost use Rattle.reset_log.specs.Texts.{garbled, lost, told, digit, seconds, if_known, if_missing, name, moments, if_local, head, unjudged, begun, most, lacking, cut_off, all_cut_off, port_losses, all_losses, totals};
 ghost use Rattle.reset_log.specs.Notes.{noted};
 
 use crate::cards::{Known, missing, since};
 use crate::device::put_card;
 use crate::notes::{Notes, Pending};
 use log_line::Reset;
-use reset_list::Tally;
+use reset_list::{Loss, Tally};
 use std::alloc::{AllocError, Global};
 use std::collections::BTreeMap;
 use view_text::put_field;
@@ -245,5 +245,42 @@ pub(crate) fn last_line(alloc: Global, notes: &Notes) -> Result<Vec<u8>, AllocEr
     put_field(&mut text, b" cards ", notes.cards.len() as u64)?;
     put_most(&mut text, notes.tallies.most())?;
     text.extend_from_slice(b"\n")?;
+    Ok(text)
+}
+
+/// Appends at how many resets a port lost the node that hung on it.
+#[tactic(auto, unfolding(crate::specs::Texts::port_losses))]
+fn put_loss(out: &mut Vec<u8>, loss: &Loss) -> Result<(), AllocError>
+    ensures { OnOk result (out.new.items ≡ out.old.items ++ port_losses loss.now) }
+{
+    put_card(out, b"card ", loss.card)?;
+    put_field(out, b" port ", u64::from(loss.port))?;
+    put_field(out, b" of node ", u64::from(loss.node))?;
+    put_field(out, b" lost its child: ", loss.count)?;
+    out.extend_from_slice(b" times\n")?;
+    Ok(())
+}
+
+/// Appends that for each port.
+fn put_losses(out: &mut Vec<u8>, losses: &[Loss]) -> Result<(), AllocError>
+    ensures { OnOk result (out.new.items ≡ out.old.items ++ all_losses losses.now) }
+{
+    let mut rest = losses;
+    while let [loss, behind @ ..] = rest {
+        put_loss(out, loss)?;
+        rest = behind;
+    }
+    Ok(())
+}
+
+/// The last lines of a log in the short form: which ports lost their children how often, and the last line.
+pub(crate) fn last_lines(alloc: Global, notes: &Notes) -> Result<Vec<u8>, AllocError>
+    ensures { IfOk result (λ text. text.items
+        ≡ all_losses (noted notes.now).losses ++ totals (noted notes.now)) }
+{
+    let mut text = Vec::new(alloc);
+    put_losses(&mut text, &notes.losses)?;
+    let totals = last_line(alloc, notes)?;
+    text.extend_from_slice(&totals)?;
     Ok(text)
 }

@@ -1,14 +1,14 @@
 //! What is noted behind the lines of a log so far.
 ghost use Rattle.std.specs.Prelude.{◌≡◌, OnOk};
 ghost use Rattle.std.specs.Option.{option_copied};
-ghost use Rattle.reset_log.specs.Noted.{nothing, after, behind_loss, waits_of, ended, waiting, begun_at, with_packet};
+ghost use Rattle.reset_log.specs.Noted.{nothing, after, behind_loss, waits_of, ended, waiting, begun_at, with_packet, losses_in, last_of};
 ghost use Rattle.reset_list.specs.Counts.{tallied_by};
 ghost use Rattle.reset_log.specs.Notes.{noted};
 
-use crate::cards::{Cards, is_second};
+use crate::cards::{Cards, compared, is_second};
 use log_line::{Begun, Origin, Reset};
 use quad_lanes::QuadList;
-use reset_list::{Counts, Tallies, count_reset};
+use reset_list::{Counts, LogForm, Loss, Tallies, count_losses, count_reset};
 use std::alloc::{AllocError, Global};
 use std::collections::BTreeMap;
 use topology_stack::BusTree;
@@ -53,12 +53,36 @@ impl Pending {
     }
 }
 
+/// Counts the losses of ports at a reset, in the short form alone.
+fn count_lost(
+    alloc: Global,
+    form: LogForm,
+    losses: &mut Vec<Loss>,
+    cards: &Cards,
+    reset: &Reset,
+    heard: Option<&BusTree>,
+) -> Result<(), AllocError>
+    ensures { OnOk result (losses.new.items ≡ losses_in form reset.now
+        (last_of reset.now.card cards.now) (option_copied heard.entry) losses.old.items) }
+{
+    match form {
+        LogForm::Text(_) | LogForm::Json(_) => Ok(()),
+        LogForm::Short(_) => {
+            let before = cards.last_of(reset.card);
+            let old = compared(before, reset);
+            count_losses(alloc, losses, reset.card, old, heard)
+        }
+    }
+}
+
 /// The cards of a log, each with its last reset, and what is counted.
 #[derive(Drop)]
 pub(crate) struct Notes {
     pub(crate) cards: Cards,
     pub(crate) counts: Counts,
     pub(crate) tallies: Tallies,
+    /// Which ports lost the node that hung on them, in the short form.
+    pub(crate) losses: Vec<Loss>,
     /// By card, the reset that waits for its packets.
     pub(crate) pending: BTreeMap<u64, Pending>,
 }
@@ -75,6 +99,7 @@ impl Notes {
                 refused: 0,
             },
             tallies: Tallies::new(alloc),
+            losses: Vec::new(alloc),
             pending: BTreeMap::new(alloc),
         }
     }
@@ -85,6 +110,7 @@ impl Notes {
             ≡ tallied_by reset.now.card (option_copied heard.entry) self.old.tallies) }
         ensures cards { self.new.cards ≡ self.old.cards }
         ensures counts { self.new.counts ≡ self.old.counts }
+        ensures losses { self.new.losses ≡ self.old.losses }
         ensures pending { self.new.pending ≡ self.old.pending }
     {
         match heard {
@@ -96,13 +122,23 @@ impl Notes {
     /// Notes a reset, the tree that it is heard as if it is, and whether its list is refused.
     pub(crate) fn keep(
         &mut self,
+        alloc: Global,
+        form: LogForm,
         reset: &Reset,
         heard: Option<BusTree>,
         refused: bool,
     ) -> Result<(), AllocError>
-        ensures { OnOk result (noted self.new ≡ after (noted self.old) reset.now heard refused) }
+        ensures { OnOk result (noted self.new ≡ after form (noted self.old) reset.now heard refused) }
     {
         let second = is_second(self.cards.last_of(reset.card), reset);
+        count_lost(
+            alloc,
+            form,
+            &mut self.losses,
+            &self.cards,
+            reset,
+            heard.as_ref(),
+        )?;
         self.tally(reset, heard.as_ref())?;
         count_reset(&mut self.counts, second, refused);
         self.cards.keep(reset, heard)

@@ -9,14 +9,14 @@ ghost use Rattle.reset_log.specs.Shown.{IsJudged, unjudged_text, lacking_text, g
 
 use crate::cards::{Known, compared, is_repeated};
 use crate::heads::{
-    last_line, put_garbled, put_head, put_lacking, put_lost, put_told, put_unjudged,
+    last_line, last_lines, put_garbled, put_head, put_lacking, put_lost, put_told, put_unjudged,
 };
 use crate::notes::{Notes, Pending};
 use crate::values::{
     garbled_line, lacking_line, lost_line, reset_line, told_line, totals_lines, unjudged_line,
 };
 use log_line::{Begun, LogLine, Reset, line_of};
-use reset_list::{ListShown, LogForm, show_list};
+use reset_list::{ListShown, LogForm, show_list, show_short};
 use std::alloc::{AllocError, Global};
 
 /// What is shown of a line, and whether it is at fault.
@@ -47,6 +47,13 @@ fn show_judged(
             let shown = show_list(alloc, standard, reset.origin, &head, old, list)?;
             Ok(shown)
         }
+        LogForm::Short(standard) => {
+            let list = reset.list.as_slice();
+            let mut head = Vec::new(alloc);
+            put_head(&mut head, number, before, reset)?;
+            let shown = show_short(alloc, standard, reset.origin, &head, list)?;
+            Ok(shown)
+        }
         LogForm::Json(standard) => reset_line(alloc, standard, number, before, reset),
     }
 }
@@ -64,7 +71,7 @@ fn unjudged_text(
     ensures json { IfOk result (λ text. IfJson form (AreJsonLines text.items)) }
 {
     match form {
-        LogForm::Text(_) => {
+        LogForm::Text(_) | LogForm::Short(_) => {
             let mut text = Vec::new(alloc);
             put_unjudged(&mut text, number, before, reset)?;
             Ok(text)
@@ -87,7 +94,7 @@ fn lacking_text(
     ensures json { IfOk result (λ text. IfJson form (AreJsonLines text.items)) }
 {
     match form {
-        LogForm::Text(_) => {
+        LogForm::Text(_) | LogForm::Short(_) => {
             let mut text = Vec::new(alloc);
             put_lacking(&mut text, number, before, reset, lacks)?;
             Ok(text)
@@ -102,7 +109,7 @@ fn garbled_text(alloc: Global, form: LogForm, number: u64) -> Result<Vec<u8>, Al
     ensures json { IfOk result (λ text. IfJson form (AreJsonLines text.items)) }
 {
     match form {
-        LogForm::Text(_) => {
+        LogForm::Text(_) | LogForm::Short(_) => {
             let mut text = Vec::new(alloc);
             put_garbled(&mut text, number)?;
             Ok(text)
@@ -117,7 +124,7 @@ fn lost_text(alloc: Global, form: LogForm, number: u64) -> Result<Vec<u8>, Alloc
     ensures json { IfOk result (λ text. IfJson form (AreJsonLines text.items)) }
 {
     match form {
-        LogForm::Text(_) => {
+        LogForm::Text(_) | LogForm::Short(_) => {
             let mut text = Vec::new(alloc);
             put_lost(&mut text, number)?;
             Ok(text)
@@ -138,7 +145,7 @@ fn told_text(
     ensures json { IfOk result (λ text. IfJson form (AreJsonLines text.items)) }
 {
     match form {
-        LogForm::Text(_) => {
+        LogForm::Text(_) | LogForm::Short(_) => {
             let mut text = Vec::new(alloc);
             put_told(&mut text, number, time, words)?;
             Ok(text)
@@ -158,6 +165,7 @@ pub(crate) fn totals_text(
 {
     match form {
         LogForm::Text(_) => last_line(alloc, notes),
+        LogForm::Short(_) => last_lines(alloc, notes),
         LogForm::Json(_) => totals_lines(alloc, notes),
     }
 }
@@ -194,17 +202,17 @@ fn show_reset(
     }
     if reset.is_error {
         let text = unjudged_text(alloc, form, number, before, reset)?;
-        notes.keep(reset, None, false)?;
+        notes.keep(alloc, form, reset, None, false)?;
         return Ok(Shown { text, bad: false });
     }
     if lacks != 0 {
         let text = lacking_text(alloc, form, number, before, reset, lacks)?;
-        notes.keep(reset, None, false)?;
+        notes.keep(alloc, form, reset, None, false)?;
         return Ok(Shown { text, bad: false });
     }
     let ListShown { text, tree } = show_judged(alloc, form, number, before, reset)?;
     let bad = tree.is_none();
-    notes.keep(reset, tree, bad)?;
+    notes.keep(alloc, form, reset, tree, bad)?;
     Ok(Shown { text, bad })
 }
 
