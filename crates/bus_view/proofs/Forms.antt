@@ -6,7 +6,7 @@ use Rattle.std.specs.Global.{Global}
 use Rattle.about.specs.declared.asked.About.TheVariants.{Help, Version}
 use Rattle.self_id.specs.declared.standard.Standard.{Standard}
 use Rattle.reset_list.specs.declared.form.LogForm.{LogForm}
-use Rattle.reset_list.specs.declared.form.LogForm.TheVariants.{Text, Json as Lines}
+use Rattle.reset_list.specs.declared.form.LogForm.TheVariants.{Text, Short, Json as Lines}
 use Rattle.reset_list.specs.Form.{options}
 use Rattle.self_id.specs.declared.standard.Standard.TheVariants.{Ieee1995, Ieee2000}
 use Rattle.bus_view.specs.declared.form.CaptureView.{CaptureView}
@@ -78,11 +78,13 @@ form_of (word ∷ next ∷ []) =
     cond (bytes_eq word (codes "capture")) (named (is_name next) next)
     (cond (bytes_eq next (codes "--1995"))
     (log_of word (Text Ieee1995) (capture_of (view_of word) Ieee1995))
-    (cond (bytes_eq next (codes "--json")) (log_of word (Lines Ieee2000) (explained_of word)) None))
+    (cond (bytes_eq next (codes "--json")) (log_of word (Lines Ieee2000) (explained_of word))
+    (cond (bytes_eq next (codes "--short")) (log_of word (Short Ieee2000) None) None)))
 form_of (word ∷ a ∷ b ∷ []) =
     cond (bytes_eq word (codes "script")) (of_numbers (number_of a) (number_of b))
     (cond (bytes_eq a (codes "--1995"))
-    (cond (bytes_eq b (codes "--json")) (log_of word (Lines Ieee1995) None) None) None)
+    (cond (bytes_eq b (codes "--json")) (log_of word (Lines Ieee1995) None)
+    (cond (bytes_eq b (codes "--short")) (log_of word (Short Ieee1995) None) None)) None)
 form_of (word ∷ a ∷ b ∷ c ∷ words) = None
 
 in_range : (low high : Bool) (nodes seed : ℕ) → nat_lt 0 nodes ≡ low → nat_lt nodes 64 ≡ high →
@@ -119,10 +121,14 @@ is_found (Explain explain.Text) words e = ap (λ (ws : List (List ℕ)). form_of
 is_found (Explain explain.Json) words e = ap (λ (ws : List (List ℕ)). form_of ws) e
 is_found (Resets (Text Ieee1995)) words e = ap (λ (ws : List (List ℕ)). form_of ws) e
 is_found (Resets (Text Ieee2000)) words e = ap (λ (ws : List (List ℕ)). form_of ws) e
+is_found (Resets (Short Ieee1995)) words e = ap (λ (ws : List (List ℕ)). form_of ws) e
+is_found (Resets (Short Ieee2000)) words e = ap (λ (ws : List (List ℕ)). form_of ws) e
 is_found (Resets (Lines Ieee1995)) words e = ap (λ (ws : List (List ℕ)). form_of ws) e
 is_found (Resets (Lines Ieee2000)) words e = ap (λ (ws : List (List ℕ)). form_of ws) e
 is_found (Nosy (Text Ieee1995)) words e = ap (λ (ws : List (List ℕ)). form_of ws) e
 is_found (Nosy (Text Ieee2000)) words e = ap (λ (ws : List (List ℕ)). form_of ws) e
+is_found (Nosy (Short Ieee1995)) words e = ap (λ (ws : List (List ℕ)). form_of ws) e
+is_found (Nosy (Short Ieee2000)) words e = ap (λ (ws : List (List ℕ)). form_of ws) e
 is_found (Nosy (Lines Ieee1995)) words e = ap (λ (ws : List (List ℕ)). form_of ws) e
 is_found (Nosy (Lines Ieee2000)) words e = ap (λ (ws : List (List ℕ)). form_of ws) e
 is_found (OfItself Help) words (inl e) = ap (λ (ws : List (List ℕ)). form_of ws) e
@@ -234,16 +240,18 @@ by_name true word next form is w e =
     subst (λ (g : ViewForm). AreWordsOf g (word ∷ next ∷ [])) f (ap (λ (v : List ℕ). v ∷ next ∷ []) w, is)
 by_name false word next form is w e = absurd cc
 
-two_words : (first test lines : Bool) (word next : List ℕ) (form : ViewForm) → (first ≡ true → word ≡ codes "capture") →
-    (test ≡ true → next ≡ codes "--1995") → (lines ≡ true → next ≡ codes "--json") →
-    cond first (named (is_name next) next) (cond test (log_of word (Text Ieee1995) (capture_of (view_of word) Ieee1995)) (cond lines (log_of word (Lines Ieee2000) (explained_of word)) None)) ≡ Some form →
+two_words : (first test lines short : Bool) (word next : List ℕ) (form : ViewForm) → (first ≡ true → word ≡ codes "capture") →
+    (test ≡ true → next ≡ codes "--1995") → (lines ≡ true → next ≡ codes "--json") → (short ≡ true → next ≡ codes "--short") →
+    cond first (named (is_name next) next) (cond test (log_of word (Text Ieee1995) (capture_of (view_of word) Ieee1995)) (cond lines (log_of word (Lines Ieee2000) (explained_of word)) (cond short (log_of word (Short Ieee2000) None) None))) ≡ Some form →
     AreWordsOf form (word ∷ next ∷ [])
-two_words true test lines word next form w is js e = by_name (is_name next) word next form refl (w refl) e
-two_words false true lines word next form w is js e =
+two_words true test lines short word next form w is js sh e = by_name (is_name next) word next form refl (w refl) e
+two_words false true lines short word next form w is js sh e =
     rw (is refl) (log_words word (Text Ieee1995) form _ (of_capture (view_of word) Ieee1995 word form (view_is word)) e)
-two_words false false true word next form w is js e =
+two_words false false true short word next form w is js sh e =
     rw (js refl) (log_words word (Lines Ieee2000) form (explained_of word) (explained_words word form) e)
-two_words false false false word next form w is js e = absurd cc
+two_words false false false true word next form w is js sh e =
+    rw (sh refl) (log_words word (Short Ieee2000) form None (no_form form _) e)
+two_words false false false false word next form w is js sh e = absurd cc
 
 -- 1 to 63 nodes and a seed that are found stand there
 by_range : (low high : Bool) (word a b : List ℕ) (nodes seed : ℕ) (form : ViewForm) →
@@ -271,15 +279,17 @@ by_numbers (Some nodes) None word a b form w x y e = absurd cc
 by_numbers (Some nodes) (Some seed) word a b form w x y e =
     by_range (nat_lt 0 nodes) (nat_lt nodes 64) word a b nodes seed form refl refl w x y e
 
-three_words : (test year lines : Bool) (word a b : List ℕ) (form : ViewForm) → (test ≡ true → word ≡ codes "script") →
-    (year ≡ true → a ≡ codes "--1995") → (lines ≡ true → b ≡ codes "--json") →
-    cond test (of_numbers (number_of a) (number_of b)) (cond year (cond lines (log_of word (Lines Ieee1995) None) None) None) ≡ Some form →
+three_words : (test year lines short : Bool) (word a b : List ℕ) (form : ViewForm) → (test ≡ true → word ≡ codes "script") →
+    (year ≡ true → a ≡ codes "--1995") → (lines ≡ true → b ≡ codes "--json") → (short ≡ true → b ≡ codes "--short") →
+    cond test (of_numbers (number_of a) (number_of b)) (cond year (cond lines (log_of word (Lines Ieee1995) None) (cond short (log_of word (Short Ieee1995) None) None)) None) ≡ Some form →
     AreWordsOf form (word ∷ a ∷ b ∷ [])
-three_words true year lines word a b form is old js e = by_numbers (number_of a) (number_of b) word a b form (is refl) refl refl e
-three_words false true true word a b form is old js e =
+three_words true year lines short word a b form is old js sh e = by_numbers (number_of a) (number_of b) word a b form (is refl) refl refl e
+three_words false true true short word a b form is old js sh e =
     rw (old refl, js refl) (log_words word (Lines Ieee1995) form None (no_form form _) e)
-three_words false true false word a b form is old js e = absurd cc
-three_words false false lines word a b form is old js e = absurd cc
+three_words false true false true word a b form is old js sh e =
+    rw (old refl, sh refl) (log_words word (Short Ieee1995) form None (no_form form _) e)
+three_words false true false false word a b form is old js sh e = absurd cc
+three_words false false lines short word a b form is old js sh e = absurd cc
 
 are_words : (words : List (List ℕ)) (form : ViewForm) → form_of words ≡ Some form →
     AreWordsOf form words
@@ -288,11 +298,13 @@ are_words [] form e = absurd cc
 are_words (word ∷ []) form e =
     one_word word form e
 are_words (word ∷ next ∷ []) form e =
-    two_words _ _ _ word next form (bytes_eq-Decides word (codes "capture")).0
-    (bytes_eq-Decides next (codes "--1995")).0 (bytes_eq-Decides next (codes "--json")).0 e
+    two_words _ _ _ _ word next form (bytes_eq-Decides word (codes "capture")).0
+    (bytes_eq-Decides next (codes "--1995")).0 (bytes_eq-Decides next (codes "--json")).0
+    (bytes_eq-Decides next (codes "--short")).0 e
 are_words (word ∷ a ∷ b ∷ []) form e =
-    three_words _ _ _ word a b form (bytes_eq-Decides word (codes "script")).0
-    (bytes_eq-Decides a (codes "--1995")).0 (bytes_eq-Decides b (codes "--json")).0 e
+    three_words _ _ _ _ word a b form (bytes_eq-Decides word (codes "script")).0
+    (bytes_eq-Decides a (codes "--1995")).0 (bytes_eq-Decides b (codes "--json")).0
+    (bytes_eq-Decides b (codes "--short")).0 e
 are_words (word ∷ a ∷ b ∷ c ∷ words) form e = absurd cc
 
 pub form_or_none : (words : List (String Global)) → IsForm words ⊎ (IsForm words → ⊥)

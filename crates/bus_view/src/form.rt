@@ -55,8 +55,8 @@ pub enum ViewForm {
     /// script, in the part with the node of this name.
     ListOf(Name),
     /// `resets`: the bus at each reset in a Linux kernel's trace, which is read by IEEE 1394a-2000, or
-    /// with `--1995` behind the word by IEEE Std 1394-1995; with `--json` behind both a line of JSON for
-    /// each reset.
+    /// with `--1995` behind the word by IEEE Std 1394-1995; with `--short` behind both one line for each
+    /// reset, or with `--json` a line of JSON.
     Resets(LogForm),
     /// `nosy`: the bus at each reset in a recording of `nosy-dump`, by the same words.
     Nosy(LogForm),
@@ -110,6 +110,8 @@ impl ViewForm {
             ("json", "--1995") => Some(ViewForm::Capture(CaptureView::Json, Standard::Ieee1995)),
             ("resets", "--1995") => Some(ViewForm::Resets(LogForm::Text(Standard::Ieee1995))),
             ("nosy", "--1995") => Some(ViewForm::Nosy(LogForm::Text(Standard::Ieee1995))),
+            ("resets", "--short") => Some(ViewForm::Resets(LogForm::Short(Standard::Ieee2000))),
+            ("nosy", "--short") => Some(ViewForm::Nosy(LogForm::Short(Standard::Ieee2000))),
             ("resets", "--json") => Some(ViewForm::Resets(LogForm::Json(Standard::Ieee2000))),
             ("nosy", "--json") => Some(ViewForm::Nosy(LogForm::Json(Standard::Ieee2000))),
             ("explain", "--json") => Some(ViewForm::Explain(ExplainForm::Json)),
@@ -137,6 +139,12 @@ impl ViewForm {
     {
         match (word, first, second) {
             ("script", nodes, seed) => ViewForm::of_script(nodes.as_bytes(), seed.as_bytes()),
+            ("resets", "--1995", "--short") => {
+                Some(ViewForm::Resets(LogForm::Short(Standard::Ieee1995)))
+            }
+            ("nosy", "--1995", "--short") => {
+                Some(ViewForm::Nosy(LogForm::Short(Standard::Ieee1995)))
+            }
             ("resets", "--1995", "--json") => {
                 Some(ViewForm::Resets(LogForm::Json(Standard::Ieee1995)))
             }
@@ -171,6 +179,6 @@ pub const VIEW_USAGE: &str = "usage: busview packets [--1995] [CAPTURE ..]\n    
     busview dot-run [SCRIPT]\n       busview json-run [SCRIPT]\n       \
     busview explain [--json] [SCRIPT]\n       busview capture NAME [SCRIPT]\n       \
     busview script N SEED\n       busview flawed KIND N SEED [--1995]\n       \
-    busview resets [--1995] [--json] [LOG ..]\n       \
-    busview nosy [--1995] [--json] [DUMP ..]\n       \
+    busview resets [--1995] [--short] [--json] [LOG ..]\n       \
+    busview nosy [--1995] [--short] [--json] [DUMP ..]\n       \
     busview diff [--1995] [--json] OLD NEW\n       busview import [INPUT]";

@@ -35,6 +35,7 @@ is a file with a line ID NAME for each node that has a name.
 With --1995, which packets, tree, dot, json, resets, nosy, diff and flawed take,
 self-ID packets are read by IEEE Std 1394-1995: up to 27 ports a node. With
 --json, which explain, resets, nosy and diff take, the answer is lines of JSON.
+With --short, which resets and nosy take, each reset has one line.
 Options may come anywhere after the command; -- ends them.
 
 A capture is the self-ID packets of one bus reset, each as a big-endian quadlet

@@ -20,6 +20,7 @@ const OF_DIFF: &str = "\
 /// The options of a command that shows resets.
 const OF_RESETS: &str = "\
 --1995  reads self-ID packets by IEEE Std 1394-1995: up to 27 ports a node
+--short writes one line for each reset; resets also which port lost its child how often
 --json  writes a line of JSON for each reset
 ";
 

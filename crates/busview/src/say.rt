@@ -39,7 +39,7 @@ fn has(bytes: &[u8], part: &[u8]) -> bool {
 /// Whether this is shown of a log without an event.
 fn has_no_event(form: &ViewForm, output: &[u8]) -> bool {
     match form {
-        ViewForm::Resets(LogForm::Text(_)) => output == NO_EVENTS,
+        ViewForm::Resets(LogForm::Text(_) | LogForm::Short(_)) => output == NO_EVENTS,
         ViewForm::Resets(LogForm::Json(_)) => output == NO_EVENTS_JSON,
         _ => false,
     }
@@ -48,7 +48,7 @@ fn has_no_event(form: &ViewForm, output: &[u8]) -> bool {
 /// Whether this is shown of a dump without a bus reset, where nothing is at fault.
 fn has_no_reset(form: &ViewForm, output: &[u8]) -> bool {
     match form {
-        ViewForm::Nosy(LogForm::Text(_)) => output == NO_RESETS,
+        ViewForm::Nosy(LogForm::Text(_) | LogForm::Short(_)) => output == NO_RESETS,
         ViewForm::Nosy(LogForm::Json(_)) => output == NO_RESETS_JSON,
         _ => false,
     }

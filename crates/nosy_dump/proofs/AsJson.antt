@@ -6,13 +6,17 @@ use Rattle.self_id.specs.declared.standard.Standard.{Standard}
 use Rattle.bus_json.specs.Lines.{GathersJsonLines, WritesJsonLines}
 use Rattle.bus_json.proofs.Lemmas.{gathers_none, gathers, gathers_both, writes_none, writes_both, writes_gathered}
 use Rattle.reset_list.specs.declared.form.LogForm.{LogForm}
-use Rattle.reset_list.specs.declared.form.LogForm.TheVariants.{Text, Json}
+use Rattle.reset_list.specs.declared.form.LogForm.TheVariants.{Text, Short, Json}
 use Rattle.nosy_dump.specs.codings.Going.{AreAsJson, GathersAsJson, WritesAsJson}
 
 -- another form has none
 pub not_json : (form : LogForm) (standard : Standard) (text : List ℕ) → form ≡ Text standard →
     AreAsJson form text
 not_json form standard text e = λ other is. absurd cc
+
+pub short_no_json : (form : LogForm) (standard : Standard) (text : List ℕ) → form ≡ Short standard →
+    AreAsJson form text
+short_no_json form standard text e = λ other is. absurd cc
 
 -- ---- gathered
 

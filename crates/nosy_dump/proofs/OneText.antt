@@ -7,11 +7,11 @@ use Rattle.std.proofs.lemmas.Nat.{from_le_bytes-to_le_bytes_4}
 use Rattle.json.specs.Json.{Members}
 use Rattle.bus_json.specs.Text.{json_line}
 use Rattle.reset_list.specs.declared.form.LogForm.{LogForm}
-use Rattle.reset_list.specs.declared.form.LogForm.TheVariants.{Text, Json}
+use Rattle.reset_list.specs.declared.form.LogForm.TheVariants.{Text, Short, Json}
 use Rattle.topology_stack.specs.Tree.{Tree}
 use Rattle.log_line.specs.declared.line.Origin.TheVariants.{Core}
 use Rattle.reset_list.specs.InOrder.{AreTold}
-use Rattle.reset_list.proofs.Lemmas.{AreSame, told_once, same_list, same_told}
+use Rattle.reset_list.proofs.Lemmas.{AreSame, told_once, same_list, same_short, same_told}
 use Rattle.nosy_dump.specs.declared.record.DumpReset.{DumpReset}
 use Rattle.nosy_dump.specs.declared.record.DumpFault.{DumpFault}
 use Rattle.nosy_dump.specs.declared.record.DumpFault.TheVariants.{Cut, BadLength}
@@ -139,6 +139,7 @@ one_parting rs qs x y f g sized all ends too is =
 same_judged : (form : LogForm) (n : ℕ) (before : Option Tree) (r : DumpReset) (a b : List ℕ) (h g : Option Tree) →
     IsJudged form n before r a h → IsJudged form n before r b g → (a ≡ b) × (h ≡ g)
 same_judged (Text standard) n before r a b h g x y = same_list standard Core (head n r) r.list before a b h g x y
+same_judged (Short standard) n before r a b h g x y = same_short standard Core (head n r) r.list a b h g x y
 same_judged (Json standard) n before r a b h g x y =
     let same = same_told standard Core r.list x.members y.members h g x.told y.told in
     (x.text_is ∙ ap (λ (m : Members). json_line (reset_value n r m)) same.0 ∙ sym y.text_is, same.1)

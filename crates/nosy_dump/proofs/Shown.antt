@@ -4,9 +4,9 @@ use Rattle.std.specs.Prelude.{◌==◌}
 use Rattle.std.proofs.lemmas.Bool.Decides.{nat_tests}
 use Rattle.self_id.specs.declared.standard.Standard.{Standard}
 use Rattle.log_line.specs.declared.line.Origin.TheVariants.{Core}
-use Rattle.reset_list.specs.Shown.{IsListShown}
+use Rattle.reset_list.specs.Shown.{IsListShown, IsListShort}
 use Rattle.reset_list.specs.declared.form.LogForm.{LogForm}
-use Rattle.reset_list.specs.declared.form.LogForm.TheVariants.{Text}
+use Rattle.reset_list.specs.declared.form.LogForm.TheVariants.{Text, Short}
 use Rattle.topology_stack.specs.Tree.{Tree}
 use Rattle.nosy_dump.specs.declared.record.DumpReset.{DumpReset}
 use Rattle.nosy_dump.specs.Texts.{head}
@@ -55,3 +55,12 @@ pub in_text : (standard : Standard) (n : ℕ) (p : DumpReset) (front list text :
 in_text standard n p front list text before heard is_front is_list shown =
     subst (λ (l : List ℕ). IsListShown standard Core l p.list before text heard) is_front
     (subst (λ (l : List ℕ). IsListShown standard Core front l before text heard) is_list shown)
+
+-- in one line
+pub in_short : (standard : Standard) (n : ℕ) (p : DumpReset) (front list text : List ℕ)
+    (before heard : Option Tree) →
+    front ≡ head n p → list ≡ p.list → IsListShort standard Core front list text heard →
+    IsJudged (Short standard) n before p text heard
+in_short standard n p front list text before heard is_front is_list shown =
+    subst (λ (l : List ℕ). IsListShort standard Core l p.list text heard) is_front
+    (subst (λ (l : List ℕ). IsListShort standard Core front l text heard) is_list shown)

@@ -10,9 +10,9 @@ use Rattle.std.proofs.lemmas.Nat.{le_bytes_4}
 use Rattle.topology_stack.specs.Tree.{Tree}
 use Rattle.bus_json.specs.Text.{json_line}
 use Rattle.reset_list.specs.declared.form.LogForm.{LogForm}
-use Rattle.reset_list.specs.declared.form.LogForm.TheVariants.{Text, Json}
+use Rattle.reset_list.specs.declared.form.LogForm.TheVariants.{Text, Short, Json}
 use Rattle.log_line.specs.declared.line.Origin.TheVariants.{Core}
-use Rattle.reset_list.proofs.Lemmas.{Fit, some_list, some_told, told_some}
+use Rattle.reset_list.proofs.Lemmas.{Fit, some_list, some_short, some_told, told_some}
 use Rattle.nosy_dump.specs.declared.record.Record.{Record}
 use Rattle.nosy_dump.specs.declared.record.Record.TheVariants.{Reset, SelfId, Other}
 use Rattle.nosy_dump.specs.declared.record.DumpReset.{DumpReset}
@@ -169,6 +169,7 @@ resets_fit byte (r ∷ rs) fit = go (record_of r) (resets_fit (byte + (4 + lengt
 some_judged : (form : LogForm) (n : ℕ) (before : Option Tree) (r : DumpReset) → Fit r.list →
     (text : List ℕ) × (heard : Option Tree) × IsJudged form n before r text heard
 some_judged (Text standard) n before r fit = some_list standard Core (head n r) r.list before fit
+some_judged (Short standard) n before r fit = some_short standard Core (head n r) r.list
 some_judged (Json standard) n before r fit =
     let l = some_told standard Core r.list in
     (json_line (reset_value n r l.0), l.1, record { members = l.0; told = l.2; text_is = refl })

@@ -13,12 +13,12 @@ use Rattle.log_line.specs.declared.line.Origin.TheVariants.{Core}
 use Rattle.reset_list.specs.declared.counts.Counts.{Counts}
 use Rattle.reset_list.specs.declared.counts.Tally.{Tally}
 use Rattle.reset_list.specs.declared.form.LogForm.{LogForm}
-use Rattle.reset_list.specs.declared.form.LogForm.TheVariants.{Text, Json}
+use Rattle.reset_list.specs.declared.form.LogForm.TheVariants.{Text, Short, Json}
 use Rattle.reset_list.specs.Counts.{capped, counted}
 use Rattle.reset_list.specs.InOrder.{AreTold}
 use Rattle.reset_list.specs.Json.{IsListTold, told_refused, told_heard}
 use Rattle.reset_list.specs.Judged.{ListsAreHeardAsRead, ListsAreRefusedAsRead}
-use Rattle.reset_list.specs.Shown.{is_refused, is_heard}
+use Rattle.reset_list.specs.Shown.{is_refused, is_heard, short_refused, short_heard}
 use Rattle.reset_list.proofs.Lemmas.{Fit, all_fit, counted_in, how_many, how_many_count}
 use Rattle.nosy_dump.specs.declared.record.DumpReset.{DumpReset}
 use Rattle.nosy_dump.specs.Record.{record_bytes, dump_of}
@@ -122,6 +122,12 @@ module _ (heard : ListsAreHeardAsRead) (unheard : ListsAreRefusedAsRead) where
       (record { verdict = (unheard standard Core r.list f (all_fit r.list fit)).0 un; shown = shown }) refl none bad_is next_is refl refl refl refl
   judged_step (Text standard) number n r text bad next h fit (is_heard t so shown some) bad_is next_is =
       step_of (Text standard) number n r text bad next h (Some t) (record { verdict = spelt t; text = text })
+      (record { verdict = (heard standard Core r.list t (all_fit r.list fit)).0 so; shown = shown }) refl some bad_is next_is refl refl refl refl
+  judged_step (Short standard) number n r text bad next h fit (short_refused f un shown none) bad_is next_is =
+      step_of (Short standard) number n r text bad next h None (record { verdict = refused f; text = text })
+      (record { verdict = (unheard standard Core r.list f (all_fit r.list fit)).0 un; shown = shown }) refl none bad_is next_is refl refl refl refl
+  judged_step (Short standard) number n r text bad next h fit (short_heard t so shown some) bad_is next_is =
+      step_of (Short standard) number n r text bad next h (Some t) (record { verdict = spelt t; text = text })
       (record { verdict = (heard standard Core r.list t (all_fit r.list fit)).0 so; shown = shown }) refl some bad_is next_is refl refl refl refl
   judged_step (Json standard) number n r text bad next h fit x bad_is next_is =
       told_step standard number n r text bad next x.members h fit x.text_is x.told bad_is next_is

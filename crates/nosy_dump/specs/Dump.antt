@@ -2,11 +2,11 @@
 use Rattle.std.specs.Prelude.{◌≡◌, ℕ, ◌-◌, ◌||◌, Bool, is_some, is_none, Option, List, ◌++◌, length, take}
 use Rattle.std.specs.Io.KnownBytes.{Appends}
 use Rattle.reset_list.specs.declared.form.LogForm.{LogForm}
-use Rattle.reset_list.specs.declared.form.LogForm.TheVariants.{Text, Json}
+use Rattle.reset_list.specs.declared.form.LogForm.TheVariants.{Text, Short, Json}
 use Rattle.topology_stack.specs.Tree.{Tree}
 use Rattle.log_line.specs.declared.line.Origin.TheVariants.{Core}
 use Rattle.reset_list.specs.InOrder.{AreTold}
-use Rattle.reset_list.specs.Shown.{IsListShown}
+use Rattle.reset_list.specs.Shown.{IsListShown, IsListShort}
 use Rattle.nosy_dump.specs.declared.record.DumpReset.{DumpReset}
 use Rattle.nosy_dump.specs.declared.record.DumpFault.{DumpFault}
 use Rattle.nosy_dump.specs.Record.{dump_of, AreSized, IsOpen, EndsSo}
@@ -15,19 +15,22 @@ use Rattle.nosy_dump.specs.Noted.{Noted, nothing, after}
 use Rattle.nosy_dump.specs.Texts.{head, end_text}
 use Rattle.nosy_dump.specs.Json.{IsResetTold, end_lines}
 
--- ---- in a form: as text, or as lines of JSON
+-- ---- in a form: as text, as one line for each reset, or as lines of JSON
 
 -- what is shown of the reset with this number, and the tree that its list is heard as, if it is
 abbrev pub IsJudged :
     LogForm → ℕ → Option Tree → DumpReset → List ℕ → Option Tree → Type 0
 IsJudged (Text standard) number before r text heard =
     IsListShown standard Core (head number r) r.list before text heard
+IsJudged (Short standard) number before r text heard =
+    IsListShort standard Core (head number r) r.list text heard
 IsJudged (Json standard) number before r text heard =
     IsResetTold standard number r text heard
 
 -- what is shown behind the last reset
 abbrev pub last_text : LogForm → ℕ → Option DumpFault → Noted → List ℕ
 last_text (Text standard) byte fault n = end_text byte fault n
+last_text (Short standard) byte fault n = end_text byte fault n
 last_text (Json standard) byte fault n = end_lines byte fault n
 
 -- ---- a dump

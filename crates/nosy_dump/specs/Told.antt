@@ -11,12 +11,13 @@ use Rattle.capture_reading.specs.Capture.{Spells, CaptureRefused}
 use Rattle.log_line.specs.declared.line.Origin.TheVariants.{Core}
 use Rattle.reset_list.specs.declared.counts.Tally.{Tally}
 use Rattle.reset_list.specs.declared.form.LogForm.{LogForm}
-use Rattle.reset_list.specs.declared.form.LogForm.TheVariants.{Text, Json}
+use Rattle.reset_list.specs.declared.form.LogForm.TheVariants.{Text, Short, Json}
 use Rattle.reset_list.specs.Counts.{capped, tallied}
 use Rattle.reset_list.specs.Form.{standard_of}
 use Rattle.reset_list.specs.Json.{list_fault}
 use Rattle.reset_list.specs.Sentence.{IsRefusalShown}
 use Rattle.reset_list.specs.Shown.{IsTreeShown}
+use Rattle.reset_list.specs.Texts.{numbers, refused as refused_lines}
 use Rattle.nosy_dump.specs.declared.record.DumpReset.{DumpReset}
 use Rattle.nosy_dump.specs.declared.record.DumpFault.{DumpFault}
 use Rattle.nosy_dump.specs.Record.{dump_of, AreSized, EndsSo}
@@ -44,12 +45,14 @@ IsVerdict standard r (refused f) = CaptureRefused standard (capture r.list) f
 
 abbrev pub IsSpeltText : LogForm → ℕ → Option Tree → DumpReset → Tree → List ℕ → Type 0
 IsSpeltText (Text standard) number before r t text = IsTreeShown (head number r) before t text
+IsSpeltText (Short standard) number before r t text = text ≡ head number r ++ numbers t
 IsSpeltText (Json standard) number before r t text =
     text ≡ json_line (reset_value number r (tree_members [] t))
 
 abbrev pub IsRefusedText : LogForm → ℕ → DumpReset → CaptureFault → List ℕ → Type 0
 IsRefusedText (Text standard) number r f text =
     IsRefusalShown standard Core (head number r) r.list f text
+IsRefusedText (Short standard) number r f text = text ≡ refused_lines (head number r) f
 IsRefusedText (Json standard) number r f text =
     text ≡ json_line (reset_value number r (list_fault f))
 

@@ -21,7 +21,7 @@ use crate::values::{end_lines, reset_line};
 use io_edges::{Sink, Source, write_whole};
 use log_line::Origin;
 use quad_lanes::QuadList;
-use reset_list::{ListShown, LogForm, LogStop, MAX_LOG, show_list};
+use reset_list::{ListShown, LogForm, LogStop, MAX_LOG, show_list, show_short};
 use std::alloc::{AllocError, Global};
 use topology_stack::BusTree;
 
@@ -93,6 +93,12 @@ fn show_judged(
             let shown = show_list(alloc, standard, Origin::Core, &head, before, list)?;
             Ok(shown)
         }
+        LogForm::Short(standard) => {
+            let head = head(alloc, number, reset)?;
+            let list = reset.list.as_slice();
+            let shown = show_short(alloc, standard, Origin::Core, &head, list)?;
+            Ok(shown)
+        }
         LogForm::Json(standard) => reset_line(alloc, standard, number, reset),
     }
 }
@@ -110,7 +116,7 @@ fn last_text(
     ensures json { IfOk result (λ text. AreAsJson form text.items) }
 {
     match form {
-        LogForm::Text(_) => end_text(alloc, byte, fault, notes),
+        LogForm::Text(_) | LogForm::Short(_) => end_text(alloc, byte, fault, notes),
         LogForm::Json(_) => end_lines(alloc, byte, fault, notes),
     }
 }

@@ -23,6 +23,7 @@ fn of_two(word: &str, option: &str) -> Option<LogForm>
 {
     match (word, option) {
         ("nosy", "--1995") => Some(LogForm::Text(Standard::Ieee1995)),
+        ("nosy", "--short") => Some(LogForm::Short(Standard::Ieee2000)),
         ("nosy", "--json") => Some(LogForm::Json(Standard::Ieee2000)),
         _ => None,
     }
@@ -34,6 +35,7 @@ fn of_three(word: &str, first: &str, second: &str) -> Option<LogForm>
         ↔ AreWordsBy form (word.now ∷ first.now ∷ second.now ∷ []) }
 {
     match (word, first, second) {
+        ("nosy", "--1995", "--short") => Some(LogForm::Short(Standard::Ieee1995)),
         ("nosy", "--1995", "--json") => Some(LogForm::Json(Standard::Ieee1995)),
         _ => None,
     }
