@@ -1,5 +1,7 @@
 """Resets one after the other, and what changed from one to the next: docs/VIEW-LOGS.md, 'resets'."""
 
+import re
+
 from .captures import manager_of, quadlets, read_capture
 from .diffs import far_end, tell
 from .json_lines import bus, line, refusal
@@ -63,8 +65,10 @@ def word(manager):
 class Log:
     """What was written of resets so far, and how many of them each node began."""
 
-    def __init__(self, as_json):
+    def __init__(self, as_json, short=False):
         self.as_json = as_json
+        self.short = short  # one line for each reset, and which ports lost the node that hung on them
+        self.lost = {}
         self.out = []
         self.status = self.resets = self.refused = 0
         self.began = {}
@@ -80,16 +84,32 @@ class Log:
             self.refused += 1
             self.status = 1
             text = f"{words}\n{fault.line()}Found {sentence(fault, quadlets(data))}"
+            if self.short:
+                text = f"{words}\n{fault.line()}"[:-1]
             self.write(text, dict(members, refused=refusal(fault)))
             return None
         starters = [node["id"] for node in nodes if node["initiated"]]
         for node in starters:
             self.began[card, node] = self.began.get((card, node), 0) + 1
         text = f"{words} nodes {len(nodes)} root {len(nodes) - 1} irm {word(manager_of(nodes))}\n"
-        if not self.as_json:
+        if self.short:
+            self.lose(old, nodes, card)
+        elif not self.as_json:
             text += compared(old, nodes) + "".join(f"node {node} initiated\n" for node in starters)
         self.write(text[:-1], dict(members, **bus(nodes)))
         return nodes
+
+    def lose(self, old, nodes, card):
+        """Counts the ports that lost the node which hung on them, by the words of what changed."""
+        changes = "" if old is None else tell(old, nodes, same_nodes(old, nodes), by_new=True)
+        for port, node in re.findall(r"(?:went from|left|moved from) port (\d+) of node (\d+) on", changes):
+            self.lost[card, port, node] = self.lost.get((card, port, node), 0) + 1
+
+    def losses(self):
+        """A line for each port that lost the node which hung on it, in the order of the first losses."""
+        for (card, port, node), count in self.lost.items():
+            reached["port lost its child"] += 1
+            self.write(f"card {card} port {port} of node {node} lost its child: {count} times", {})
 
     def total(self, cards=None):
         """The last line, with a number of cards if there are any."""

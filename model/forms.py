@@ -73,7 +73,8 @@ def form_of(words):
     files = rest[1:] if standard == 1995 else rest
     if first in LOGS:
         as_json = files[:1] == ["--json"]
-        return without_files(files[as_json:], lambda data: LOGS[first](data, standard, as_json))
+        short = files[:1] == ["--short"]
+        return without_files(files[as_json or short :], lambda data: LOGS[first](data, standard, as_json, short))
     if first in READERS_BY_STANDARD:
         return without_files(files, lambda data: READERS_BY_STANDARD[first](data, standard))
     return without_files(rest, READERS[first]) if first in READERS else None

@@ -47,8 +47,8 @@ def resets(data):
     return found, None
 
 
-def nosy(data, standard, as_json):
-    log = Log(as_json)
+def nosy(data, standard, as_json, short=False):
+    log = Log(as_json, short)
     found, fault = resets(data)
     last = None
     for at, time, quads in found:

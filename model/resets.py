@@ -132,9 +132,9 @@ class Card:
 
 
 class Resets:
-    def __init__(self, standard, as_json):
+    def __init__(self, standard, as_json, short):
         self.standard = standard
-        self.log = Log(as_json)
+        self.log = Log(as_json, short)
         self.cards = {}
         self.open = {}  # by card, the reset of the driver's log whose packets come now
 
@@ -249,6 +249,7 @@ class Resets:
             self.reset(reset, write_pairs(reset["list"]), reset["count"] - len(reset["list"]))
 
     def end(self):
+        self.log.losses()
         for _, reset in sorted(self.open.items()):
             lacks = reset["count"] - len(reset["list"])
             words = " ".join(f"{key} {reset[key]}" for key in ("line", "card", "generation"))
@@ -273,8 +274,8 @@ def head(reset, time, after, missing):
     return words, members
 
 
-def resets(data, standard, as_json):
-    shown = Resets(standard, as_json)
+def resets(data, standard, as_json, short=False):
+    shown = Resets(standard, as_json, short)
     lines = data.split(b"\n")
     for number, line in enumerate(lines[:-1] if lines[-1] == b"" else lines, 1):
         shown.take(number, line[:LONGEST_LINE].decode("latin-1"))

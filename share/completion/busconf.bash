@@ -12,7 +12,8 @@ _busconf() {
   busview:tree* | busview:dot | busview:dot\ *) words="--1995 --names" files=yes ;;
   busview:packets* | busview:json | busview:json\ *) words="--1995" files=yes ;;
   busview:explain | busview:explain\ *) words="--json" files=yes ;;
-  busview:resets* | busview:nosy* | busview:diff*) words="--1995 --json" files=yes ;;
+  busview:resets* | busview:nosy*) words="--1995 --short --json" files=yes ;;
+  busview:diff*) words="--1995 --json" files=yes ;;
   *) files=yes ;;
   esac
   # An option that is given isn't offered again.

@@ -18,7 +18,9 @@ function __busview_words
                     set options --1995
                 case explain 'explain *'
                     set options --json
-                case 'resets*' 'nosy*' 'diff*'
+                case 'resets*' 'nosy*'
+                    set options --1995 --short --json
+                case 'diff*'
                     set options --1995 --json
             end
             # An option that is given isn't offered again.
