@@ -200,7 +200,7 @@ fn is_anew(known: &Known, reset: &Reset) -> bool
 }
 
 /// Whether a reset is the card's last one by its other event.
-pub(crate) fn is_second(before: Option<&Known>, reset: &Reset) -> bool
+pub fn is_second(before: Option<&Known>, reset: &Reset) -> bool
     ensures { result ≡ is_second (option_copied before.entry) reset.now }
 {
     match before {
@@ -214,7 +214,7 @@ pub(crate) fn is_second(before: Option<&Known>, reset: &Reset) -> bool
 }
 
 /// Whether a reset is the card's last one by its other event, and that one was heard.
-pub(crate) fn is_repeated(before: Option<&Known>, reset: &Reset) -> bool
+pub fn is_repeated(before: Option<&Known>, reset: &Reset) -> bool
     ensures { result ≡ is_repeated (option_copied before.entry) reset.now }
 {
     match before {

@@ -14,7 +14,7 @@ mod notes;
 mod shown;
 mod values;
 
-pub use cards::Known;
+pub use cards::{Known, is_repeated, is_second};
 pub use form::resets_form;
 pub use laws::logs_have_one_text;
 pub use log::show_log;

@@ -1,0 +1,5 @@
+pub mod Reset
+pub mod Import
+pub mod Form
+pub mod Status
+pub mod codings
