@@ -4,6 +4,8 @@ Files behind the words aren't read here: all input is on standard input. Two kin
 sentence below the line that refuses a script, and what the bytes of a refused capture look like.
 """
 
+import re
+
 from .advice import advice
 from .captures import MAX_NODES, read
 from .dot import dot, dot_run
@@ -14,7 +16,7 @@ from .maps import maps
 from .nosy import nosy
 from .packets import ListFault
 from .reach import reached
-from .resets import resets
+from .resets import import_reset, resets
 from .rom import RomFault, rom
 from .run import ScriptFault, run
 from .scripts import name, number
@@ -75,6 +77,12 @@ def form_of(words):
         as_json = files[:1] == ["--json"]
         short = files[:1] == ["--short"]
         return without_files(files[as_json or short :], lambda data: LOGS[first](data, standard, as_json, short))
+    option = rest[0] if rest else ""
+    if first == "import" and option.startswith("--reset="):
+        wanted = option.removeprefix("--reset=")
+        if not re.fullmatch("[0-9]{1,10}", wanted) or not 1 <= int(wanted) < 1 << 32:
+            return None
+        return without_files(rest[1:], lambda data: import_reset(data, int(wanted)))
     if first in READERS_BY_STANDARD:
         return without_files(files, lambda data: READERS_BY_STANDARD[first](data, standard))
     return without_files(rest, READERS[first]) if first in READERS else None
@@ -128,7 +136,8 @@ def answer(words, data, program=None):
         data = b""
     elif callable(data):
         data = data()
-    if len(data) > MAX_INPUT and words[0] not in LOGS:
+    of_log = words[0] in LOGS or words[0] == "import" and len(words) > 1 and words[1].startswith("--reset=")
+    if len(data) > MAX_INPUT and not of_log:
         return 6, b""
     try:
         output = form(data)

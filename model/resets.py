@@ -137,6 +137,7 @@ class Resets:
         self.log = Log(as_json, short)
         self.cards = {}
         self.open = {}  # by card, the reset of the driver's log whose packets come now
+        self.counted = []  # of each reset that was counted its line, its capture if it was judged, and what it lacks
 
     def take(self, number, text):
         """Takes a line of the log."""
@@ -200,6 +201,8 @@ class Resets:
             after = time - card.time
         words, members = head(reset, time, after, missing)
         self.log.resets += not second
+        if not second:
+            self.counted.append((reset["line"], data, lacks))
         nodes = None
         if data is None:
             self.log.write(f"{words} is_error, not judged", dict(members, is_error=True))
@@ -274,10 +277,29 @@ def head(reset, time, after, missing):
     return words, members
 
 
-def resets(data, standard, as_json, short=False):
+def taken(data, standard, as_json, short=False):
+    """All lines of a log, taken."""
     shown = Resets(standard, as_json, short)
     lines = data.split(b"\n")
     for number, line in enumerate(lines[:-1] if lines[-1] == b"" else lines, 1):
         shown.take(number, line[:LONGEST_LINE].decode("latin-1"))
-    status, text = shown.end()
+    return shown
+
+
+def resets(data, standard, as_json, short=False):
+    status, text = taken(data, standard, as_json, short).end()
     return status, text.encode("latin-1")
+
+
+def import_reset(data, wanted):
+    """The capture of the reset with this number, or the status and the line of its refusal."""
+    counted = taken(data, 2000, False).counted
+    if wanted > len(counted):
+        reached["import of a reset past the last"] += 1
+        return 1, f"refused reset {wanted} TooFew found {len(counted)}\n"
+    line, capture, lacks = counted[wanted - 1]
+    if capture is None or lacks:
+        reached["import of a reset that isn't judged"] += 1
+        return 1, f"refused line {line} " + (f"PacketsMissing {lacks}\n" if lacks else "IsError\n")
+    reached["import of a reset"] += 1
+    return capture

@@ -14,6 +14,7 @@ _busconf() {
   busview:explain | busview:explain\ *) words="--json" files=yes ;;
   busview:resets* | busview:nosy*) words="--1995 --short --json" files=yes ;;
   busview:diff*) words="--1995 --json" files=yes ;;
+  busview:import) words="--reset=" files=yes ;;
   *) files=yes ;;
   esac
   # An option that is given isn't offered again.
@@ -24,6 +25,8 @@ _busconf() {
   COMPREPLY=()
   if [ "$files" = no ] || [ "${word:0:1}" = - ]; then
     mapfile -t COMPREPLY < <(compgen -W "$words" -- "$word")
+    # A number comes right behind it.
+    if [[ ${COMPREPLY[0]-} == *= ]]; then compopt -o nospace; fi
   else
     # Names of files as bash completes them where nothing else is known.
     compopt -o default

@@ -22,6 +22,8 @@ function __busview_words
                     set options --1995 --short --json
                 case 'diff*'
                     set options --1995 --json
+                case import
+                    set options --reset=
             end
             # An option that is given isn't offered again.
             for option in $options

@@ -120,7 +120,8 @@ judge_words() {
     elif [ "$ended$word" = no-- ]; then
       ended=yes
     elif [ "$ended" = no ] && [ "${word:0:1}" = - ] && [ "$word" != - ]; then
-      [[ $options == *" $word "* ]] || { files=(); return; }
+      # An option with a value stands in the list with K.
+      [[ $options == *" ${word/=*/=K} "* ]] || { files=(); return; }
     elif [ "$own" -gt 0 ]; then
       own=$((own - 1))
     elif [ "$word" = - ]; then

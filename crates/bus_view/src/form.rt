@@ -181,4 +181,4 @@ pub const VIEW_USAGE: &str = "usage: busview packets [--1995] [CAPTURE ..]\n    
     busview script N SEED\n       busview flawed KIND N SEED [--1995]\n       \
     busview resets [--1995] [--short] [--json] [LOG ..]\n       \
     busview nosy [--1995] [--short] [--json] [DUMP ..]\n       \
-    busview diff [--1995] [--json] OLD NEW\n       busview import [INPUT]";
+    busview diff [--1995] [--json] OLD NEW\n       busview import [--reset=K] [INPUT]";

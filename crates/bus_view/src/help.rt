@@ -36,6 +36,7 @@ With --1995, which packets, tree, dot, json, resets, nosy, diff and flawed take,
 self-ID packets are read by IEEE Std 1394-1995: up to 27 ports a node. With
 --json, which explain, resets, nosy and diff take, the answer is lines of JSON.
 With --short, which resets and nosy take, each reset has one line.
+With --reset=K, import takes reset K, from 1, of a log as resets counts them.
 Options may come anywhere after the command; -- ends them.
 
 A capture is the self-ID packets of one bus reset, each as a big-endian quadlet

@@ -29,6 +29,11 @@ const OF_EXPLAIN: &str = "\
 --json  writes a line of JSON for each fault
 ";
 
+/// The option of `import`.
+const OF_IMPORT: &str = "\
+--reset=K  takes reset number K, from 1, of a log that resets would show
+";
+
 /// The options of a command.
 pub(crate) fn options_of(command: &str) -> &'static str {
     match command {
@@ -36,6 +41,7 @@ pub(crate) fn options_of(command: &str) -> &'static str {
         "tree" | "dot" => OF_TREE,
         "diff" => OF_DIFF,
         "explain" => OF_EXPLAIN,
+        "import" => OF_IMPORT,
         "resets" | "nosy" => OF_RESETS,
         _ => "",
     }

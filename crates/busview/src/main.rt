@@ -6,6 +6,7 @@ mod flawed;
 mod help;
 mod import;
 mod named;
+mod reset;
 mod say;
 mod words;
 
@@ -18,11 +19,13 @@ use flawed::flawed;
 use flawed_form::FlawedForm;
 use import::import;
 use io_edges::{ReadSource, WriteSink};
+use log_import::reset_asked;
 use named::named;
 use named_form::{NamedForm, named_form};
 use program_edges::{
     Call, FileCount, FileLines, FrontSink, FrontSource, PipeWriter, Program, WordsFault, run,
 };
+use reset::reset;
 use reset_list::LogForm;
 use say::{explain, say_hints};
 use std::io::{Read, Write};
@@ -42,6 +45,9 @@ enum Form {
     /// `import`: the capture of what isn't one. Its answer is a capture and what the input was taken for, so it stands
     /// beside the top call.
     Import,
+    /// `import --reset=K`: the capture of the reset with this number in a log, from 1. It stands beside the top call for
+    /// the same reason.
+    Reset(u64),
 }
 
 struct Busview;
@@ -142,6 +148,9 @@ impl Program for Busview {
         if asks_import(words) {
             return Some(Form::Import);
         }
+        if let Some(number) = reset_asked(words) {
+            return Some(Form::Reset(u64::from(number)));
+        }
         Some(Form::View(ViewForm::of_words(words)?))
     }
 
@@ -157,14 +166,14 @@ impl Program for Busview {
             ) => FileCount::Many,
             Form::Diff(_) => FileCount::Two,
             Form::Named(_) => FileCount::Named,
-            Form::View(_) | Form::Import => FileCount::One,
+            Form::View(_) | Form::Import | Form::Reset(_) => FileCount::One,
         }
     }
 
     fn writes_bytes(form: &Form) -> bool {
         matches!(
             form,
-            Form::Flawed(_) | Form::Import | Form::View(ViewForm::ListOf(_))
+            Form::Flawed(_) | Form::Import | Form::Reset(_) | Form::View(ViewForm::ListOf(_))
         )
     }
 
@@ -192,6 +201,7 @@ impl Program for Busview {
             Form::View(form) => view(rt, call.words, form, call.files.len(), name, input),
             Form::Flawed(form) => flawed(rt, *form),
             Form::Import => import(rt, name, input),
+            Form::Reset(number) => reset(rt, *number, name, input),
             // A call with other than two files isn't answered.
             Form::Diff(_) | Form::Named(_) => NO_FORM,
         }
