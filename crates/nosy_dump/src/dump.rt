@@ -116,7 +116,8 @@ fn last_text(
     ensures json { IfOk result (λ text. AreAsJson form text.items) }
 {
     match form {
-        LogForm::Text(_) | LogForm::Short(_) => end_text(alloc, byte, fault, notes),
+        LogForm::Text(_) => end_text(alloc, byte, fault, notes),
+        LogForm::Short(_) => end_text(alloc, byte, fault, notes),
         LogForm::Json(_) => end_lines(alloc, byte, fault, notes),
     }
 }
