@@ -1,9 +1,12 @@
 -- A log as its reader goes over it, to the end.
-use Rattle.std.proofs.Common.{◌≡◌, ◌∙◌, ℕ, zero, suc, ◌+◌, ◌-◌, ◌<◌, ◌≤◌, ◌==◌, Bool, true, false, ◌||◌, Option, List, [], ◌∷◌, ◌++◌, length, take, refl, sym, ap, subst, append-nil, length-append, arith}
+use Rattle.std.proofs.Common.{◌≡◌, ◌↔◌, ◌∙◌, Some, None, Result, Err, ℕ, zero, suc, ◌+◌, ◌-◌, ◌<◌, ◌≤◌, ◌==◌, Bool, true, false, ◌||◌, Option, List, [], ◌∷◌, ◌++◌, length, take, refl, sym, ap, subst, append-nil, length-append, arith}
 use Rattle.std.proofs.lemmas.Bool.Decides.{nat_tests}
 use Rattle.std.specs.Io.KnownBytes.{Consumes}
-use Rattle.io_edges.specs.Told.{StayTold}
+use Rattle.io_edges.specs.Told.{StayTold, IfTold, TookOver}
 use Rattle.reset_list.specs.declared.form.LogForm.{LogForm}
+use Rattle.reset_list.specs.declared.stop.LogStop.{LogStop}
+use Rattle.reset_list.specs.declared.stop.LogStop.TheVariants.{ReadFault, WriteFault, TooLong, Memory}
+use Rattle.reset_list.specs.Cause.{StoppedWriting}
 use Rattle.reset_log.specs.declared.log.LogReader.{LogReader}
 use Rattle.reset_log.specs.Shown.{IsLineShown, totals_text}
 use Rattle.reset_log.specs.Log.{parted, open_lines, lines_of, AreLinesShown}
@@ -142,3 +145,28 @@ less_room r s form first now was is will a b piece h some fits taken =
     let room : length h.done + length piece ≤ 9223372036854775807 = omega (arith, h.stands.holds.taken_is, fits, h.small) in
     let on = taken h.done was room h.stands in
     omega (arith, on.holds.taken_is, h.stands.holds.taken_is, length-append h.done piece, some, fits)
+
+-- ---- a writer that stopped
+
+not_long : {A : Type 0} (stop : LogStop) (a b : ℕ) → StoppedWriting a b stop →
+    (◌≡◌ {A = Result A LogStop} (Err stop) (Err TooLong)) → ⊥
+not_long ReadFault a b s e = s
+not_long WriteFault a b s e = absurd cc
+not_long TooLong a b s e = s
+not_long (Memory error) a b s e = absurd cc
+
+not_over : (old new done : List ℕ) → old ≡ done ++ new → length done ≤ 9223372036854775807 →
+    TookOver 9223372036854775807 old new → ⊥
+not_over old new done e few over =
+    let size : length old ≡ length done + length new = ap (λ (l : List ℕ). length l) e ∙ length-append done new in
+    omega (arith, size, few, over)
+
+-- a writer doesn't stop since the log is too long, and no more was taken of the log than may be
+pub not_too_long : (A : Type 0) (stop : LogStop) (first next : Option (List ℕ)) (done : List ℕ) (a b : ℕ) →
+    StoppedWriting a b stop → Consumes first next done → length done ≤ 9223372036854775807 →
+    IfTold first next (λ old new.
+    (◌≡◌ {A = Result A LogStop} (Err stop) (Err TooLong)) ↔ TookOver 9223372036854775807 old new)
+not_too_long A stop None next done a b s came few = tt
+not_too_long A stop (Some old) None done a b s came few = tt
+not_too_long A stop (Some old) (Some new) done a b s came few =
+    ((λ e. absurd (not_long stop a b s e)), (λ over. absurd (not_over old new done came few over)))

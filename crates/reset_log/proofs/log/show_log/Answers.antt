@@ -1,9 +1,10 @@
-use Rattle.std.proofs.Common.{◌≡◌, ◌-◌, ◌<◌, ◌≤◌, ℕ, Option, List, Bool, [], length, take, sym, subst, arith}
+use Rattle.std.proofs.Common.{◌≡◌, ◌-◌, ◌<◌, ◌≤◌, ◌++◌, ℕ, Option, List, Bool, [], length, take, sym, subst, arith, length-append}
+use Rattle.std.proofs.lemmas.Result.{err_from_is_err_and}
 use Rattle.std.specs.Io.KnownBytes.{Consumes, IsAtEnd}
 use Rattle.reset_list.specs.declared.form.LogForm.{LogForm}
 use Rattle.reset_log.specs.Log.{lines_of, IsLogShown}
-use Rattle.reset_list.proofs.Lemmas.{is_front, is_sure}
-use Rattle.reset_log.proofs.Reading.{at_first, reads_on, less_room}
+use Rattle.reset_list.proofs.Lemmas.{is_front, is_sure, consumes_then}
+use Rattle.reset_log.proofs.Reading.{at_first, reads_on, less_room, not_too_long}
 use Rattle.reset_log.proofs.Fronts.{front_left, front_piece, front_end, shown_end, exact_end, complete_end}
 use Rattle.reset_log.proofs.InJson.{written_none, written_next, all_written}
 use Rattle.reset_log.proofs.log.show_log.Goals as goal
@@ -76,6 +77,18 @@ returns-then-count-saturating_sub-clause-sure g c =
     c.loop-count.sink
     (front_left c.loop-count.reader c.args.form _ (g.S.Source.left c.loop-count.source)
     c.args.sink.now c.loop-count.sink _ _ c.loop-count.invariant.0)
+
+pub returns-in_err-take-clause-long : goal.returns-in_err-take-clause-long
+returns-in_err-take-clause-long g c =
+    let p = err_from_is_err_and c.from_residual.result c.from_residual.ensures.1 in
+    let piece = take c.in-Ok.count c.read.new.buf in
+    let size : length piece ≡ c.in-Ok.count = sym c.in-Ok.ensures.bound.1 in
+    let fits : length piece ≤ 9223372036854775807 - c.loop-count.reader.taken =
+    omega (arith, size, c.if-count-saturating_sub.false, c.saturating_sub.ensures) in
+    let log = c.loop-count.invariant.0 in
+    rw (p.1, p.2) (not_too_long Bool c.in_err-take.field-0.0 _ _ (log.done ++ piece) _ _ c.in_err-take.ensures.stops
+    (consumes_then _ _ _ log.done piece log.told log.came c.in-Ok.ensures.bytes.0)
+    (omega (arith, length-append log.done piece, fits, log.stands.holds.taken_is, log.small)))
 
 pub returns-in_err-take-clause-part : goal.returns-in_err-take-clause-part
 returns-in_err-take-clause-part g c = λ _.
