@@ -3,8 +3,22 @@
 // isn't of that form. A list has a name, its pairs of quadlets, and how many bytes are left behind the last whole pair.
 // The second quadlet of a pair is null where the form shows packets without their inverses.
 
-// `inverses` says how quadlets stand where the form doesn't: "pairs", "alone", or "found", as they look.
+// `inverses` says how quadlets stand where the form doesn't: "pairs", "alone", or "found", as they look. What doesn't look
+// like packets then is read as `busview import` reads it, if it does.
 function readText(text, inverses) {
+  return orImported(formsOfText(text, inverses), new TextEncoder().encode(text), inverses);
+}
+
+function readBytes(bytes, inverses) {
+  return orImported(formsOfBytes(bytes, inverses), bytes, inverses);
+}
+
+function orImported(read, bytes, inverses) {
+  const looksSo = read.lists?.every((list) => list.pairs.every((pair) => pair.first >>> 30 === 2));
+  return (inverses === "found" && !looksSo && importList(bytes)) || read;
+}
+
+function formsOfText(text, inverses) {
   const plain = text.replace(/^\uFEFF/, "");
   for (const [name, read] of TEXT_FORMS) {
     const lists = read(plain, inverses);
@@ -13,9 +27,9 @@ function readText(text, inverses) {
   return { error: "This text isn't in a form that this page reads." };
 }
 
-function readBytes(bytes, inverses) {
+function formsOfBytes(bytes, inverses) {
   const text = textOf(bytes);
-  if (text !== null) return readText(text, inverses);
+  if (text !== null) return formsOfText(text, inverses);
   if (beginsTurned(bytes, 0)) return turned(bytes, 0, "a capture with the bytes of its quadlets turned round");
   if (beginsTurned(bytes, 4)) return turned(bytes, 4, "the self-ID buffer of an OHCI controller");
   return { form: "bytes", lists: [listOfBytes("", bytes, inverses)] };

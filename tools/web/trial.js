@@ -226,6 +226,13 @@ async function trySizes() {
   expect("90,001 numbers", "the verdict", verdict().split(" ")[0], "refused");
 }
 
+// What `busview import` reads as a capture is read as the same packets here.
+function tryImport({ name, hex: digits, wanted }) {
+  const pairs = readBytes(toBytes(digits), "found").lists.at(-1).pairs;
+  const quadlets = pairs.flatMap(({ first, second }) => [first, second ?? ~first >>> 0]);
+  expect(name, "the packets", hexOf(bytesOf(quadlets)), wanted);
+}
+
 // A file that can't be read, one that comes late, and an error of the page itself.
 async function tryFaults() {
   showExample("hub");
@@ -274,6 +281,7 @@ async function runTrial() {
     tryLists();
     tryOther();
     TREES.forEach(tryTree);
+    IMPORTS.forEach(tryImport);
     tryDrawing();
     tryKinds();
     await tryDrop();
@@ -286,7 +294,7 @@ async function runTrial() {
   const told = document.createElement("pre");
   told.id = "trial";
   const passed = `passed: ${READ.length} captures as digits and as bytes (${seen.alone ?? 0} once it is said that they are `
-    + `pairs), ${PACKETS.length} packet by packet, ${TREES.length} drawings, ${seen.kinds} kinds of faults, ${seen.forms} texts, resets, examples, files, sizes, faults and letters`;
+    + `pairs), ${PACKETS.length} packet by packet, ${TREES.length} drawings, ${IMPORTS.length} imports, ${seen.kinds} kinds of faults, ${seen.forms} texts, resets, examples, files, sizes, faults and letters`;
   told.textContent = failed.length > 0 ? failed.slice(0, 20).join("\n") : passed;
   document.body.append(told);
 }

@@ -40,9 +40,19 @@ def cases_of(folder):
     for answer in sorted(glob.glob(os.path.join(TOP, "cases", folder, "*.stdout"))):
         path = answer[: -len(".stdout")]
         words = data_of(path + ".args").decode().split() if os.path.exists(path + ".args") else []
+        if "--names" in words:
+            continue
         year = 1995 if folder.endswith("95") or "--1995" in words else 2000
         name, wanted = os.path.relpath(path, TOP), data_of(answer).decode()
         yield {"name": name, "hex": data_of(path).hex(), "year": year, "wanted": wanted}
+
+
+def imports():
+    """What `import` reads, in hexadecimal digits, with the captures that it writes."""
+    for answer in sorted(glob.glob(os.path.join(TOP, "cases", "busview", "import", "*.stdout"))):
+        path, wanted = answer[: -len(".stdout")], data_of(answer)
+        if not os.path.exists(path + ".args") and not wanted.startswith(b"refused "):
+            yield {"name": os.path.relpath(path, TOP), "hex": data_of(path).hex(), "wanted": wanted.hex()}
 
 
 def texts():
@@ -56,7 +66,8 @@ def texts():
 def lay_trial(folder):
     """Lays a copy of the page beside it that runs trial.js over the cases."""
     read = [*cases_of("busconf/read"), *cases_of("busconf/read95")]
-    made = {"READ": read, "PACKETS": list(cases_of("busview/packets")), "TREES": list(cases_of("busview/tree")), "TEXTS": texts()}
+    made = {"READ": read, "PACKETS": list(cases_of("busview/packets")), "TREES": list(cases_of("busview/tree"))}
+    made |= {"IMPORTS": list(imports()), "TEXTS": texts()}
     with open(os.path.join(folder, "trial-cases.js"), "w", encoding="utf-8") as file:
         file.writelines(f"const {name} = {json.dumps(value)};\n" for name, value in made.items())
     shutil.copy(os.path.join(TOP, "tools", "web", "trial.js"), folder)
