@@ -11,3 +11,6 @@ mod Bare
 mod Changed
 mod Turned
 mod Tried
+mod Seeded
+mod Filled
+mod Grown

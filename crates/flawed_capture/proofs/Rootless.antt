@@ -37,7 +37,7 @@ at_most_one k j zero few e = inl (omega (arith, e))
 at_most_one k j (suc zero) few e = inr (omega (arith, e))
 at_most_one k j (suc (suc d)) few e = absurd (omega (arith, few))
 
-of-snoc : (standard : Standard) (ns : List Node) (n : Node) → AreOf standard ns → IsOf standard n → AreOf standard (ns ++ n ∷ [])
+pub of-snoc : (standard : Standard) (ns : List Node) (n : Node) → AreOf standard ns → IsOf standard n → AreOf standard (ns ++ n ∷ [])
 of-snoc standard [] n of is_of = (is_of, tt)
 of-snoc standard (m ∷ ns) n of is_of = (of.0, of-snoc standard ns n of.1 is_of)
 

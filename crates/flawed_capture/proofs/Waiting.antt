@@ -1,5 +1,5 @@
 -- The trees below the root of a bus, and the trees that wait if the root gets a parent.
-use Rattle.std.proofs.Common.{◌≡◌, ◌⊎◌, inl, inr, ◌+◌, List, [], ◌∷◌, ◌++◌, length, refl, sym, ap, subst, ◌∙◌, append_assoc, arith}
+use Rattle.std.proofs.Common.{◌≡◌, ◌≤◌, ◌⊎◌, inl, inr, ℕ, zero, suc, ◌+◌, List, [], ◌∷◌, ◌++◌, length, refl, sym, ap, subst, ◌∙◌, append_assoc, append-nil, arith, length-append}
 use Rattle.self_id.specs.declared.node.PortStatus.{PortStatus}
 use Rattle.self_id.specs.declared.node.PortStatus.TheVariants.{Absent, Unplugged, Up, Down}
 use Rattle.self_id.specs.Node.{Node, node_with, IsNode, ups, downs}
@@ -43,7 +43,7 @@ waiting-below (down t s) h = (h.0, waiting-below s h.1)
 
 -- ---- slots with these statuses, and these trees below them
 
-abbrev fill : List PortStatus → List Tree → Slots
+abbrev pub fill : List PortStatus → List Tree → Slots
 fill [] ts = no_more
 fill (Absent ∷ ps) ts = absent (fill ps ts)
 fill (Unplugged ∷ ps) ts = unplugged (fill ps ts)
@@ -51,7 +51,7 @@ fill (Up ∷ ps) ts = up (fill ps ts)
 fill (Down ∷ ps) [] = absent (fill ps [])
 fill (Down ∷ ps) (t ∷ ts) = down t (fill ps ts)
 
-statuses-fill : (ps : List PortStatus) (ts : List Tree) → downs ps ≡ length ts → statuses (fill ps ts) ≡ ps
+pub statuses-fill : (ps : List PortStatus) (ts : List Tree) → downs ps ≡ length ts → statuses (fill ps ts) ≡ ps
 statuses-fill [] ts e = refl
 statuses-fill (Absent ∷ ps) ts e = ap (λ (l : List PortStatus). Absent ∷ l) (statuses-fill ps ts e)
 statuses-fill (Unplugged ∷ ps) ts e = ap (λ (l : List PortStatus). Unplugged ∷ l) (statuses-fill ps ts e)
@@ -59,7 +59,7 @@ statuses-fill (Up ∷ ps) ts e = ap (λ (l : List PortStatus). Up ∷ l) (status
 statuses-fill (Down ∷ ps) [] e = absurd (omega (arith, e))
 statuses-fill (Down ∷ ps) (t ∷ ts) e = ap (λ (l : List PortStatus). Down ∷ l) (statuses-fill ps ts (omega (arith, e)))
 
-walk-fill : (ps : List PortStatus) (ts : List Tree) → downs ps ≡ length ts → walk_below (fill ps ts) ≡ walk_all ts
+pub walk-fill : (ps : List PortStatus) (ts : List Tree) → downs ps ≡ length ts → walk_below (fill ps ts) ≡ walk_all ts
 walk-fill [] [] e = refl
 walk-fill [] (t ∷ ts) e = absurd (omega (arith, e))
 walk-fill (Absent ∷ ps) ts e = walk-fill ps ts e
@@ -68,13 +68,58 @@ walk-fill (Up ∷ ps) ts e = walk-fill ps ts e
 walk-fill (Down ∷ ps) [] e = absurd (omega (arith, e))
 walk-fill (Down ∷ ps) (t ∷ ts) e = ap (λ (ns : List Node). walk t ++ ns) (walk-fill ps ts (omega (arith, e)))
 
-parts-fill : (ps : List PortStatus) (ts : List Tree) → AreWaiting ts → AreParts (fill ps ts)
+pub parts-fill : (ps : List PortStatus) (ts : List Tree) → AreWaiting ts → AreParts (fill ps ts)
 parts-fill [] ts h = tt
 parts-fill (Absent ∷ ps) ts h = parts-fill ps ts h
 parts-fill (Unplugged ∷ ps) ts h = parts-fill ps ts h
 parts-fill (Up ∷ ps) ts h = parts-fill ps ts h
 parts-fill (Down ∷ ps) [] h = parts-fill ps [] h
 parts-fill (Down ∷ ps) (t ∷ ts) h = (h.0, parts-fill ps ts h.1)
+
+-- ---- the latest of trees that wait, of which the last one comes first
+
+pub record Latest (count : ℕ) (ts : List Tree) : Type 0 where
+  pub before : List Tree
+  pub taken : List Tree
+  pub walked : walks ts ≡ walks before ++ walk_all taken
+  pub rest : AreWaiting before
+  pub waiting : AreWaiting taken
+  pub left : length before + count ≡ length ts
+  pub many : count ≡ length taken
+
+walk_all-append : (ts : List Tree) (t : Tree) → walk_all (ts ++ t ∷ []) ≡ walk_all ts ++ walk t
+walk_all-append [] t = append-nil (walk t)
+walk_all-append (u ∷ ts) t = ap (λ (ns : List Node). walk u ++ ns) (walk_all-append ts t) ∙ sym (append_assoc (walk u) (walk_all ts) (walk t))
+
+waiting-append : (ts : List Tree) (t : Tree) → AreWaiting ts → IsPart t → AreWaiting (ts ++ t ∷ [])
+waiting-append [] t h is = (is, tt)
+waiting-append (u ∷ ts) t h is = (h.0, waiting-append ts t h.1 is)
+
+pub latest : (count : ℕ) (ts : List Tree) → AreWaiting ts → count ≤ length ts → Latest count ts
+latest zero ts h enough = record {
+  before = ts;
+  taken = [];
+  walked = sym (append-nil (walks ts));
+  rest = h;
+  waiting = tt;
+  left = omega arith;
+  many = refl;
+}
+latest (suc count) [] h enough = absurd (omega (arith, enough))
+latest (suc count) (t ∷ ts) h enough =
+    let k = latest count ts h.1 (omega (arith, enough)) in
+    record {
+      before = k.before;
+      taken = k.taken ++ t ∷ [];
+      walked =
+          ap (λ (ns : List Node). ns ++ walk t) k.walked
+          ∙ append_assoc (walks k.before) (walk_all k.taken) (walk t)
+          ∙ ap (λ (ns : List Node). walks k.before ++ ns) (sym (walk_all-append k.taken t));
+      rest = k.rest;
+      waiting = waiting-append k.taken t k.waiting h.0;
+      left = omega (arith, k.left);
+      many = omega (arith, k.many, length-append k.taken (t ∷ []));
+    }
 
 -- ---- a node that has a parent, behind trees that it may take
 

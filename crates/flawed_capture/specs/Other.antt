@@ -1,9 +1,9 @@
 -- The quadlet that takes the place of a packet's.
-use Rattle.std.specs.Prelude.{◌≡◌, ◌≢◌, ℕ, ◌+◌, ◌*◌, ◌/◌, ◌%◌, ◌^◌, Bool, false, ◌==◌, ◌&&◌, if◌then◌else◌}
+use Rattle.std.specs.Prelude.{◌≡◌, ◌≢◌, ℕ, ◌+◌, ◌-◌, ◌*◌, ◌/◌, ◌%◌, ◌^◌, Bool, false, ◌==◌, ◌&&◌, if◌then◌else◌, bit_and, bit_or, bit_xor}
 use Rattle.self_id.specs.declared.standard.Standard.{Standard}
 use Rattle.self_id.specs.declared.standard.Standard.TheVariants.{Ieee1995, Ieee2000}
 use Rattle.flawed_capture.specs.declared.flaw.Flaw.{Flaw}
-use Rattle.flawed_capture.specs.declared.flaw.Flaw.TheVariants.{NotSelfId, WrongId, BadOrder, Cut, TwoParents, TooFewChildren, TreesLeft, NoRoot, TooMany}
+use Rattle.flawed_capture.specs.declared.flaw.Flaw.TheVariants.{NotSelfId, WrongId, BadOrder, Cut, TwoParents, TooFewChildren, TreesLeft, AfterRoot, NoRoot, TooMany}
 
 -- its bits from `low` up to `end` are those of a number
 abbrev pub with_bits : ℕ → ℕ → ℕ → ℕ → ℕ
@@ -57,3 +57,33 @@ IsOther TreesLeft standard quad other = other ≡ without_cables standard quad
 IsOther NoRoot standard quad other = other ≡ with_up (last_field standard quad) quad
 IsOther TooMany standard quad other = other ≡ with_up (last_field standard quad) quad
 IsOther flaw standard quad other = Unit {0}
+
+-- ---- and which one it is, as a word says what the kind leaves open
+
+-- the bits of a packet's port fields
+abbrev pub fields_of : Standard → ℕ → ℕ
+fields_of standard quad =
+    if quad / 2 ^ 23 % 2 == 0 then 252 else if has_five standard quad then 261888 else 262140
+
+-- these fields of a packet are those of a pattern
+abbrev pub with_fields : ℕ → ℕ → ℕ → ℕ
+with_fields pattern fields quad =
+    bit_or (bit_and quad (2 ^ 32 - 1 - fields)) (bit_and pattern fields)
+
+-- the lower bit of each field that is 10, which is the parent
+abbrev pub parents_in : ℕ → ℕ → ℕ
+parents_in fields quad =
+    bit_and (bit_and (bit_and (quad / 2) (2 ^ 32 - 1 - quad)) 0x55555555) fields
+
+unfoldable pub other_by : Flaw → Standard → ℕ → ℕ → ℕ
+other_by NotSelfId standard quad w = bit_xor quad ((w % 3 + 1) * 2 ^ 30)
+other_by WrongId standard quad w = bit_xor quad ((w % 63 + 1) * 2 ^ 24)
+other_by BadOrder standard quad w = bit_xor quad (2 ^ 23)
+other_by Cut standard quad w = bit_or quad 1
+other_by TwoParents standard quad w = with_fields 0xaaaaaaaa (fields_of standard quad) quad
+other_by TooFewChildren standard quad w = bit_or quad (fields_of standard quad)
+other_by TreesLeft standard quad w = with_fields 0x55555555 (fields_of standard quad) quad
+other_by AfterRoot standard quad w = quad - parents_in (fields_of standard quad) quad
+other_by NoRoot standard quad w = with_up (last_field standard quad) quad
+other_by TooMany standard quad w = with_up (last_field standard quad) quad
+other_by flaw standard quad w = quad

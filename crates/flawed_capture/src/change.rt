@@ -1,9 +1,10 @@
 //! Changes of a list that put a fault in.
-ghost use Rattle.std.specs.Prelude.{◌≡◌, ◌≢◌, ◌<◌, ◌≤◌, ◌+◌, ◌⊎◌, ◌/◌, ◌%◌, ◌^◌, ◌∷◌, ◌++◌, [], if◌then◌else◌, ℕ, length, take, slice_set, IfOk};
+ghost use Rattle.std.specs.Prelude.{◌≡◌, ◌≢◌, ◌<◌, ◌≤◌, ◌+◌, ◌-◌, ◌⊎◌, ◌/◌, ◌%◌, ◌^◌, ◌∷◌, ◌++◌, [], if◌then◌else◌, ℕ, length, take, slice_set, slice_index, IfOk};
 ghost use Rattle.self_id.specs.declared.standard.Standard.{Standard};
 ghost use Rattle.capture_reading.specs.Capture.{IsCaptureOf};
 ghost use Rattle.flawed_capture.specs.Flaw.{HasFlaw, HasListFlaw, least_nodes};
-ghost use Rattle.flawed_capture.specs.Other.{IsOther, has_five, last_field, with_up};
+ghost use Rattle.flawed_capture.specs.Other.{IsOther, has_five, last_field, with_up, fields_of, parents_in, other_by};
+ghost use Rattle.flawed_capture.specs.SeededFlaw.{list_by, byte_by, bytes_by};
 ghost use Rattle.flawed_capture.specs.Spoilt.{EndsWithOther, IsFront, HasMore, HasOtherAndMore, HasOther, IsSpoiltList, IsSpoilt, ComesAt, IsListOfBus};
 ghost use Rattle.flawed_capture.specs.declared.flaw.Flaw.{Flaw};
 
@@ -32,6 +33,7 @@ fn has_five_ports(standard: Standard, quad: u32) -> bool
 
 /// The bits of a self-ID packet's port fields.
 fn port_fields(standard: Standard, quad: u32) -> u32
+    ensures value { result ≡ fields_of standard quad }
     ensures zero { quad / 2 ^ 23 % 2 ≡ 0 → result ≡ 252 }
     ensures further { quad / 2 ^ 23 % 2 ≡ 1 →
         result ≡ (if has_five standard quad then 261888 else 262140) }
@@ -57,14 +59,18 @@ fn with_parent(standard: Standard, quad: u32) -> u32
 }
 
 /// The packet with 01 in each port field that is 10: nothing leads to a parent.
-fn without_parent(quad: u32, fields: u32) -> u32 {
+fn without_parent(quad: u32, fields: u32) -> u32
+    ensures { result ≡ quad - parents_in fields quad }
+{
     let parents = quad >> 1 & !quad & UNPLUGGED & fields;
-    quad.wrapping_sub(parents)
+    quad.saturating_sub(parents)
 }
 
 /// The quadlet that takes the place of a packet's for a fault of a kind. The word says the rest.
+#[tactic(auto, unfolding(crate::specs::Other::other_by))]
 fn other_quad(flaw: Flaw, standard: Standard, quad: u32, word: u32) -> u32
-    ensures { IsOther flaw standard quad result }
+    ensures other { IsOther flaw standard quad result }
+    ensures value { result ≡ other_by flaw standard quad word }
 {
     let fields = port_fields(standard, quad);
     match flaw {
@@ -105,7 +111,8 @@ fn ended(alloc: Global, list: &[u32], at: usize, quad: u32) -> Result<Vec<u32>, 
 
 /// The list up to a place.
 fn front_of(alloc: Global, list: &[u32], end: usize) -> Result<Vec<u32>, OutOfMemory>
-    ensures { IfOk result (λ spoilt. IsFront list.now spoilt.items) }
+    ensures front { IfOk result (λ spoilt. IsFront list.now spoilt.items) }
+    ensures parts { IfOk result (λ spoilt. spoilt.items ≡ take end list.now) }
 {
     let mut spoilt = Vec::from_slice(alloc, list)?;
     spoilt.truncate(end);
@@ -152,6 +159,8 @@ fn behind_root(
         HasMore list.now spoilt.items ⊎ HasOther list.now spoilt.items) }
     ensures behind { IfOk result (λ spoilt. at + 1 ≡ length list.now →
         spoilt.items ≡ list.now ++ more ∷ []) }
+    ensures parts { IfOk result (λ spoilt.
+        spoilt.items ≡ list_by Flaw.AfterRoot list.now at quad more) }
 {
     if at + 1 == list.len() {
         with_more(alloc, list, more)
@@ -174,6 +183,8 @@ fn changed(
     ensures sure { flaw ≢ Flaw.BadLength → flaw ≢ Flaw.BadInverse → IfOk result (λ spoilt.
         (nodes : ℕ) → IsListOfBus standard nodes list.now → least_nodes flaw ≤ nodes →
         ComesAt standard flaw list.now at → HasListFlaw standard spoilt.items flaw) }
+    ensures value { IfOk result (λ spoilt. spoilt.items ≡ list_by flaw list.now at
+        (other_by flaw standard (slice_index list.now at) word) word) }
 {
     let quad = other_quad(flaw, standard, list[at], word);
     let is_last = at + 1 == list.len();
@@ -195,12 +206,15 @@ fn captured(alloc: Global, list: &[u32]) -> Result<Vec<u8>, OutOfMemory>
 }
 
 /// The bytes of a list's capture, cut off within the pair at a place.
+#[tactic(auto, unfolding(crate::specs::SeededFlaw::bytes_by))]
 fn cut_capture(alloc: Global, list: &[u32], at: usize, word: u32) -> Result<Vec<u8>, OutOfMemory>
     requires at { at < length list.now }
     requires few { length list.now ≤ 252 }
     ensures spoilt { IfOk result (λ bytes. IsSpoilt list.now bytes.items Flaw.BadLength) }
     ensures sure { IfOk result (λ bytes.
         (standard : Standard) → HasFlaw standard bytes.items Flaw.BadLength) }
+    ensures value { IfOk result (λ bytes. (standard : Standard) →
+        bytes.items ≡ bytes_by standard Flaw.BadLength list.now at word) }
 {
     let mut bytes = capture_of(alloc, list)?;
     capture_is_read_back();
@@ -210,18 +224,22 @@ fn cut_capture(alloc: Global, list: &[u32], at: usize, word: u32) -> Result<Vec<
 
 /// Another byte, as a word says.
 fn other_byte(byte: u8, word: u32) -> u8
-    ensures { result ≢ byte }
+    ensures other { result ≢ byte }
+    ensures value { result ≡ byte_by byte word }
 {
     byte ^ (word / 8 % 255 + 1) as u8
 }
 
 /// The bytes of a list's capture with another byte in the pair at a place.
+#[tactic(auto, unfolding(crate::specs::SeededFlaw::bytes_by))]
 fn turned_capture(alloc: Global, list: &[u32], at: usize, word: u32) -> Result<Vec<u8>, OutOfMemory>
     requires at { at < length list.now }
     requires few { length list.now ≤ 252 }
     ensures spoilt { IfOk result (λ bytes. IsSpoilt list.now bytes.items Flaw.BadInverse) }
     ensures sure { IfOk result (λ bytes.
         (standard : Standard) → HasFlaw standard bytes.items Flaw.BadInverse) }
+    ensures value { IfOk result (λ bytes. (standard : Standard) →
+        bytes.items ≡ bytes_by standard Flaw.BadInverse list.now at word) }
 {
     let mut bytes = capture_of(alloc, list)?;
     capture_is_read_back();
@@ -231,6 +249,7 @@ fn turned_capture(alloc: Global, list: &[u32], at: usize, word: u32) -> Result<V
 }
 
 /// The bytes of a list's capture with a change at a place that may put in a fault of a kind.
+#[tactic(auto, unfolding(crate::specs::SeededFlaw::bytes_by))]
 pub(crate) fn spoilt_capture(
     alloc: Global,
     standard: Standard,
@@ -245,6 +264,7 @@ pub(crate) fn spoilt_capture(
     ensures sure { IfOk result (λ bytes. (nodes : ℕ) → IsListOfBus standard nodes list.now →
         least_nodes flaw ≤ nodes → ComesAt standard flaw list.now at →
         HasFlaw standard bytes.items flaw) }
+    ensures value { IfOk result (λ bytes. bytes.items ≡ bytes_by standard flaw list.now at word) }
 {
     match flaw {
         Flaw::BadLength => cut_capture(alloc, list, at, word),

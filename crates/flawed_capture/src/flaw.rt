@@ -134,8 +134,8 @@ pub enum FlawStop {
     /// No list of so few nodes has the kind of fault: it wants this many.
     #[error("no list of fewer than {wanted} nodes has this kind of fault")]
     TooFewNodes { wanted: u8 },
-    /// The list that was made isn't the list of a bus with so many nodes. No list was seen that isn't one.
-    #[error("the made list is not that of a bus with so many nodes")]
+    /// No nodes were asked for, and no bus has none.
+    #[error("a bus has at least one node")]
     NoBus,
     /// None of the changes that were tried of the list of the bus gave the kind of fault. `flawed_capture`
     /// never answers so.

@@ -9,6 +9,7 @@ mod flawed;
 mod judged;
 mod made;
 mod node;
+mod words;
 
 pub use few::few_nodes_have_no_such_flaw;
 pub use flaw::{Flaw, FlawStop, faults_have_their_kinds_word};

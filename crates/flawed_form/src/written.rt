@@ -3,6 +3,7 @@ ghost use Rattle.std.specs.Prelude.{◌≡◌, ◌≢◌, ◌↔◌, ◌<◌, �
 ghost use Rattle.std.specs.Io.KnownBytes.{Appends};
 ghost use Rattle.io_edges.specs.Faults.{Rose};
 ghost use Rattle.flawed_capture.specs.Flaw.{HasFlaw, least_nodes};
+ghost use Rattle.flawed_capture.specs.SeededFlaw.{IsOfSeed};
 ghost use Rattle.flawed_capture.specs.Spoilt.{IsOfBus};
 
 use crate::form::FlawedForm;
@@ -26,12 +27,15 @@ pub fn write_flawed<K: Sink>(
     sink: &mut K,
 ) -> Result<(), FlawedStop>
     requires { form.nodes ≤ 63 }
-    // The bytes have a fault of the kind by the standard, and come of a bus with so many nodes.
+    // The bytes have a fault of the kind by the standard, and come of the bus that the seed makes of so many
+    // nodes, by the first change that gives the fault.
     ensures written { OnOk result ((bytes : List ℕ) × HasFlaw form.standard bytes form.flaw
         × IsOfBus form.standard form.nodes form.flaw bytes
+        × IsOfSeed form.standard form.nodes form.flaw form.seed bytes
         × Appends (K.written sink.old) (K.written sink.new) bytes) }
     ensures few { (result ≡ Err (FlawedStop.Flaw (FlawStop.TooFewNodes (least_nodes form.flaw))))
         ↔ (form.nodes < least_nodes form.flaw) }
+    ensures no_bus { result ≡ Err (FlawedStop.Flaw FlawStop.NoBus) → form.nodes ≡ 0 }
     ensures found { result ≢ Err (FlawedStop.Flaw FlawStop.NotFound) }
     ensures write_fault { result ≡ Err FlawedStop.WriteFault →
         Rose (K.faults sink.old) (K.faults sink.new) }

@@ -10,5 +10,5 @@ returns-clause-sure c = λ standard.
     let same = c.in_ok-bytes.ensures in
     turned standard list c.args.at (c.args.word % 8) c.other_byte.result was _ c.capture_is_read_back.ensures.whole
     (all_quadlets list (λ i. omega (arith, c.type_inv.list i))) c.requires.at (omega arith) (omega arith)
-    (λ e. c.other_byte.ensures (e ∙ ap (λ (l : List ℕ). get_or l (8 * c.args.at + c.args.word % 8) was) (sym same) ∙ sym c.index.ensures))
+    (λ e. c.other_byte.ensures.other (e ∙ ap (λ (l : List ℕ). get_or l (8 * c.args.at + c.args.word % 8) was) (sym same) ∙ sym c.index.ensures))
     (ap (λ (l : List ℕ). set l (8 * c.args.at + c.args.word % 8) c.other_byte.result) same)
