@@ -1,2 +1,6 @@
 mod Cutting
 mod Written
+mod Quotable
+mod Numbers
+mod Passing
+mod NamedDot

@@ -5,6 +5,7 @@ mod bus;
 mod fault;
 mod file;
 mod form;
+mod laws;
 mod lines;
 mod mentions;
 mod outcome;
@@ -14,6 +15,7 @@ mod stop;
 
 pub use fault::{NamesFault, NamesFaultKind};
 pub use form::{NamedForm, named_form};
+pub use laws::named_graphs_are_dot;
 pub use outcome::{Input, Outcome};
 pub use show::show_named;
 pub use status::named_status;

@@ -3,9 +3,12 @@ ghost use Rattle.std.specs.Prelude.{◌≡◌, ◌≢◌, ◌≤◌, ◌↔◌, 
 ghost use Rattle.std.specs.Io.KnownBytes.{Appends, IsAtEnd};
 ghost use Rattle.io_edges.specs.Faults.{Rose};
 ghost use Rattle.io_edges.specs.Told.{AreLeft, AppendsStart, IfTold, TookOver};
+ghost use Rattle.self_id.specs.declared.standard.Standard.{Standard};
 ghost use Rattle.topology_stack.specs.Tree.{Tree};
 ghost use Rattle.capture_reading.specs.declared.fault.CaptureFault.{CaptureFault};
 ghost use Rattle.diff_form.specs.Difference.{IsReading};
+ghost use Rattle.view_text.specs.GraphDot.{IsTreeDot};
+ghost use Rattle.named_form.specs.declared.form.NamedForm.{NamedForm};
 ghost use Rattle.named_form.specs.declared.outcome.Outcome.{Outcome};
 ghost use Rattle.named_form.specs.declared.stop.NamedStop.{NamedStop};
 ghost use Rattle.named_form.specs.Form.{standard_of};
@@ -14,6 +17,7 @@ ghost use Rattle.named_form.specs.Shown.{IsByFault, IsShown};
 
 use crate::bus::shown_of;
 use crate::form::NamedForm;
+use crate::laws::named_graphs_are_dot;
 use crate::outcome::{Input, Outcome};
 use crate::stop::NamedStop;
 use capture_reading::one_reading;
@@ -42,6 +46,13 @@ pub fn show_named<S: Source, T: Source, K: Sink>(
         × Appends (K.written sink.old) (K.written sink.new) text) }
     ensures names_end { OnOk result (IsAtEnd (S.left names.new)) }
     ensures capture_end { OnOk result (IsAtEnd (T.left capture.new)) }
+
+    // A graph that is shown is one in DOT, with a node for each node of the tree that the capture spells and an edge
+    // for each of its cables.
+    ensures dot { IfOk result (λ outcome. (standard : Standard) → form ≡ NamedForm.Dot standard →
+        outcome ≡ Outcome.Shown → (bytes : List ℕ) × (t : Tree) × (text : List ℕ)
+        × AreLeft (T.left capture.old) bytes × IsReading standard bytes (Ok t) × IsTreeDot t text
+        × Appends (K.written sink.old) (K.written sink.new) text) }
 
     // When each stop comes.
     ensures names_read_fault { result ≡ Err (NamedStop.ReadFault Input.Names) →
@@ -84,6 +95,7 @@ pub fn show_named<S: Source, T: Source, K: Sink>(
         K.surely_takes sink.old (length text)) → K.faults sink.new ≡ K.faults sink.old)) }
 {
     one_reading();
+    named_graphs_are_dot();
     let file = match read_all(alloc, names, MOST) {
         Ok(bytes) => bytes,
         Err(ReadStop::ReadFault) => return Err(NamedStop::ReadFault(Input::Names)),

@@ -1,7 +1,7 @@
 use Rattle.std.proofs.Common.{length, arith}
 use Rattle.named_form.specs.declared.outcome.Input.TheVariants.{Names, Capture}
 use Rattle.diff_form.proofs.Lemmas.{OneReading}
-use Rattle.named_form.proofs.Written.{exactly, surely, not_too_long}
+use Rattle.named_form.proofs.Written.{exactly, surely, not_too_long, as_dot}
 use Rattle.named_form.proofs.show.show_named.Goals as goal
 
 pub returns-in-Ok-write_whole-clause-exact : goal.returns-in-Ok-write_whole-clause-exact
@@ -10,6 +10,19 @@ returns-in-Ok-write_whole-clause-exact g c =
     exactly one _ _ _ _ _ _ _ _ c.in-Ok.ensures.all c.in-Ok-read_all.ensures.all
     (rw (c.deref.ensures.value, c.deref-2.ensures.value) at c.in-Ok-shown_of.ensures)
     (rw c.deref-3.ensures.value at c.in-Ok-write_whole.ensures.ok)
+
+pub returns-in-Ok-write_whole-clause-dot : goal.returns-in-Ok-write_whole-clause-dot
+returns-in-Ok-write_whole-clause-dot g c = λ standard e o.
+    let dot = as_dot c.named_graphs_are_dot.ensures _ standard _ _ _ _ e o
+    (rw (c.deref.ensures.value, c.deref-2.ensures.value) at c.in-Ok-shown_of.ensures) in (
+      _,
+      dot.0,
+      _,
+      c.in-Ok-read_all.ensures.all,
+      dot.1,
+      dot.2,
+      rw c.deref-3.ensures.value at c.in-Ok-write_whole.ensures.ok,
+    )
 
 pub returns-in-Ok-write_whole-clause-sure : goal.returns-in-Ok-write_whole-clause-sure
 returns-in-Ok-write_whole-clause-sure g c =
