@@ -1,5 +1,5 @@
 -- What is told of a reset that isn't passed over.
-use Rattle.std.proofs.Common.{◌≡◌, ◌⊎◌, inl, inr, ℕ, Bool, true, false, is_some, Option, Some, None, List, [], refl}
+use Rattle.std.proofs.Common.{◌≡◌, inl, inr, ℕ, Bool, true, false, is_some, Option, Some, None, List, [], refl}
 use Rattle.bus_json.specs.Bus.{tree_members}
 use Rattle.bus_json.specs.Text.{json_line}
 use Rattle.topology_stack.specs.Tree.{Tree}

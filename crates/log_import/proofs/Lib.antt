@@ -5,3 +5,5 @@ pub mod Steps
 pub mod Progress
 pub mod Words
 pub mod Stopped
+pub mod OneReset
+pub mod Exact

@@ -1,5 +1,5 @@
 -- A log is searched entry by entry, in order.
-use Rattle.std.proofs.Common.{◌≡◌, ◌∙◌, ℕ, ◌+◌, ◌<◌, ◌≤◌, Bool, true, false, cond, Option, Some, None, Result, Ok, Err, List, [], ◌∷◌, ◌++◌, length, refl, sym, ap, subst, append_assoc, append-nil, arith}
+use Rattle.std.proofs.Common.{◌≡◌, ◌∙◌, ℕ, ◌+◌, ◌<◌, Bool, true, false, cond, Option, Some, None, Result, Ok, Err, List, [], ◌∷◌, ◌++◌, length, refl, sym, ap, subst, append_assoc, append-nil, arith}
 use Rattle.std.specs.Prelude.{◌&&◌, not, count_by, if◌then◌else◌, option_map, IfOk}
 use Rattle.std.proofs.lemmas.List.Sums.{sum_by-append}
 use Rattle.std.specs.BTreeMap.{get, Updates}
@@ -8,9 +8,9 @@ use Rattle.reset_log.specs.declared.cards.Known.{Known}
 use Rattle.reset_log.specs.declared.notes.Pending.{Pending}
 use Rattle.reset_log.specs.Log.{lines_of}
 use Rattle.reset_log.specs.Noted.{last_of, is_second, is_repeated, forgotten}
-use Rattle.reset_log.specs.Entries.{Entry, a_reset, a_loss, a_saying, a_garble, entries_of, entries_from}
+use Rattle.reset_log.specs.Entries.{Entry, a_loss, a_saying, a_garble, entries_of, entries_from}
 use Rattle.reset_log.specs.Shown.{garbled_text, lost_text, told_text}
-use Rattle.reset_log.specs.Told.{passed_over, garbled, no_reset, Telling, IsTelling, AreTellings, plain as of_none, is_shown, cards_behind, cards_after, counts}
+use Rattle.reset_log.specs.Told.{passed_over, garbled, no_reset, Telling, IsTelling, AreTellings, plain as of_none, cards_behind, cards_after, counts}
 use Rattle.log_import.specs.Reset.{form, entry, IsNth, HasFewer}
 use Rattle.log_import.specs.codings.Standing.{plain, Stands, Advances, Searches}
 use Rattle.log_import.specs.codings.Verdicts.{IsJudged}

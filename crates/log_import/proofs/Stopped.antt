@@ -1,6 +1,5 @@
 -- What an answer and a fault of the sink say of a source: it was not too long.
 use Rattle.std.proofs.Common.{◌≡◌, ◌↔◌, ℕ, Option, Some, None, Result, Ok, Err, List}
-use Rattle.std.specs.Prelude.{IfSome}
 use Rattle.io_edges.specs.Told.{IfTold, TookOver}
 use Rattle.io_edges.specs.declared.stop.ReadStop.{ReadStop}
 use Rattle.io_edges.specs.declared.stop.ReadStop.TheVariants.{TooLong as ReadTooLong}

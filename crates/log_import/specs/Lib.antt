@@ -3,3 +3,4 @@ pub mod Import
 pub mod Form
 pub mod Status
 pub mod codings
+pub mod OneReset

@@ -8,6 +8,7 @@ ghost use Rattle.log_import.specs.declared.outcome.Outcome.{Outcome};
 ghost use Rattle.log_import.specs.Import.{IsResetImport};
 
 use crate::import::reset_import;
+use crate::laws::one_reset;
 use crate::outcome::Outcome;
 use crate::read::read_log;
 use io_edges::{ReadStop, Sink, Source, write_whole};
@@ -47,12 +48,18 @@ pub fn show_reset<S: Source, K: Sink>(
     ensures unwritten { (stop : LogStop) → result ≡ Err stop → stop ≢ LogStop.WriteFault →
         sink.new ≡ sink.old }
 
+    // A log has one outcome, which is answered, and one text, which is written.
+    ensures exact { IfOk result (λ outcome. IfSome (S.left source.old) (λ log. (text : List ℕ)
+        (right : Outcome) → IsResetImport wanted log text right → (outcome ≡ right)
+        × Appends (K.written sink.old) (K.written sink.new) text)) }
+
     // An answer is given where no stream has a fault, there is memory, and the log isn't too long.
     ensures complete { ¬ Rose (S.faults source.old) (S.faults source.new) →
         ¬ Rose (K.faults sink.old) (K.faults sink.new) →
         IfSome (S.left source.old) (λ log. length log ≤ 1073741824 →
         IsOkUnless result (LogStop.Memory alloc_error)) }
 {
+    one_reset();
     let log = match read_log(alloc, source) {
         Ok(bytes) => bytes,
         Err(ReadStop::ReadFault) => return Err(LogStop::ReadFault),

@@ -1,4 +1,4 @@
-use Rattle.std.proofs.Common.{◌≡◌, ◌==◌, Option, subst}
+use Rattle.std.proofs.Common.{◌==◌, Option, subst}
 use Rattle.std.specs.Prelude.{IfOk}
 use Rattle.reset_log.specs.declared.notes.Pending.{Pending}
 use Rattle.reset_log.specs.Noted.{begun_at}
