@@ -69,6 +69,8 @@ class Log:
         self.as_json = as_json
         self.short = short  # one line for each reset, and which ports lost the node that hung on them
         self.lost = {}
+        self.without = {}  # when each of these ports that has no node since lost its last one
+        self.shortest = {}  # the shortest time for which each had none
         self.out = []
         self.status = self.resets = self.refused = 0
         self.began = {}
@@ -76,7 +78,7 @@ class Log:
     def write(self, text, members):
         self.out.append(line(members) if self.as_json else text + "\n")
 
-    def show(self, words, members, data, standard, old, card=None):
+    def show(self, words, members, data, standard, old, card=None, time=None):
         """A reset: its first words and members, and its list as a capture. The nodes of the bus, or None."""
         try:
             nodes = read_capture(data, standard)[1]
@@ -93,23 +95,40 @@ class Log:
             self.began[card, node] = self.began.get((card, node), 0) + 1
         text = f"{words} nodes {len(nodes)} root {len(nodes) - 1} irm {word(manager_of(nodes))}\n"
         if self.short:
-            self.lose(old, nodes, card)
+            self.lose(old, nodes, card, time)
         elif not self.as_json:
             text += compared(old, nodes) + "".join(f"node {node} initiated\n" for node in starters)
         self.write(text[:-1], dict(members, **bus(nodes)))
         return nodes
 
-    def lose(self, old, nodes, card):
-        """Counts the ports that lost the node which hung on them, by the words of what changed."""
+    def lose(self, old, nodes, card, time):
+        """Counts the ports that lost the node which hung on them, by the words of what changed, once those that have a
+        node again are known to.
+        """
         changes = "" if old is None else tell(old, nodes, same_nodes(old, nodes), by_new=True)
+        for port, node in re.findall(r"(?:to|joined) port (\d+) of node (\d+) on", changes):
+            since = self.without.pop((card, port, node), None)
+            if since is not None and time is not None and since <= time:
+                shortest = self.shortest.get((card, port, node), time - since)
+                self.shortest[card, port, node] = min(shortest, time - since)
         for port, node in re.findall(r"(?:went from|left|moved from) port (\d+) of node (\d+) on", changes):
             self.lost[card, port, node] = self.lost.get((card, port, node), 0) + 1
+            self.without[card, port, node] = time
+
+    def forget(self, card):
+        """Nothing is known of the card's bus before this reset, so neither since when a port has no node."""
+        self.without = {port: time for port, time in self.without.items() if port[0] != card}
 
     def losses(self):
         """A line for each port that lost the node which hung on it, in the order of the first losses."""
         for (card, port, node), count in self.lost.items():
             reached["port lost its child"] += 1
-            self.write(f"card {card} port {port} of node {node} lost its child: {count} times", {})
+            text = f"card {card} port {port} of node {node} lost its child: {count} times"
+            if (card, port, node) in self.shortest:
+                reached["port had a child again"] += 1
+                shortest = self.shortest[card, port, node]
+                text += f", the shortest for {shortest // 1000000}.{shortest % 1000000:06d} s"
+            self.write(text, {})
 
     def total(self, cards=None):
         """The last line, with a number of cards if there are any."""

@@ -204,6 +204,9 @@ class Resets:
         if not second:
             self.counted.append((reset["line"], data, lacks))
         nodes = None
+        old = None if card.apart else card.last
+        if old is None:
+            self.log.forget(reset["card"])
         if data is None:
             self.log.write(f"{words} is_error, not judged", dict(members, is_error=True))
         elif lacks:
@@ -211,8 +214,7 @@ class Resets:
             said = f"{words} not judged, packets missing from the log: {lacks}"
             self.log.write(said, dict(members, lacks=lacks))
         else:
-            old = None if card.apart else card.last
-            nodes = self.log.show(words, members, data, self.standard, old, reset["card"])
+            nodes = self.log.show(words, members, data, self.standard, old, reset["card"], time)
         card.event, card.time, card.was_shown = event, time, nodes is not None
         if nodes is not None:
             card.last, card.apart = nodes, False

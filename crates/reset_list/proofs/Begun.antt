@@ -1,5 +1,6 @@
 -- The tallies stay where their table says, as one of them changes and as one more is there.
-use Rattle.std.proofs.Common.{◌≡◌, ◌∙◌, ◌==◌, ℕ, Bool, true, false, ◌&&◌, List, [], ◌∷◌, ◌++◌, Some, None, length, eqb-true, refl, sym, ap, subst, arith}
+use Rattle.std.proofs.Common.{◌≡◌, ◌∙◌, ◌==◌, ℕ, Bool, true, ◌&&◌, List, [], ◌∷◌, ◌++◌, Some, None, length, eqb-true, refl, sym, ap, subst, arith}
+use Rattle.std.proofs.lemmas.Bool.{and_parts}
 use Rattle.std.proofs.lemmas.Bool.Decides.{nat_tests}
 use Rattle.std.specs.Prelude.{slice_get, slice_set}
 use Rattle.std.specs.Ordering.{is_eq, nat_cmp, ordering_then}
@@ -29,21 +30,16 @@ at_node t q =
     ∙ ap (λ (b : Bool). b && is_eq (nat_cmp t.node q.1)) (eq_number t.card q.0)
     ∙ ap (λ (b : Bool). (t.card == q.0) && b) (eq_number t.node q.1)
 
-both : (a b : Bool) → (a && b) ≡ true → (a ≡ true) × (b ≡ true)
-both true true e = (refl, refl)
-both true false e = absurd cc
-both false b e = absurd cc
-
 one_node : (t : Tally) (q : ℕ × ℕ) → is_of_node q t ≡ true → q ≡ (t.card, t.node)
 one_node t (card, node) e =
-    let same = both (t.card == card) (t.node == node) e in
+    let same = and_parts (t.card == card) (t.node == node) e in
     ap (λ (c : ℕ). (c, node)) (sym (eqb-true _ _ same.0)) ∙ ap (λ (n : ℕ). (t.card, n)) (sym (eqb-true _ _ same.1))
 
 -- one more of a node is of the node
 same_node : (card node : ℕ) (x y : Tally) → is_tally card node x ≡ true → y ≡ one_more_of card node (Some x) →
     (q : ℕ × ℕ) → is_of_node q y ≡ is_of_node q x
 same_node card node x y passes e q =
-    let same = both (x.card == card) (x.node == node) passes in
+    let same = and_parts (x.card == card) (x.node == node) passes in
     ap (λ (t : Tally). is_of_node q t) e
     ∙ ap (λ (c : ℕ). (c == q.0) && (node == q.1)) (sym (eqb-true _ _ same.0))
     ∙ ap (λ (n : ℕ). (x.card == q.0) && (n == q.1)) (sym (eqb-true _ _ same.1))

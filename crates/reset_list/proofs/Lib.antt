@@ -1,5 +1,6 @@
 pub mod Update
 pub mod Places
+pub mod Over
 pub mod Begun
 pub mod OneDrawing
 pub mod OneTree
@@ -14,4 +15,6 @@ pub mod Heard
 pub mod AsRead
 pub mod AsBefore
 pub mod Capped
+mod Lost
+mod Shortest
 pub mod Lemmas

@@ -2,7 +2,10 @@ pub mod Form
 pub mod Update
 pub mod Places
 pub mod Counts
+pub mod Times
 pub mod Losses
+pub mod Lost
+pub mod Shortest
 pub mod Hear
 pub mod Texts
 pub mod Json

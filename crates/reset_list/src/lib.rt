@@ -15,12 +15,14 @@ mod sentence;
 mod shown;
 mod stop;
 mod texts;
+mod times;
 mod values;
 
 pub use counts::{Counts, Tallies, Tally, count_reset};
 pub use form::LogForm;
-pub use laws::lists_are_judged_as_read;
+pub use laws::{lists_are_judged_as_read, losses_are_counted, shortest_times_are_kept};
 pub use losses::{Loss, count_losses};
 pub use shown::{ListShown, show_list, show_short};
 pub use stop::{LogStop, MAX_LOG};
+pub use times::between;
 pub use values::put_list;

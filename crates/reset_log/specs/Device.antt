@@ -1,5 +1,5 @@
 -- The texts of a card: its number, or the name of its device, `0000:05:00.0`.
-use Rattle.std.specs.Prelude.{ℕ, ◌+◌, ◌-◌, ◌/◌, ◌%◌, nat_lt, List, [], ◌∷◌, ◌++◌, if◌then◌else◌}
+use Rattle.std.specs.Prelude.{ℕ, ◌-◌, ◌/◌, ◌%◌, nat_lt, List, ◌∷◌, ◌++◌, if◌then◌else◌}
 use Rattle.topology_stack.specs.Hex.{hex}
 use Rattle.view_text.specs.Packet.{field}
 

@@ -18,6 +18,7 @@ use Rattle.reset_log.specs.declared.notes.Pending.{Pending}
 use Rattle.reset_list.specs.Update.{first_of, updated}
 use Rattle.reset_list.specs.Counts.{counted, tallied_by}
 use Rattle.reset_list.specs.Losses.{losses_by}
+use Rattle.reset_list.specs.Times.{between}
 
 pub record Noted : Type 0 where
   pub cards : List Known
@@ -87,11 +88,6 @@ missing (Some k) r =
     else (if is_anew k r then 0 else skipped k.generation r.generation)
 
 -- how long the card's reset before is past
-abbrev pub between : Option ℕ → Option ℕ → Option ℕ
-between None now = None
-between (Some past) None = None
-between (Some past) (Some now) = if nat_le past now then Some (now - past) else None
-
 abbrev pub since : Option Known → Reset → Option ℕ
 since None r = None
 since (Some k) r = if is_second (Some k) r then None else between k.time r.time
@@ -120,7 +116,8 @@ known_by r heard before = record {
 -- the short form counts them alone; each tree is compared with that before it
 abbrev pub losses_in : LogForm → Reset → Option Known → Option Tree → List Loss → List Loss
 losses_in (Text standard) r before heard ls = ls
-losses_in (Short standard) r before heard ls = losses_by r.card (compared before r) heard ls
+losses_in (Short standard) r before heard ls =
+    losses_by r.card r.time (compared before r) heard ls
 losses_in (Json standard) r before heard ls = ls
 
 -- behind a reset, the tree that it is heard as if it is, and whether it is refused

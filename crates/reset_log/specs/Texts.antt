@@ -91,12 +91,18 @@ abbrev pub all_cut_off : List (ℕ × Pending) → List ℕ
 all_cut_off [] = []
 all_cut_off (e ∷ es) = cut_off e.1 ++ all_cut_off es
 
--- `card C port P of node I lost its child: K times`
+-- where it is known, `, the shortest for T s`
+abbrev pub shortest_for : Option ℕ → List ℕ
+shortest_for None = []
+shortest_for (Some micros) = seconds (codes ", the shortest for ") micros ++ codes " s"
+
+-- `card C port P of node I lost its child: K times`, and for how long it had none
 unfoldable pub port_losses : Loss → List ℕ
 port_losses l =
     card_field (codes "card ") l.card
     ++ (field (codes " port ") l.port ++ (field (codes " of node ") l.node
-    ++ (field (codes " lost its child: ") l.count ++ codes " times\n")))
+    ++ (field (codes " lost its child: ") l.count ++ (codes " times"
+    ++ (shortest_for l.shortest ++ codes "\n")))))
 
 abbrev pub all_losses : List Loss → List ℕ
 all_losses [] = []

@@ -1,6 +1,6 @@
 -- Each reset of a log is told once, in the order of the log, and judged as `busconf read` judges; and the totals
 -- count what is told.
-use Rattle.std.specs.Prelude.{◌≡◌, ℕ, ◌==◌, ◌||◌, ◌&&◌, not, Bool, true, false, Option, Some, None, List, [], ◌∷◌, ◌++◌, map, count_by}
+use Rattle.std.specs.Prelude.{◌≡◌, ℕ, ◌==◌, ◌||◌, ◌&&◌, not, Bool, true, false, Option, Some, None, List, [], ◌∷◌, ◌++◌, map, count_by, All}
 use Rattle.bus_json.specs.Bus.{tree_members}
 use Rattle.bus_json.specs.Text.{json_line}
 use Rattle.self_id.specs.declared.standard.Standard.{Standard}
@@ -15,6 +15,8 @@ use Rattle.reset_list.specs.Counts.{capped, tallied}
 use Rattle.reset_list.specs.Form.{standard_of}
 use Rattle.reset_list.specs.Json.{list_fault}
 use Rattle.reset_list.specs.Judged.{capture_by}
+use Rattle.reset_list.specs.Lost.{Step, all_lost, PortCount, count_of, summary}
+use Rattle.reset_list.specs.Shortest.{IsShortest}
 use Rattle.reset_list.specs.Sentence.{IsRefusalShown}
 use Rattle.reset_list.specs.Shown.{IsTreeShown}
 use Rattle.reset_list.specs.Texts.{numbers, refused as refused_lines}
@@ -211,9 +213,42 @@ tallies_after tallies [] ts = tallies
 tallies_after tallies (e ∷ es) [] = tallies
 tallies_after tallies (e ∷ es) (t ∷ ts) = tallies_after (tallies_behind tallies e t) es ts
 
+-- a reset is a step from the tree that its own is compared with to its own, where they are known
+abbrev pub step_of : Reset → Option Known → Option Tree → Step
+step_of r before heard =
+    record { card = r.card; time = r.time; old = compared before r; new = heard }
+
+-- it is one, unless it is passed over
+abbrev pub steps_by : Reset → Option Known → Verdict → List Step
+steps_by r before passed_over = []
+steps_by r before failed = step_of r before None ∷ []
+steps_by r before lacking = step_of r before None ∷ []
+steps_by r before (spelt t) = step_of r before (Some t) ∷ []
+steps_by r before (refused f) = step_of r before None ∷ []
+steps_by r before garbled = []
+steps_by r before no_reset = []
+
+abbrev pub steps_at : List Known → Entry → Telling → List Step
+steps_at cards (a_reset number lacks r) t = steps_by r (last_of r.card cards) t.verdict
+steps_at cards (a_loss number) t = []
+steps_at cards (a_saying number time words) t = []
+steps_at cards (a_garble number) t = []
+
+abbrev pub steps_in : List Known → List Entry → List Telling → List Step
+steps_in cards [] ts = []
+steps_in cards (e ∷ es) [] = []
+steps_in cards (e ∷ es) (t ∷ ts) = steps_at cards e t ++ steps_in (cards_behind cards e t) es ts
+
+-- which ports lost the node that hung on them, and at how many of these resets; the short form alone tells it
+abbrev pub losses_in_all : LogForm → List Known → List Entry → List Telling → List PortCount
+losses_in_all (Text standard) cards es ts = []
+losses_in_all (Short standard) cards es ts = summary (all_lost (steps_in cards es ts))
+losses_in_all (Json standard) cards es ts = []
+
 -- What is told of a log: its entries in order, and then the totals. The log is at fault where a list is refused or
 -- an event is garbled. The totals tell how many resets were counted, how many lists were refused, how many cards
--- there are, who began most resets, and the resets that still wait for packets at the log's end.
+-- there are, who began most resets, in the short form which ports lost nodes and how soon they had one again, and
+-- the resets that still wait for packets at the log's end.
 pub record IsToldInOrder (form : LogForm) (lines : List (List ℕ)) (text : List ℕ) (bad : Bool) :
     Type 0 where
   pub tellings : List Telling
@@ -225,6 +260,8 @@ pub record IsToldInOrder (form : LogForm) (lines : List (List ℕ)) (text : List
   pub refused_are : known.counts.refused ≡ capped (count_by refuses tellings)
   pub cards_are : known.cards ≡ cards_after [] (entries_of lines) tellings
   pub tallies_are : known.tallies ≡ tallies_after [] (entries_of lines) tellings
+  pub losses_are : map count_of known.losses ≡ losses_in_all form [] (entries_of lines) tellings
+  pub shortest_are : All (IsShortest (steps_in [] (entries_of lines) tellings)) known.losses
   pub cut_off : known.pending ≡ cut_off_in lines
 
 abbrev pub LogsAreToldInOrder : Type 0

@@ -1,13 +1,14 @@
 //! The cards of a log, each with its last reset.
 ghost use Rattle.std.specs.Prelude.{◌≡◌, ◌==◌, ◌&&◌, not, ℕ, [], length, map, true, is_none, Some, None, OnOk};
 ghost use Rattle.std.specs.Option.{option_copied};
-ghost use Rattle.reset_log.specs.Noted.{is_of, last_of, same_origin, is_back, is_anew, is_second, is_repeated, skipped, missing, between, since, compared, known_by, forgotten};
+ghost use Rattle.reset_log.specs.Noted.{is_of, last_of, same_origin, is_back, is_anew, is_second, is_repeated, skipped, missing, since, compared, known_by, forgotten};
 ghost use Rattle.std.specs.BTreeSet.{contains};
 ghost use Rattle.std.specs.Ordering.{nat_cmp};
 ghost use Rattle.reset_list.specs.Update.{place_of, updated};
 ghost use Rattle.reset_log.specs.codings.Kept.{forgotten_at};
 
 use log_line::{Origin, Reset};
+use reset_list::between;
 use std::alloc::{AllocError, Global};
 use std::collections::{BTreeMap, BTreeSet};
 use std::marker::Model;
@@ -249,15 +250,6 @@ pub(crate) fn missing(before: Option<&Known>, reset: &Reset) -> u32
     match before {
         Some(known) => missing_behind(known, reset),
         None => 0,
-    }
-}
-
-fn between(past: Option<u64>, now: Option<u64>) -> Option<u64>
-    ensures { result ≡ between past now }
-{
-    match (past, now) {
-        (Some(past), Some(now)) => now.checked_sub(past),
-        _ => None,
     }
 }
 

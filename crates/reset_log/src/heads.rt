@@ -1,7 +1,7 @@
 //! The first line of what is shown of a reset, and the last line of a log.
 ghost use Rattle.std.specs.Prelude.{◌≡◌, ◌++◌, OnOk, IfOk};
 ghost use Rattle.std.specs.Option.{option_copied};
-ghost use Rattle.reset_log.specs.Texts.{garbled, lost, told, digit, seconds, if_known, if_missing, name, moments, if_local, head, unjudged, begun, most, lacking, cut_off, all_cut_off, port_losses, all_losses, totals};
+ghost use Rattle.reset_log.specs.Texts.{garbled, lost, told, digit, seconds, if_known, if_missing, name, moments, if_local, head, unjudged, begun, most, lacking, cut_off, all_cut_off, shortest_for, port_losses, all_losses, totals};
 ghost use Rattle.reset_log.specs.Notes.{noted};
 
 use crate::cards::{Known, missing, since};
@@ -248,7 +248,21 @@ pub(crate) fn last_line(alloc: Global, notes: &Notes) -> Result<Vec<u8>, AllocEr
     Ok(text)
 }
 
-/// Appends at how many resets a port lost the node that hung on it.
+/// Appends the shortest time for which a port had no node, where that is known.
+fn put_shortest(out: &mut Vec<u8>, micros: Option<u64>) -> Result<(), AllocError>
+    ensures { OnOk result (out.new.items ≡ out.old.items ++ shortest_for micros) }
+{
+    match micros {
+        Some(micros) => {
+            put_seconds(out, b", the shortest for ", micros)?;
+            out.extend_from_slice(b" s")?;
+            Ok(())
+        }
+        None => Ok(()),
+    }
+}
+
+/// Appends at how many resets a port lost the node that hung on it, and how soon it had one again.
 #[tactic(auto, unfolding(crate::specs::Texts::port_losses))]
 fn put_loss(out: &mut Vec<u8>, loss: &Loss) -> Result<(), AllocError>
     ensures { OnOk result (out.new.items ≡ out.old.items ++ port_losses loss.now) }
@@ -257,7 +271,9 @@ fn put_loss(out: &mut Vec<u8>, loss: &Loss) -> Result<(), AllocError>
     put_field(out, b" port ", u64::from(loss.port))?;
     put_field(out, b" of node ", u64::from(loss.node))?;
     put_field(out, b" lost its child: ", loss.count)?;
-    out.extend_from_slice(b" times\n")?;
+    out.extend_from_slice(b" times")?;
+    put_shortest(out, loss.shortest)?;
+    out.extend_from_slice(b"\n")?;
     Ok(())
 }
 

@@ -70,7 +70,7 @@ fn count_lost(
         LogForm::Short(_) => {
             let before = cards.last_of(reset.card);
             let old = compared(before, reset);
-            count_losses(alloc, losses, reset.card, old, heard)
+            count_losses(alloc, losses, reset.card, reset.time, old, heard)
         }
     }
 }

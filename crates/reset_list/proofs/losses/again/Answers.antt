@@ -15,6 +15,6 @@ index_mut-requires c =
 pub returns : goal.returns
 returns c =
     let losses = c.args.losses.now.items in
-    updated_at (is_loss c.args.card c.args.cable) (one_more_loss c.args.card c.args.cable) losses c.index.result.now c.more.result c.args.at c.requires
+    updated_at (is_loss c.args.card c.args.cable) (one_more_loss c.args.card c.args.cable c.args.now) losses c.index.result.now c.more.result c.args.at c.requires
     (slice_get_read losses (length losses) c.args.at c.index.result.now refl (place_within (is_loss c.args.card c.args.cable) losses c.args.at c.requires) c.index.ensures)
     c.more.ensures

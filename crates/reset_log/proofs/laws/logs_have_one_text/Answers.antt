@@ -12,3 +12,4 @@ returns-clause-some c = some_text
 pub returns-clause-told : goal.returns-clause-told
 returns-clause-told c =
     in_order c.lists_are_judged_as_read.ensures.heard c.lists_are_judged_as_read.ensures.refused
+    c.losses_are_counted.ensures c.shortest_times_are_kept.ensures
